@@ -1,0 +1,23 @@
+//! The words of the grid: dimensions, places, the ways of a traversal, events, states and kinds,
+//! and the definitions that every contract above is written in.
+#![tactic(auto)]
+
+mod dim;
+mod event;
+mod kind;
+mod list;
+mod place;
+#[cfg(test)]
+mod rows;
+mod state;
+mod text;
+mod way;
+
+pub use dim::Dim;
+pub use event::{Event, Sort};
+pub use kind::Kind;
+pub use list::List;
+pub use place::{Digits, Place};
+pub use state::State;
+pub use text::Text;
+pub use way::Way;

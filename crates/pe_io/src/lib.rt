@@ -1,0 +1,9 @@
+//! Where scenarios come from and where text goes: the shelf and the sink, over real files and standard
+//! output, and twins in memory that tell what they hold.
+#![tactic(auto)]
+
+mod shelf;
+mod sink;
+
+pub use shelf::{Got, Shelf, ShelfCall};
+pub use sink::{Sink, SinkFailed};

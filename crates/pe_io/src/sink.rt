@@ -1,0 +1,29 @@
+ghost use Rattle.std.specs.Prelude.{◌≡◌, ℕ, ◌≤◌, List, [], Option, OnOk, OnErr, IsOk};
+ghost use Rattle.pe_io.specs.Counts.{Rises};
+ghost use Rattle.pe_io.specs.Sink.{Appends, AppendsPrefix};
+
+/// A sink failed: it took only a part of what it was given, or nothing.
+#[derive(Clone, Copy, Debug, PartialEq, Eq)]
+pub struct SinkFailed;
+
+/// Where text goes, piece after piece.
+///
+/// A sink may tell its text to contracts, and else promises only when it fails. Whether it tells it never
+/// changes. It counts its faults; the count stays at its last value, `2^64 - 1`.
+pub trait Sink {
+    /// All that was taken so far, where the sink tells it.
+    ghost text: { Self → Option (List ℕ) };
+
+    /// How often the sink failed.
+    ghost faults: { Self → ℕ };
+
+    /// Takes a piece. After an `Err` the sink has taken a prefix of it. Takes no memory.
+    ///
+    /// A sink that takes nothing of a piece that is not empty has failed.
+    fn write(&mut self, bytes: &[u8]) -> Result<(), SinkFailed>
+        ensures ok { OnOk result (Appends (text self.old) bytes.now (text self.new)) }
+        ensures err { OnErr result (AppendsPrefix (text self.old) bytes.now (text self.new)) }
+        ensures faults { faults self.old ≤ faults self.new }
+        ensures failed { OnErr result (Rises (faults self.old) (faults self.new)) }
+        ensures nothing { bytes.now ≡ [] → IsOk result };
+}
