@@ -1,5 +1,7 @@
 -- The twelve events: how each is spelled, and what it is told.
-use Rattle.std.specs.Prelude.{ℕ, List, codes}
+use Rattle.std.specs.Prelude.{ℕ, Bool, List, [], ◌∷◌, codes, Option, ◌==◌, find}
+use Rattle.std.specs.Str.{bytes_eq}
+use Rattle.std.specs.List.{list_any}
 use Rattle.pe_base.specs.declared.event.Event.{Event}
 use Rattle.pe_base.specs.declared.event.Event.TheVariants.{BeginIteration, EndIteration, TouchVertexFirstTime, TouchVertexLastTime, CreateInnerVertex, CreateHangingVertex, DestroyVertex, DestroyHangingVertex, CreateCell, DestroyCell, EnterCell, LeaveCell}
 use Rattle.pe_base.specs.declared.event.Sort.{Sort}
@@ -32,3 +34,30 @@ sort_of CreateCell = Cell
 sort_of DestroyCell = Cell
 sort_of EnterCell = Cell
 sort_of LeaveCell = Cell
+
+-- where an event stands among the twelve
+abbrev pub number_of : Event → ℕ
+number_of BeginIteration = 0
+number_of EndIteration = 1
+number_of TouchVertexFirstTime = 2
+number_of TouchVertexLastTime = 3
+number_of CreateInnerVertex = 4
+number_of CreateHangingVertex = 5
+number_of DestroyVertex = 6
+number_of DestroyHangingVertex = 7
+number_of CreateCell = 8
+number_of DestroyCell = 9
+number_of EnterCell = 10
+number_of LeaveCell = 11
+
+-- the twelve events in their order
+abbrev pub all_events : List Event
+all_events = BeginIteration ∷ EndIteration ∷ TouchVertexFirstTime ∷ TouchVertexLastTime ∷ CreateInnerVertex ∷ CreateHangingVertex ∷ DestroyVertex ∷ DestroyHangingVertex ∷ CreateCell ∷ DestroyCell ∷ EnterCell ∷ LeaveCell ∷ []
+
+-- the event of a spelling
+unfoldable pub event_named : List ℕ → Option Event
+event_named name = find (λ event. bytes_eq (name_of event) name) all_events
+
+-- the event is one of these
+abbrev pub is_among : List Event → Event → Bool
+is_among events event = list_any (λ other. number_of other == number_of event) events

@@ -1,5 +1,5 @@
 ghost use Rattle.std.specs.Prelude.{◌≡◌, IfSome, Some};
-ghost use Rattle.pe_base.specs.Events.{name_of, sort_of};
+ghost use Rattle.pe_base.specs.Events.{name_of, sort_of, event_named};
 
 /// What an event is told: nothing but the traversal, a vertex, or a cell.
 #[derive(Clone, Copy, Debug, PartialEq, Eq)]
@@ -67,22 +67,9 @@ impl Event {
     pub fn of_name(name: &str) -> Option<Event>
         ensures found { IfSome result (λ event. name_of event ≡ name.now) }
         ensures only { (event : Event) → name_of event ≡ name.now → result ≡ Some event }
+        ensures value { result ≡ event_named name.now }
     {
-        match name {
-            "begin_iteration" => Some(Event::BeginIteration),
-            "end_iteration" => Some(Event::EndIteration),
-            "touch_vertex_first_time" => Some(Event::TouchVertexFirstTime),
-            "touch_vertex_last_time" => Some(Event::TouchVertexLastTime),
-            "create_inner_vertex" => Some(Event::CreateInnerVertex),
-            "create_hanging_vertex" => Some(Event::CreateHangingVertex),
-            "destroy_vertex" => Some(Event::DestroyVertex),
-            "destroy_hanging_vertex" => Some(Event::DestroyHangingVertex),
-            "create_cell" => Some(Event::CreateCell),
-            "destroy_cell" => Some(Event::DestroyCell),
-            "enter_cell" => Some(Event::EnterCell),
-            "leave_cell" => Some(Event::LeaveCell),
-            _ => None,
-        }
+        spelled(name)
     }
 
     /// What the event is told.
@@ -101,5 +88,26 @@ impl Event {
                 Sort::Cell
             }
         }
+    }
+}
+
+fn spelled(name: &str) -> Option<Event>
+    ensures found { IfSome result (λ event. name_of event ≡ name.now) }
+    ensures only { (event : Event) → name_of event ≡ name.now → result ≡ Some event }
+{
+    match name {
+        "begin_iteration" => Some(Event::BeginIteration),
+        "end_iteration" => Some(Event::EndIteration),
+        "touch_vertex_first_time" => Some(Event::TouchVertexFirstTime),
+        "touch_vertex_last_time" => Some(Event::TouchVertexLastTime),
+        "create_inner_vertex" => Some(Event::CreateInnerVertex),
+        "create_hanging_vertex" => Some(Event::CreateHangingVertex),
+        "destroy_vertex" => Some(Event::DestroyVertex),
+        "destroy_hanging_vertex" => Some(Event::DestroyHangingVertex),
+        "create_cell" => Some(Event::CreateCell),
+        "destroy_cell" => Some(Event::DestroyCell),
+        "enter_cell" => Some(Event::EnterCell),
+        "leave_cell" => Some(Event::LeaveCell),
+        _ => None,
     }
 }

@@ -1,0 +1,4 @@
+pub mod Words
+pub mod Scenario
+pub mod Trace
+pub mod Scene
