@@ -1,17 +1,13 @@
-ghost use Rattle.std.specs.Prelude.{◌≡◌, ◌≢◌, ◌≤◌, None, Some};
-ghost use Rattle.pe_io.specs.Counts.{CountsOne, Rises};
-ghost use Rattle.pe_io.specs.Shelf.{Contents, FailedCall, FailedAt, IsGot, IsWithinLimit, WhereTold};
+ghost use Rattle.std.specs.Prelude.{◌≢◌, None};
+ghost use Rattle.pe_io.specs.Shelf.{IsWithinLimit};
 
 use std::alloc::Global;
 use std::fs;
-use std::io::{ErrorKind, Read};
 use std::rt::Files;
 
 use crate::call_log::CallLog;
 use crate::shelf::{Got, Shelf, ShelfCall};
-
-/// How many bytes are read at once.
-const BUFFER: usize = 65536;
+use crate::whole::read_whole;
 
 /// The real files, by their paths. A file that is not there is a failure. It tells no contents.
 #[derive(Drop)]
@@ -60,32 +56,4 @@ fn read_file<R: Files>(alloc: Global, files: &R, name: &str, limit: u64) -> Got
         Ok(mut file) => read_whole(alloc, &mut file, limit),
         Err(_) => Got::Failed,
     }
-}
-
-/// What a reader has left, where that is no more than `limit`. A read that is interrupted is asked again.
-fn read_whole<F: Read>(alloc: Global, file: &mut F, limit: u64) -> Got
-    ensures limit { IsWithinLimit limit result }
-    ensures present { result ≢ Got.Absent }
-{
-    let mut bytes = Vec::new(alloc);
-    let mut buffer = [0u8; BUFFER];
-    for _ in 0..u64::MAX {
-        match file.read(&mut buffer) {
-            Ok(0) => return Got::Whole(bytes),
-            Ok(n) => {
-                if n as u64 > limit - bytes.len() as u64 {
-                    return Got::Longer;
-                }
-                if bytes.extend_from_slice(&buffer[..n]).is_err() {
-                    return Got::Memory;
-                }
-            }
-            Err(e) => {
-                if e.kind() != ErrorKind::Interrupted {
-                    return Got::Failed;
-                }
-            }
-        }
-    }
-    Got::Failed
 }

@@ -11,6 +11,7 @@ mod numbers;
 mod shelf;
 mod sink;
 mod std_sink;
+mod whole;
 
 pub use file_shelf::FileShelf;
 pub use line::Line;

@@ -1,11 +1,9 @@
-ghost use Rattle.std.specs.Prelude.{◌≡◌, ◌≤◌, [], None, IsOk, OnOk, OnErr};
-ghost use Rattle.pe_io.specs.Counts.{Rises};
-ghost use Rattle.pe_io.specs.Sink.{Appends, AppendsPrefix};
+ghost use Rattle.std.specs.Prelude.{None};
 
 use std::io;
-use std::io::{ErrorKind, Write};
 
 use crate::sink::{Sink, SinkFailed};
+use crate::whole::write_whole;
 
 /// The standard output. It tells no text, and keeps nothing back: what was taken is out.
 #[derive(Drop)]
@@ -37,24 +35,4 @@ impl<R: Print> Sink for StdSink<'_, R> {
         self.faults = self.faults.saturating_add(1);
         Err(SinkFailed)
     }
-}
-
-/// Writes all bytes, and says whether all were taken. A write that is interrupted is asked again.
-fn write_whole<W: Write>(writer: &mut W, bytes: &[u8]) -> bool {
-    let mut rest = bytes;
-    for _ in 0..u64::MAX {
-        if rest.is_empty() {
-            return true;
-        }
-        match writer.write(rest) {
-            Ok(0) => return false,
-            Ok(n) => rest = &rest[n..],
-            Err(e) => {
-                if e.kind() != ErrorKind::Interrupted {
-                    return false;
-                }
-            }
-        }
-    }
-    false
 }
