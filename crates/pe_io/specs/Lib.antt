@@ -1,3 +1,9 @@
 pub mod Counts
+pub mod Numbers
 pub mod Shelf
+pub mod CallLog
+pub mod Puts
+pub mod MemShelf
 pub mod Sink
+pub mod MemSink
+pub mod Line

@@ -2,8 +2,21 @@
 //! output, and twins in memory that tell what they hold.
 #![tactic(auto)]
 
+mod call_log;
+mod file_shelf;
+mod line;
+mod mem_shelf;
+mod mem_sink;
+mod numbers;
 mod shelf;
 mod sink;
+mod std_sink;
+mod whole;
 
+pub use file_shelf::FileShelf;
+pub use line::Line;
+pub use mem_shelf::MemShelf;
+pub use mem_sink::MemSink;
 pub use shelf::{Got, Shelf, ShelfCall};
 pub use sink::{Sink, SinkFailed};
+pub use std_sink::StdSink;

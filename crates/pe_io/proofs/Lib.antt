@@ -1,0 +1,3 @@
+pub mod NumberSets
+pub mod PartialWrites
+pub mod Appending

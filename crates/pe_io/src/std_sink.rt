@@ -1,0 +1,38 @@
+ghost use Rattle.std.specs.Prelude.{None};
+
+use std::io;
+
+use crate::sink::{Sink, SinkFailed};
+use crate::whole::write_whole;
+
+/// The standard output. It tells no text, and keeps nothing back: what was taken is out.
+#[derive(Drop)]
+pub struct StdSink<'a, R> {
+    rt: &'a R,
+    faults: u64,
+}
+
+impl<'a, R: Print> StdSink<'a, R> {
+    /// The standard output of a runtime.
+    pub fn new(rt: &'a R) -> StdSink<'a, R> {
+        StdSink { rt, faults: 0 }
+    }
+}
+
+impl<R: Print> Sink for StdSink<'_, R> {
+    ghost text = { λ _. None };
+
+    ghost faults = { λ sink. sink.faults };
+
+    fn write(&mut self, bytes: &[u8]) -> Result<(), SinkFailed> {
+        if bytes.is_empty() {
+            return Ok(());
+        }
+        let mut output = io::writer(self.rt);
+        if write_whole(&mut output, bytes) {
+            return Ok(());
+        }
+        self.faults = self.faults.saturating_add(1);
+        Err(SinkFailed)
+    }
+}
