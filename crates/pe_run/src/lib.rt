@@ -3,4 +3,5 @@
 
 mod scenario;
 mod trace;
+mod walk;
 mod words;
