@@ -1,0 +1,3 @@
+-- Laws of the definitions, for the proofs of every crate above.
+pub mod PlaceLaws
+pub mod CurveLaws
