@@ -1,1 +1,4 @@
+-- Laws of the definitions, for the proofs of every crate above.
+pub mod PlaceLaws
+pub mod CurveLaws
 pub mod EventNames

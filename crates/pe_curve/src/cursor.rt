@@ -1,0 +1,70 @@
+ghost use Rattle.std.specs.Prelude.{◌≡◌, ◌^◌, ◌++◌, [], All, length, option_to_list, IfNone};
+ghost use Rattle.std.specs.Iterator.{YieldsFirst, item_count};
+ghost use Rattle.pe_base.specs.Places.{IsDigits, bits};
+ghost use Rattle.pe_base.specs.Curve.{child_digits};
+
+use crate::digits::digits_at;
+use pe_base::{Digits, Dim, Way};
+use std::marker::Model;
+
+/// The digits of the children of a cell, one after another, in the order of a way along the curve.
+///
+/// Contracts see it as the list of the digits that are still to come.
+#[derive(Drop)]
+pub struct Cursor {
+    dim: Dim,
+    way: Way,
+    flips: u8,
+    left: u8,
+}
+
+impl Model for Cursor {
+    ghost use Rattle.std.specs.Prelude.{List, drop, ◌≤◌, ◌^◌, ◌-◌};
+    ghost use Rattle.pe_base.specs.declared.place.Digits.{Digits};
+    ghost use Rattle.pe_base.specs.Places.{bits};
+    ghost use Rattle.pe_base.specs.Curve.{child_digits};
+
+    ghost Value = { List Digits };
+
+    ghost view = { λ c. drop (3 ^ c.dim - c.left) (child_digits c.dim c.way (bits c.dim c.flips)) };
+
+    ghost invariant = { λ c. c.left ≤ 3 ^ c.dim };
+}
+
+impl Cursor {
+    /// All children of a cell in the order of a way. Bit i of `flips` is the flip of axis i.
+    pub fn new(dim: Dim, way: Way, flips: u8) -> Cursor
+        ensures digits { result ≡ child_digits dim way (bits dim flips) }
+        ensures count { length result ≡ 3 ^ dim }
+        ensures places { All (IsDigits dim) result }
+    {
+        Cursor {
+            dim,
+            way,
+            flips,
+            left: dim.parts(),
+        }
+    }
+}
+
+impl Iterator for Cursor {
+    type Item = Digits;
+
+    ghost next_gives = { YieldsFirst (λ cursor. cursor) };
+
+    ghost remaining = { item_count (λ cursor. cursor) };
+
+    /// The digits of the next child, or `None` where all have come.
+    fn next(&mut self) -> Option<Digits>
+        ensures turn { YieldsFirst (λ cursor. cursor) self.old result self.new }
+        ensures items { self.old ≡ option_to_list result ++ self.new }
+        ensures none { IfNone result (self.old ≡ []) }
+    {
+        if self.left == 0 {
+            return None;
+        }
+        let n = self.dim.parts() - self.left;
+        self.left -= 1;
+        Some(digits_at(self.dim, self.way, self.flips, n))
+    }
+}

@@ -1,0 +1,49 @@
+ghost use Rattle.std.specs.Prelude.{◌≡◌, ◌<◌, ◌^◌, slice_get, Some};
+ghost use Rattle.pe_base.specs.declared.way.Way.TheVariants.{Forward};
+ghost use Rattle.pe_base.specs.Places.{IsDigits, bits};
+ghost use Rattle.pe_base.specs.Curve.{child_digits, mirrored};
+
+use pe_base::{Digits, Dim, Way};
+
+/// The digits of the n-th child in the order of a way, counted from 0, of a cell with these flips.
+/// Bit i of `flips` is the flip of axis i.
+pub(crate) fn digits_at(dim: Dim, way: Way, flips: u8, n: u8) -> Digits
+    requires { n < 3 ^ dim }
+    ensures child { slice_get (child_digits dim way (bits dim flips)) n ≡ Some result }
+    ensures digits { IsDigits dim result }
+{
+    match way {
+        Way::Forward => forward_digits(dim, flips, n),
+        Way::Inverted => forward_digits(dim, flips, dim.parts() - 1 - n),
+    }
+}
+
+// The digits of the n-th child along the curve: those of n in base 3, axis 0 leading, each turned.
+fn forward_digits(dim: Dim, flips: u8, n: u8) -> Digits
+    requires { n < 3 ^ dim }
+    ensures child { slice_get (child_digits dim Forward (bits dim flips)) n ≡ Some result }
+    ensures digits { IsDigits dim result }
+{
+    let mut part = dim.parts();
+    let mut rest = n;
+    let mut flips_left = flips;
+    let mut before = 0;
+    let mut k = [0; 4];
+    for axis in 0..dim.axes() as usize {
+        part /= 3;
+        let t = rest / part;
+        rest %= part;
+        k[axis] = mirrored(flips_left % 2 + before, t);
+        flips_left /= 2;
+        before += t;
+    }
+    Digits { k }
+}
+
+// A digit, mirrored where the number of turns is odd.
+fn mirrored(turns: u8, t: u8) -> u8
+    requires { t < 3 }
+    ensures { result ≡ mirrored turns t }
+{
+    if turns % 2 == 0 { t } else { 2 - t }
+}

@@ -1,0 +1,9 @@
+//! The order of a cell's children along the Peano curve, in both ways of a traversal.
+#![tactic(auto)]
+
+mod children;
+mod cursor;
+mod digits;
+
+pub use children::child;
+pub use cursor::Cursor;
