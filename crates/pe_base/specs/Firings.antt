@@ -21,14 +21,21 @@ abbrev pub fires : Event → Place → Firing
 fires event place = record { event = event; place = place }
 
 -- the children of the root are born in traversal 1, and kept afterwards
+abbrev pub birth_firings : ℕ → Place → List Firing
+birth_firings traversal cell = if traversal == 1 then fires CreateCell cell ∷ [] else []
+
+-- the walk of a cell of level 1
 abbrev pub cell_firings : ℕ → Place → List Firing
-cell_firings traversal cell =
-    (if traversal == 1 then fires CreateCell cell ∷ [] else []) ++ fires EnterCell cell ∷ fires LeaveCell cell ∷ []
+cell_firings traversal cell = birth_firings traversal cell ++ fires EnterCell cell ∷ fires LeaveCell cell ∷ []
+
+-- the walks of some cells in turn
+abbrev pub cells_firings : ℕ → List Place → List Firing
+cells_firings traversal cells = flat_map (cell_firings traversal) cells
 
 -- a whole traversal: the root's children in the order of the curve
 abbrev pub traversal_firings : ℕ → ℕ → List Firing
 traversal_firings axes traversal =
-    fires BeginIteration root ∷ flat_map (cell_firings traversal) (children axes (way_of traversal) root) ++ fires EndIteration root ∷ []
+    fires BeginIteration root ∷ cells_firings traversal (children axes (way_of traversal) root) ++ fires EndIteration root ∷ []
 
 -- the trace line of a firing
 abbrev pub trace_line_of : Sort → ℕ → ℕ → Firing → List ℕ
