@@ -1,6 +1,7 @@
 -- The lines that the program prints.
-use Rattle.std.specs.Prelude.{ℕ, List, [], ◌∷◌, ◌++◌, map, take, decimal}
+use Rattle.std.specs.Prelude.{ℕ, ◌||◌, ◌==◌, List, [], ◌∷◌, ◌++◌, map, take, codes, decimal, if◌then◌else◌}
 use Rattle.std.specs.List.{flat_map}
+use Rattle.std.specs.Char.{is_ascii_alphanumeric}
 use Rattle.pe_base.specs.declared.place.Place.{Place}
 use Rattle.pe_base.specs.declared.event.Event.{Event}
 use Rattle.pe_base.specs.Events.{name_of}
@@ -20,3 +21,15 @@ plain_line event traversal = line (name_of event) (decimal traversal ∷ [])
 -- the trace line of an event at a place
 abbrev pub place_line : ℕ → Event → Place → List ℕ
 place_line axes event place = line (name_of event) (place_parts axes place)
+
+-- a byte of a key as it is shown: letters, digits, `_` (95), `-` (45) and `.` (46) as they are, every other as `?` (63)
+abbrev pub shown_byte : ℕ → ℕ
+shown_byte b = if is_ascii_alphanumeric b || b == 95 || b == 45 || b == 46 then b else 63
+
+-- a key as it is shown in a line: its first 64 bytes
+abbrev pub shown_key : List ℕ → List ℕ
+shown_key key = map shown_byte (take 64 key)
+
+-- the line of a refusal: what is refused, and why
+abbrev pub fault_line : List (List ℕ) → List ℕ
+fault_line parts = line (codes "fault") parts

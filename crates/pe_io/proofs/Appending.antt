@@ -79,4 +79,4 @@ pub AppendsPrefix-next : {X : Type 0} (piece : X → List ℕ) (xs : List X) (n 
 AppendsPrefix-next piece xs n x a b c is first second =
     let rest = drop (n + 1) xs in
     subst (λ text. AppendsPrefix a text c) (sym (flat_map-append piece (take n xs) (x ∷ rest)) ∙ ap (flat_map piece) (split-member xs n x is))
-      (AppendsPrefix-then a b c (flat_map piece (take n xs)) (piece x ++ flat_map piece rest) first (AppendsPrefix-more b c (piece x) (flat_map piece rest) second))
+    (AppendsPrefix-then a b c (flat_map piece (take n xs)) (piece x ++ flat_map piece rest) first (AppendsPrefix-more b c (piece x) (flat_map piece rest) second))

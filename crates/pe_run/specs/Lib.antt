@@ -1,4 +1,7 @@
 pub mod Words
-pub mod Scenario
 pub mod Trace
+pub mod Scenario
 pub mod Scene
+pub mod Statuses
+pub mod Run
+pub mod Stages

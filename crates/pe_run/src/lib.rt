@@ -1,7 +1,9 @@
 //! The top call of `peano run`: from the words of the command line to the text and the exit status.
 #![tactic(auto)]
 
+mod run;
 mod scenario;
+mod status;
 mod trace;
 mod walk;
 mod words;

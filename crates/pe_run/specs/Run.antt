@@ -1,0 +1,112 @@
+-- The run of the program: what it writes and answers, as a function of the words, of what the shelf holds,
+-- and of the step whose shelf call failed, if one did.
+use Rattle.std.specs.Prelude.{◌≡◌, ℕ, ◌⊎◌, Bool, ◌||◌, ◌==◌, MatchBool, List, [], ◌∷◌, ◌++◌, codes, Option, Some, None, IsSome, Result, Ok, Err}
+use Rattle.pe_base.specs.Lines.{shown_key, line, fault_line}
+use Rattle.pe_base.specs.Firings.{traversals_text}
+use Rattle.pe_io.specs.declared.shelf.ShelfCall.{ShelfCall}
+use Rattle.pe_io.specs.declared.shelf.ShelfCall.TheVariants.{Get}
+use Rattle.pe_io.specs.Counts.{Rises}
+use Rattle.pe_io.specs.Sink.{Appends, AppendsPrefix}
+use Rattle.pe_io.specs.Shelf.{Contents, FailedCall, failed_call}
+use Rattle.pe_run.specs.Words.{job_of}
+use Rattle.pe_run.specs.Scenario.{Scene, Cause, too_long, not_toml, unbuilt, scene_of}
+
+-- the steps that call the shelf
+pub data Step : Type 0 where
+  scenario_step : Step
+
+-- how a run ends: the text that it has written, and its status
+pub record Ran : Type 0 where
+  pub text : List ℕ
+  pub status : ℕ
+
+abbrev pub ends : List ℕ → ℕ → Ran
+ends text status = record { text = text; status = status }
+
+-- the words name no job
+abbrev pub no_job : Ran
+no_job = ends (fault_line (codes "words" ∷ [])) 2
+
+-- the line of a refused scenario
+abbrev pub scenario_fault : Cause → List ℕ
+scenario_fault too_long = fault_line (codes "scenario" ∷ codes "too-long" ∷ [])
+scenario_fault not_toml = fault_line (codes "scenario" ∷ codes "not-toml" ∷ [])
+scenario_fault (unbuilt key) = fault_line (codes "scenario" ∷ codes "unbuilt" ∷ shown_key key ∷ [])
+
+-- the shelf gives no scenario
+abbrev pub no_scenario : Ran
+no_scenario = ends (fault_line (codes "shelf" ∷ codes "scenario" ∷ [])) 6
+
+-- the run of a scenario: its traversals, and a last line
+abbrev pub run_scene : Result Scene Cause → Ran
+run_scene (Err cause) = ends (scenario_fault cause) 3
+run_scene (Ok scene) = ends (traversals_text scene.traced scene.axes 1 scene.traversals ++ line (codes "done") []) 0
+
+-- the run with what the shelf gives under the scenario's name
+abbrev pub run_held : Option (List ℕ) → Ran
+run_held None = no_scenario
+run_held (Some bytes) = run_scene (scene_of bytes)
+
+-- the run of a job
+abbrev pub run_job : Option (List ℕ) → Contents → Option Step → Ran
+run_job None held failed = no_job
+run_job (Some name) held None = run_held (held name)
+run_job (Some name) held (Some scenario_step) = no_scenario
+
+abbrev pub run : List (List ℕ) → Contents → Option Step → Ran
+run words held failed = run_job (job_of words) held failed
+
+-- the names that a job asks the shelf for
+abbrev pub names_of : Option (List ℕ) → List (List ℕ)
+names_of None = []
+names_of (Some name) = name ∷ []
+
+-- the shelf call of a step
+abbrev pub call_of : Option (List ℕ) → Step → Option FailedCall
+call_of None step = None
+call_of (Some name) scenario_step = Some (failed_call Get name)
+
+-- The clauses of the top call. `told` is what the shelf tells of its contents; `before` and `after` are its
+-- counts of faults; `last` is its last failed call; `old` and `new` are the sink's text, where it is told.
+
+-- the shelf holds this: what it tells, or something under every name where it tells nothing
+abbrev pub Holds : Option Contents → Contents → Type 0
+Holds None held = (name : List ℕ) → IsSome (held name)
+Holds (Some contents) held = held ≡ contents
+
+-- a step's call may count as failed: the count of faults rose, the last failed call is the step's, and the status is 6 or 7
+abbrev pub MayFail : Option (List ℕ) → ℕ → ℕ → Option FailedCall → ℕ → Option Step → Type 0
+MayFail job before after last status None = Unit {0}
+MayFail job before after last status (Some step) = Rises before after × (last ≡ call_of job step) × ((status ≡ 6) ⊎ (status ≡ 7))
+
+-- a status that comes only from outside: a failed sink, or want of memory
+abbrev pub is_interruption : ℕ → Bool
+is_interruption status = status == 7 || status == 9
+
+-- the text gets the whole run's, or a part of it where the run was interrupted
+abbrev pub Writes : ℕ → Option (List ℕ) → List ℕ → Option (List ℕ) → Type 0
+Writes status old text new = MatchBool (is_interruption status) (AppendsPrefix old text new) (Appends old text new)
+
+-- the status is the run's, or an interruption
+abbrev pub Answers : ℕ → ℕ → Type 0
+Answers status ran = (status ≡ ran) ⊎ (status ≡ 7) ⊎ (status ≡ 9)
+
+-- text and status are those of the run of the job, over what the shelf holds, with the step that failed, if one did
+pub record IsRun (job : Option (List ℕ)) (told : Option Contents) (before after : ℕ) (last : Option FailedCall) (old new : Option (List ℕ)) (status : ℕ) : Type 0 where
+  pub held : Contents
+  pub failed : Option Step
+  pub contents : Holds told held
+  pub cause : MayFail job before after last status failed
+  pub text : Writes status old (run_job job held failed).text new
+  pub answer : Answers status (run_job job held failed).status
+
+-- why the shelf ended the run: a step's call failed, or the told contents do not hold the name
+abbrev pub IsShelfCause : Option (List ℕ) → Option Contents → ℕ → ℕ → Option FailedCall → Type 0
+IsShelfCause job told before after last =
+    ((step : Step) × Rises before after × (last ≡ call_of job step))
+    ⊎ ((name : List ℕ) × (held : Contents) × (job ≡ Some name) × (told ≡ Some held) × (held name ≡ None))
+
+-- where nothing failed, only want of memory keeps the run from its end
+abbrev pub IsComplete : Option (List ℕ) → Option Contents → Option (List ℕ) → Option (List ℕ) → ℕ → Type 0
+IsComplete job told old new status = (held : Contents) → told ≡ Some held
+    → (status ≡ 9) ⊎ ((status ≡ (run_job job held None).status) × Appends old (run_job job held None).text new)

@@ -1,0 +1,51 @@
+// How a run ends.
+ghost use Rattle.std.specs.Prelude.{◌≡◌};
+ghost use Rattle.pe_run.specs.declared.status.Stop.TheVariants.{Sink as StopSink};
+
+use pe_io::SinkFailed;
+
+/// How a run ends by itself.
+#[derive(Clone, Copy, Debug, PartialEq, Eq)]
+pub enum Status {
+    /// All is done.
+    Done,
+    /// The words name no job.
+    NoJob,
+    /// The scenario is refused.
+    Refused,
+    /// The shelf gives no scenario.
+    NoShelf,
+}
+
+/// What interrupts a run.
+#[derive(Clone, Copy, Debug, PartialEq, Eq)]
+pub enum Stop {
+    /// The sink failed.
+    Sink,
+    /// Want of memory.
+    Memory,
+}
+
+impl From<SinkFailed> for Stop {
+    ghost from_gives = { λ _ stop. stop ≡ StopSink };
+
+    fn from(_: SinkFailed) -> Stop {
+        Stop::Sink
+    }
+}
+
+ghost use Rattle.pe_run.specs.Statuses.{ending_of};
+
+/// The number with which the program ends.
+pub fn exit_status(ending: Result<Status, Stop>) -> u8
+    ensures { result ≡ ending_of ending }
+{
+    match ending {
+        Ok(Status::Done) => 0,
+        Ok(Status::NoJob) => 2,
+        Ok(Status::Refused) => 3,
+        Ok(Status::NoShelf) => 6,
+        Err(Stop::Sink) => 7,
+        Err(Stop::Memory) => 9,
+    }
+}
