@@ -1,6 +1,7 @@
-ghost use Rattle.std.specs.Prelude.{None};
+ghost use Rattle.std.specs.Prelude.{◌≡◌, None};
 
 use std::io;
+use std::marker::Model;
 
 use crate::sink::{Sink, SinkFailed};
 use crate::whole::write_whole;
@@ -12,9 +13,19 @@ pub struct StdSink<'a, R> {
     faults: u64,
 }
 
+impl<'a, R> Model for StdSink<'a, R> {
+    ghost use Rattle.std.specs.Prelude.{ℕ};
+
+    ghost Value = { ℕ };
+
+    ghost view = { λ sink. sink.faults };
+}
+
 impl<'a, R: Print> StdSink<'a, R> {
     /// The standard output of a runtime.
-    pub fn new(rt: &'a R) -> StdSink<'a, R> {
+    pub fn new(rt: &'a R) -> StdSink<'a, R>
+        ensures { result ≡ 0 }
+    {
         StdSink { rt, faults: 0 }
     }
 }
@@ -22,7 +33,7 @@ impl<'a, R: Print> StdSink<'a, R> {
 impl<R: Print> Sink for StdSink<'_, R> {
     ghost text = { λ _. None };
 
-    ghost faults = { λ sink. sink.faults };
+    ghost faults = { λ faults. faults };
 
     fn write(&mut self, bytes: &[u8]) -> Result<(), SinkFailed> {
         if bytes.is_empty() {
