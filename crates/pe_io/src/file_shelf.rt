@@ -3,14 +3,13 @@ ghost use Rattle.pe_io.specs.Counts.{CountsOne};
 ghost use Rattle.pe_io.specs.CallLog.{no_calls, counted};
 ghost use Rattle.pe_io.specs.Shelf.{FailedAt, IsWithinLimit};
 
+use crate::call_log::CallLog;
+use crate::shelf::{Got, Shelf, ShelfCall};
+use crate::whole::read_whole;
 use std::alloc::Global;
 use std::fs;
 use std::marker::Model;
 use std::rt::Files;
-
-use crate::call_log::CallLog;
-use crate::shelf::{Got, Shelf, ShelfCall};
-use crate::whole::read_whole;
 
 /// The real files, by their paths. A file that is not there is a failure. It tells no contents.
 #[derive(Drop)]

@@ -4,11 +4,10 @@ ghost use Rattle.pe_io.specs.Counts.{Rises};
 ghost use Rattle.pe_io.specs.Sink.{Appends, AppendsPrefix};
 ghost use Rattle.pe_io.specs.Line.{HasRoom};
 
+use crate::sink::{Sink, SinkFailed};
 use arrayvec::ArrayVec;
 use itoa::Buffer;
 use std::marker::Model;
-
-use crate::sink::{Sink, SinkFailed};
 
 /// The bytes of the longest line, with its line feed.
 const LINE_ROOM: usize = 320;

@@ -6,12 +6,11 @@ ghost use Rattle.pe_io.specs.Numbers.{IsNextListed};
 ghost use Rattle.pe_io.specs.CallLog.{no_calls, counted, failed};
 ghost use Rattle.pe_io.specs.Puts.{Puts, SameContents};
 
-use std::alloc::{AllocError, Global};
-use std::collections::{BTreeMap, BTreeSet};
-
 use crate::call_log::CallLog;
 use crate::numbers::{has_next, set_of};
 use crate::shelf::{Got, Shelf, ShelfCall};
+use std::alloc::{AllocError, Global};
+use std::collections::{BTreeMap, BTreeSet};
 
 /// A shelf in memory. It tells its contents, and fails exactly at the calls that it is told to fail.
 #[derive(Drop)]

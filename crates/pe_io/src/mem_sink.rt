@@ -3,12 +3,11 @@ ghost use Rattle.pe_io.specs.Counts.{CountsOne, Rises};
 ghost use Rattle.pe_io.specs.Sink.{Appends, AppendsPrefix};
 ghost use Rattle.pe_io.specs.MemSink.{Written, FailsAt};
 
+use crate::numbers::{has_next, set_of};
+use crate::sink::{Sink, SinkFailed};
 use std::alloc::{AllocError, Global};
 use std::collections::BTreeSet;
 use std::marker::Model;
-
-use crate::numbers::{has_next, set_of};
-use crate::sink::{Sink, SinkFailed};
 
 /// A sink in memory. It tells its text, and fails exactly at the writes that it is told to fail and at
 /// those that would make its text longer than its room.

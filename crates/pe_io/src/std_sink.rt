@@ -1,10 +1,9 @@
 ghost use Rattle.std.specs.Prelude.{◌≡◌, None};
 
-use std::io;
-use std::marker::Model;
-
 use crate::sink::{Sink, SinkFailed};
 use crate::whole::write_whole;
+use std::io;
+use std::marker::Model;
 
 /// The standard output. It tells no text, and keeps nothing back: what was taken is out.
 #[derive(Drop)]

@@ -4,10 +4,9 @@ ghost use Rattle.std.specs.Bool.{OnTrue, OnFalse};
 ghost use Rattle.std.specs.Io.KnownBytes.{Appends};
 ghost use Rattle.pe_io.specs.Shelf.{IsGot, IsWithinLimit, WhereTold};
 
+use crate::shelf::Got;
 use std::alloc::{AllocError, Global};
 use std::io::{ErrorKind, Read, Write};
-
-use crate::shelf::Got;
 
 /// How many bytes are read at once.
 const BUFFER: usize = 65536;

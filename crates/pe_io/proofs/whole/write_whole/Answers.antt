@@ -7,6 +7,6 @@ pub loop-preserved : goal.loop-preserved
 loop-preserved g c =
     let invariant = c.loop.invariant in
     elim c.match-write.branch [
-      in-Ok w ↦ rw w.done-is (done_more _ _ c.args.bytes.now invariant.0 w.in-Ok.ensures.bound, Appends-more _ _ _ _ _ c.args.bytes.now invariant.1 w.in-Ok.ensures.bytes)
-    | in-Err+else-ne w ↦ rw w.done-is (invariant.0, Appends-kept _ _ _ _ invariant.1 w.in-Err.ensures.bytes)
+      | in-Ok w ↦ rw w.done-is (done_more _ _ c.args.bytes.now invariant.0 w.in-Ok.ensures.bound, Appends-more _ _ _ _ _ c.args.bytes.now invariant.1 w.in-Ok.ensures.bytes)
+      | in-Err+else-ne w ↦ rw w.done-is (invariant.0, Appends-kept _ _ _ _ invariant.1 w.in-Err.ensures.bytes)
     ]
