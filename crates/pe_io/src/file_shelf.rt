@@ -11,7 +11,8 @@ use std::fs;
 use std::marker::Model;
 use std::rt::Files;
 
-/// The real files, by their paths. A file that is not there is a failure. It tells no contents.
+/// The real files, by their paths. A file that is not there is a failure. It tells no contents, and contracts
+/// see its counts and its last failed call. A `get` holds at most `limit` bytes and one buffer.
 #[derive(Drop)]
 pub struct FileShelf<'a, R> {
     alloc: Global,

@@ -1,7 +1,6 @@
-ghost use Rattle.std.specs.Prelude.{◌≡◌, ◌≢◌, ℕ, ◌+◌, ◌≤◌, ◌↔◌, List, None, Some, Option, Contains, IfOk, OnOk, OnErr};
+ghost use Rattle.std.specs.Prelude.{◌≡◌, ◌≢◌, ℕ, ◌≤◌, ◌↔◌, List, None, Some, Contains, IfOk, OnOk, OnErr};
 ghost use Rattle.std.specs.Option.{option_copied};
-ghost use Rattle.pe_io.specs.Counts.{CountsOne, Rises};
-ghost use Rattle.pe_io.specs.Shelf.{Contents, FailedCall, FailedAt, IsGot, IsWithinLimit, WhereTold};
+ghost use Rattle.pe_io.specs.Shelf.{IsGot, IsWithinLimit};
 ghost use Rattle.pe_io.specs.Numbers.{IsNextListed};
 ghost use Rattle.pe_io.specs.CallLog.{no_calls, counted, failed};
 ghost use Rattle.pe_io.specs.Puts.{Puts, SameContents};

@@ -1,7 +1,6 @@
-ghost use Rattle.std.specs.Prelude.{◌≡◌, ℕ, ◌+◌, ◌<◌, ◌≤◌, ◌↔◌, List, [], ◌++◌, length, min, Some, Contains, IsOk, IsErr, IfOk, OnOk, OnErr};
-ghost use Rattle.pe_io.specs.Counts.{CountsOne, Rises};
-ghost use Rattle.pe_io.specs.Sink.{Appends, AppendsPrefix};
-ghost use Rattle.pe_io.specs.MemSink.{Written, FailsAt};
+ghost use Rattle.std.specs.Prelude.{◌≡◌, ℕ, ◌+◌, ◌<◌, ◌≤◌, ◌↔◌, [], ◌++◌, length, Some, Contains, IsErr, IfOk, OnOk, OnErr};
+ghost use Rattle.pe_io.specs.Counts.{CountsOne};
+ghost use Rattle.pe_io.specs.MemSink.{FailsAt};
 
 use crate::numbers::{has_next, set_of};
 use crate::sink::{Sink, SinkFailed};

@@ -5,7 +5,8 @@ use crate::whole::write_whole;
 use std::io;
 use std::marker::Model;
 
-/// The standard output. It tells no text, and keeps nothing back: what was taken is out.
+/// The standard output. It tells no text, and keeps nothing back: what was taken is out. Contracts see how
+/// often it failed.
 #[derive(Drop)]
 pub struct StdSink<'a, R> {
     rt: &'a R,

@@ -11,11 +11,11 @@ use std::test::Fail;
 use std::{fs, io, process};
 
 /// A caller of `Line`, whose contract is the definition of a line.
-fn print_depth<K: Sink>(sink: &mut K, cells: u64, depth: i64) -> Result<(), SinkFailed>
+fn print_cells<K: Sink>(sink: &mut K, cells: u64, depth: i64) -> Result<(), SinkFailed>
     ensures { OnOk result (Appends (K.text sink.old)
-        (line (codes "depth") (decimal cells ∷ codes "at" ∷ signed_decimal depth ∷ [])) (K.text sink.new)) }
+        (line (codes "cells") (decimal cells ∷ codes "at" ∷ signed_decimal depth ∷ [])) (K.text sink.new)) }
 {
-    let mut line = Line::of("depth");
+    let mut line = Line::of("cells");
     line.number(cells);
     line.part("at");
     line.signed(depth);
@@ -49,14 +49,14 @@ fn a_shelf_in_memory(rt: HostRuntime) -> Result<(), Fail> {
 #[test]
 fn a_sink_in_memory(rt: HostRuntime) -> Result<(), Fail> {
     let mut sink = MemSink::new(rt.alloc(), 56, &[2])?;
-    print_depth(&mut sink, u64::MAX, i64::MIN)?;
-    assert_eq!(rt; print_depth(&mut sink, 9, -1), Err(SinkFailed));
+    print_cells(&mut sink, u64::MAX, i64::MIN)?;
+    assert_eq!(rt; print_cells(&mut sink, 9, -1), Err(SinkFailed));
     sink.write(b"")?;
     assert_eq!(rt; sink.write(b"too long"), Err(SinkFailed));
     sink.write(b"ok\n")?;
     assert_eq!(rt;
         sink.text(),
-        b"depth 18446744073709551615 at -9223372036854775808\nok\n".as_slice()
+        b"cells 18446744073709551615 at -9223372036854775808\nok\n".as_slice()
     );
     Ok(())
 }
@@ -72,7 +72,7 @@ fn the_edges(rt: HostRuntime) -> Result<(), Fail> {
     fs::remove_file(&rt, path.as_str())?;
     assert!(rt; matches!(&shelf.get(path.as_str(), 5), Got::Failed));
     let mut sink = StdSink::new(&rt);
-    print_depth(&mut sink, 81, 4)?;
+    print_cells(&mut sink, 81, 4)?;
     Ok(())
 }
 
