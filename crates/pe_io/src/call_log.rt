@@ -1,10 +1,9 @@
 ghost use Rattle.std.specs.Prelude.{◌≡◌, ◌≤◌, take};
 ghost use Rattle.pe_io.specs.CallLog.{no_calls, counted, failed};
 
+use crate::shelf::ShelfCall;
 use arrayvec::ArrayVec;
 use std::marker::Model;
-
-use crate::shelf::ShelfCall;
 
 /// How many bytes of a failed call's name are kept.
 const NAME_ROOM: usize = 4096;

@@ -11,6 +11,8 @@ mod numbers;
 mod shelf;
 mod sink;
 mod std_sink;
+#[cfg(test)]
+mod tests;
 mod whole;
 
 pub use file_shelf::FileShelf;

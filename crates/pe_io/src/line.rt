@@ -1,14 +1,13 @@
-ghost use Rattle.std.specs.Prelude.{◌≡◌, ℕ, ◌+◌, ◌<◌, ◌≤◌, List, [], ◌∷◌, ◌++◌, length, decimal, OnOk, OnErr};
+ghost use Rattle.std.specs.Prelude.{◌≡◌, ◌+◌, ◌≤◌, [], ◌∷◌, ◌++◌, length, decimal, OnOk, OnErr};
 ghost use Rattle.std.specs.Fmt.{signed_decimal};
 ghost use Rattle.pe_io.specs.Counts.{Rises};
 ghost use Rattle.pe_io.specs.Sink.{Appends, AppendsPrefix};
 ghost use Rattle.pe_io.specs.Line.{HasRoom};
 
+use crate::sink::{Sink, SinkFailed};
 use arrayvec::ArrayVec;
 use itoa::Buffer;
 use std::marker::Model;
-
-use crate::sink::{Sink, SinkFailed};
 
 /// The bytes of the longest line, with its line feed.
 const LINE_ROOM: usize = 320;
@@ -70,7 +69,8 @@ impl Line {
         self.part(digits.format(n));
     }
 
-    /// Ends the line by a line feed, and gives it to a sink as one piece.
+    /// Ends the line by a line feed, and gives it to a sink as one piece. After an `Err` the sink has taken
+    /// a prefix of it.
     pub fn end<K: Sink>(self, sink: &mut K) -> Result<(), SinkFailed>
         ensures ok { OnOk result (Appends (K.text sink.old) (self ++ 10 ∷ []) (K.text sink.new)) }
         ensures err { OnErr result (AppendsPrefix (K.text sink.old) (self ++ 10 ∷ []) (K.text sink.new)) }

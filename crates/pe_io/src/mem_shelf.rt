@@ -1,17 +1,15 @@
-ghost use Rattle.std.specs.Prelude.{◌≡◌, ◌≢◌, ℕ, ◌+◌, ◌≤◌, ◌↔◌, List, None, Some, Option, Contains, IfOk, OnOk, OnErr};
+ghost use Rattle.std.specs.Prelude.{◌≡◌, ◌≢◌, ℕ, ◌≤◌, ◌↔◌, List, None, Some, Contains, IfOk, OnOk, OnErr};
 ghost use Rattle.std.specs.Option.{option_copied};
-ghost use Rattle.pe_io.specs.Counts.{CountsOne, Rises};
-ghost use Rattle.pe_io.specs.Shelf.{Contents, FailedCall, FailedAt, IsGot, IsWithinLimit, WhereTold};
+ghost use Rattle.pe_io.specs.Shelf.{IsGot, IsWithinLimit};
 ghost use Rattle.pe_io.specs.Numbers.{IsNextListed};
 ghost use Rattle.pe_io.specs.CallLog.{no_calls, counted, failed};
 ghost use Rattle.pe_io.specs.Puts.{Puts, SameContents};
 
-use std::alloc::{AllocError, Global};
-use std::collections::{BTreeMap, BTreeSet};
-
 use crate::call_log::CallLog;
 use crate::numbers::{has_next, set_of};
 use crate::shelf::{Got, Shelf, ShelfCall};
+use std::alloc::{AllocError, Global};
+use std::collections::{BTreeMap, BTreeSet};
 
 /// A shelf in memory. It tells its contents, and fails exactly at the calls that it is told to fail.
 #[derive(Drop)]

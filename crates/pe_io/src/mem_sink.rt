@@ -1,14 +1,12 @@
-ghost use Rattle.std.specs.Prelude.{◌≡◌, ℕ, ◌+◌, ◌<◌, ◌≤◌, ◌↔◌, List, [], ◌++◌, length, min, Some, Contains, IsOk, IsErr, IfOk, OnOk, OnErr};
-ghost use Rattle.pe_io.specs.Counts.{CountsOne, Rises};
-ghost use Rattle.pe_io.specs.Sink.{Appends, AppendsPrefix};
-ghost use Rattle.pe_io.specs.MemSink.{Written, FailsAt};
-
-use std::alloc::{AllocError, Global};
-use std::collections::BTreeSet;
-use std::marker::Model;
+ghost use Rattle.std.specs.Prelude.{◌≡◌, ℕ, ◌+◌, ◌<◌, ◌≤◌, ◌↔◌, [], ◌++◌, length, Some, Contains, IsErr, IfOk, OnOk, OnErr};
+ghost use Rattle.pe_io.specs.Counts.{CountsOne};
+ghost use Rattle.pe_io.specs.MemSink.{FailsAt};
 
 use crate::numbers::{has_next, set_of};
 use crate::sink::{Sink, SinkFailed};
+use std::alloc::{AllocError, Global};
+use std::collections::BTreeSet;
+use std::marker::Model;
 
 /// A sink in memory. It tells its text, and fails exactly at the writes that it is told to fail and at
 /// those that would make its text longer than its room.

@@ -1,20 +1,31 @@
-ghost use Rattle.std.specs.Prelude.{None};
-
-use std::io;
+ghost use Rattle.std.specs.Prelude.{◌≡◌, None};
 
 use crate::sink::{Sink, SinkFailed};
 use crate::whole::write_whole;
+use std::io;
+use std::marker::Model;
 
-/// The standard output. It tells no text, and keeps nothing back: what was taken is out.
+/// The standard output. It tells no text, and keeps nothing back: what was taken is out. Contracts see how
+/// often it failed.
 #[derive(Drop)]
 pub struct StdSink<'a, R> {
     rt: &'a R,
     faults: u64,
 }
 
+impl<'a, R> Model for StdSink<'a, R> {
+    ghost use Rattle.std.specs.Prelude.{ℕ};
+
+    ghost Value = { ℕ };
+
+    ghost view = { λ sink. sink.faults };
+}
+
 impl<'a, R: Print> StdSink<'a, R> {
     /// The standard output of a runtime.
-    pub fn new(rt: &'a R) -> StdSink<'a, R> {
+    pub fn new(rt: &'a R) -> StdSink<'a, R>
+        ensures { result ≡ 0 }
+    {
         StdSink { rt, faults: 0 }
     }
 }
@@ -22,7 +33,7 @@ impl<'a, R: Print> StdSink<'a, R> {
 impl<R: Print> Sink for StdSink<'_, R> {
     ghost text = { λ _. None };
 
-    ghost faults = { λ sink. sink.faults };
+    ghost faults = { λ faults. faults };
 
     fn write(&mut self, bytes: &[u8]) -> Result<(), SinkFailed> {
         if bytes.is_empty() {

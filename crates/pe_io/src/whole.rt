@@ -1,13 +1,12 @@
 //! Reading all and writing all, by calls that may do less.
-ghost use Rattle.std.specs.Prelude.{◌≢◌, ℕ, take, Some};
+ghost use Rattle.std.specs.Prelude.{◌≡◌, ◌≢◌, ℕ, ◌+◌, ◌≤◌, ◌++◌, length, take, Some, OnOk, OnErr};
 ghost use Rattle.std.specs.Bool.{OnTrue, OnFalse};
 ghost use Rattle.std.specs.Io.KnownBytes.{Appends};
 ghost use Rattle.pe_io.specs.Shelf.{IsGot, IsWithinLimit, WhereTold};
 
-use std::alloc::Global;
-use std::io::{ErrorKind, Read, Write};
-
 use crate::shelf::Got;
+use std::alloc::{AllocError, Global};
+use std::io::{ErrorKind, Read, Write};
 
 /// How many bytes are read at once.
 const BUFFER: usize = 65536;
@@ -29,7 +28,7 @@ pub(crate) fn read_whole<F: Read>(alloc: Global, file: &mut F, limit: u64) -> Go
                 if n as u64 > limit - bytes.len() as u64 {
                     return Got::Longer;
                 }
-                if bytes.extend_from_slice(&buffer[..n]).is_err() {
+                if append(&mut bytes, &buffer[..n], limit).is_err() {
                     return Got::Memory;
                 }
             }
@@ -41,6 +40,21 @@ pub(crate) fn read_whole<F: Read>(alloc: Global, file: &mut F, limit: u64) -> Go
         }
     }
     Got::Failed
+}
+
+/// Appends bytes for which the limit has room. Where they need memory, the vector grows to twice its length,
+/// but not past the limit.
+fn append(bytes: &mut Vec<u8>, more: &[u8], limit: u64) -> Result<(), AllocError>
+    requires { length bytes.old.items + length more.now ≤ limit }
+    ensures ok { OnOk result (bytes.new.items ≡ bytes.old.items ++ more.now) }
+    ensures err { OnErr result (bytes.new.items ≡ bytes.old.items) }
+{
+    let len = bytes.len();
+    if bytes.capacity() - len < more.len() {
+        let growth = more.len().max(len).min(limit as usize - len);
+        bytes.reserve_exact(growth)?;
+    }
+    bytes.extend_from_slice(more)
 }
 
 /// Writes all bytes, and says whether all were taken. A write that is interrupted is asked again.

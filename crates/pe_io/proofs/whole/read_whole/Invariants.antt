@@ -1,5 +1,5 @@
 -- What was read so far is what the reader has lost, and no more than the limit.
-use Rattle.std.proofs.Common.{◌≡◌, ◌≤◌, length, vec_len}
+use Rattle.std.proofs.Common.{◌≡◌, ◌≤◌, length}
 use Rattle.std.specs.Io.KnownBytes.{Consumes}
 use Rattle.pe_io.proofs.whole.read_whole.Given as goal
 
