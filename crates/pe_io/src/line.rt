@@ -1,5 +1,7 @@
 ghost use Rattle.std.specs.Prelude.{◌≡◌, ◌+◌, ◌≤◌, [], ◌∷◌, ◌++◌, length, decimal, OnOk, OnErr};
 ghost use Rattle.std.specs.Fmt.{signed_decimal};
+ghost use Rattle.std.specs.Prelude.{map};
+ghost use Rattle.pe_base.specs.Lines.{shown_byte, shown_key};
 ghost use Rattle.pe_io.specs.Counts.{Rises};
 ghost use Rattle.pe_io.specs.Sink.{Appends, AppendsPrefix};
 ghost use Rattle.pe_io.specs.Line.{HasRoom};
@@ -11,6 +13,9 @@ use std::marker::Model;
 
 /// The bytes of the longest line, with its line feed.
 const LINE_ROOM: usize = 320;
+
+/// How many bytes of a key are shown.
+const SHOWN_BYTES: usize = 64;
 
 /// A line that is being built, part by part, without its line feed. Takes no memory.
 #[derive(Drop)]
@@ -69,6 +74,18 @@ impl Line {
         self.part(digits.format(n));
     }
 
+    /// Adds a key behind one space, as it is shown: its first 64 bytes, with `?` for every byte other than an
+    /// ASCII letter, an ASCII digit, `_`, `-` and `.`.
+    pub fn key(&mut self, key: &str)
+        requires { HasRoom self.old 65 }
+        ensures key { self.new ≡ self.old ++ 32 ∷ shown_key key.now }
+        ensures length { length self.new ≤ length self.old + 65 }
+    {
+        self.part("");
+        let shown = SHOWN_BYTES.min(key.len());
+        add_shown(&mut self.bytes, &key.as_bytes()[..shown]);
+    }
+
     /// Ends the line by a line feed, and gives it to a sink as one piece. After an `Err` the sink has taken
     /// a prefix of it.
     pub fn end<K: Sink>(self, sink: &mut K) -> Result<(), SinkFailed>
@@ -91,5 +108,26 @@ fn add(line: &mut ArrayVec<u8, LINE_ROOM>, bytes: &[u8])
     match line.try_extend_from_slice(bytes) {
         Ok(()) => {}
         Err(_) => unreachable!(),
+    }
+}
+
+/// Adds bytes as they are shown, for which there is room.
+fn add_shown(line: &mut ArrayVec<u8, LINE_ROOM>, bytes: &[u8])
+    requires { length line.old.items + length bytes.now ≤ LINE_ROOM }
+    ensures { line.new.items ≡ line.old.items ++ map shown_byte bytes.now }
+{
+    for byte in bytes {
+        line.push(shown_byte(*byte));
+    }
+}
+
+/// A byte of a key as it is shown.
+fn shown_byte(byte: u8) -> u8
+    ensures { result ≡ shown_byte byte }
+{
+    if byte.is_ascii_alphanumeric() || byte == b'_' || byte == b'-' || byte == b'.' {
+        byte
+    } else {
+        b'?'
     }
 }
