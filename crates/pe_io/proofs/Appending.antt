@@ -80,3 +80,8 @@ AppendsPrefix-next piece xs n x a b c is first second =
     let rest = drop (n + 1) xs in
     subst (λ text. AppendsPrefix a text c) (sym (flat_map-append piece (take n xs) (x ∷ rest)) ∙ ap (flat_map piece) (split-member xs n x is))
     (AppendsPrefix-then a b c (flat_map piece (take n xs)) (piece x ++ flat_map piece rest) first (AppendsPrefix-more b c (piece x) (flat_map piece rest) second))
+
+-- nothing is a part of every piece
+pub AppendsPrefix-nothing : (text : Option (List ℕ)) (x : List ℕ) → AppendsPrefix text x text
+AppendsPrefix-nothing None x = refl
+AppendsPrefix-nothing (Some text) x = (0, sym (ap Some (append-nil text)))

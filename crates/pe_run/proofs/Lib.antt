@@ -1,2 +1,3 @@
 pub mod ScenarioLemmas
 pub mod FiredTexts
+pub mod RunLaws

@@ -7,3 +7,5 @@ mod status;
 mod trace;
 mod walk;
 mod words;
+
+pub use run::peano;

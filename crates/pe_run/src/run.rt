@@ -1,17 +1,19 @@
 // The run of the program, step by step.
-ghost use Rattle.std.specs.Prelude.{◌≡◌, ◌≤◌, ◌+◌, Some, Err, Ok, map, length, string_bytes};
+ghost use Rattle.std.specs.Prelude.{◌≡◌, ◌≢◌, ◌≤◌, ◌+◌, Result as Outcome, Some, Err, Ok, OnOk, OnErr, map, length, string_bytes};
 ghost use Rattle.pe_io.specs.Counts.{CountsOne, Rises};
+ghost use Rattle.pe_io.specs.Sink.{Appends, AppendsPrefix};
 ghost use Rattle.pe_run.specs.Words.{job_of};
-ghost use Rattle.pe_run.specs.Scenario.{scene_of};
+ghost use Rattle.pe_run.specs.Scenario.{Scene, Cause, unbuilt, scene_of};
 ghost use Rattle.pe_run.specs.Scene.{scene_view, RefusesFor};
 ghost use Rattle.pe_run.specs.Statuses.{ending_of};
 ghost use Rattle.pe_run.specs.Stages.{RunsTo};
-ghost use Rattle.pe_run.specs.Run.{no_job, no_scenario, run_scene, IsRun};
+ghost use Rattle.pe_run.specs.Run.{no_job, no_scenario, run_scene, scenario_fault, names_of, IsRun, IsShelfCause, IsComplete};
 
 use crate::scenario::{SCENARIO_LIMIT, Scenario, SceneFault, read_scenario};
-use crate::status::{Status, Stop};
+use crate::status::{Status, Stop, exit_status};
 use crate::walk::traverse_all;
-use pe_io::{Got, Shelf, Sink};
+use crate::words::scenario_name;
+use pe_io::{Got, Line, Shelf, Sink, SinkFailed};
 use std::alloc::Global;
 
 // The words name no job.
@@ -27,6 +29,7 @@ fn refuse_words<K: Sink>(sink: &mut K) -> Result<Status, Stop>
 // The shelf gives no scenario.
 fn refuse_shelf<K: Sink>(sink: &mut K) -> Result<Status, Stop>
     ensures run { RunsTo no_scenario (K.text sink.old) (K.text sink.new) result }
+    ensures no_memory { result ≢ Err Stop.Memory }
     ensures faults { K.faults sink.old ≤ K.faults sink.new }
     ensures failed { result ≡ Err Stop.Sink → Rises (K.faults sink.old) (K.faults sink.new) }
 {
@@ -43,4 +46,116 @@ fn run_scenario<K: Sink>(scenario: &Scenario, sink: &mut K) -> Result<Status, St
     traverse_all(scenario, sink)?;
     sink.write(b"done\n")?;
     Ok(Status::Done)
+}
+
+// A scenario is refused.
+fn refuse_scenario<K: Sink>(fault: &SceneFault, sink: &mut K) -> Result<Status, Stop>
+    ensures run { (said : Outcome Scene Cause) → RefusesFor fault.now said → RunsTo (run_scene said) (K.text sink.old) (K.text sink.new) result }
+    ensures faults { K.faults sink.old ≤ K.faults sink.new }
+    ensures failed { result ≡ Err Stop.Sink → Rises (K.faults sink.old) (K.faults sink.new) }
+{
+    match fault {
+        SceneFault::TooLong => sink.write(b"fault scenario too-long\n")?,
+        SceneFault::NotToml => sink.write(b"fault scenario not-toml\n")?,
+        SceneFault::Unbuilt { key } => write_unbuilt(key.as_str(), sink)?,
+        SceneFault::Memory => return Err(Stop::Memory),
+    }
+    Ok(Status::Refused)
+}
+
+// The line of a scenario that asks for what is not built.
+fn write_unbuilt<K: Sink>(key: &str, sink: &mut K) -> Result<(), SinkFailed>
+    ensures ok { OnOk result (Appends (K.text sink.old) (scenario_fault (unbuilt key.now)) (K.text sink.new)) }
+    ensures err { OnErr result (AppendsPrefix (K.text sink.old) (scenario_fault (unbuilt key.now)) (K.text sink.new)) }
+    ensures faults { K.faults sink.old ≤ K.faults sink.new }
+    ensures failed { OnErr result (Rises (K.faults sink.old) (K.faults sink.new)) }
+{
+    let mut line = Line::of("fault");
+    line.part("scenario");
+    line.part("unbuilt");
+    line.key(key);
+    line.end(sink)
+}
+
+// The run of a scenario's bytes.
+fn run_bytes<K: Sink>(alloc: Global, bytes: &[u8], sink: &mut K) -> Result<Status, Stop>
+    ensures run { RunsTo (run_scene (scene_of bytes.now)) (K.text sink.old) (K.text sink.new) result }
+    ensures faults { K.faults sink.old ≤ K.faults sink.new }
+    ensures failed { result ≡ Err Stop.Sink → Rises (K.faults sink.old) (K.faults sink.new) }
+{
+    match read_scenario(alloc, bytes) {
+        Ok(scenario) => run_scenario(&scenario, sink),
+        Err(fault) => refuse_scenario(&fault, sink),
+    }
+}
+
+// The run of a scenario's name.
+fn run_named<H: Shelf, K: Sink>(
+    alloc: Global,
+    name: &str,
+    shelf: &mut H,
+    sink: &mut K,
+) -> Result<Status, Stop>
+    ensures run { IsRun (Some name.now) (H.contents shelf.old) (H.faults shelf.old) (H.faults shelf.new) (H.last_failed shelf.new)
+        (K.text sink.old) (K.text sink.new) (ending_of result) }
+    ensures contents { H.contents shelf.new ≡ H.contents shelf.old }
+    ensures failed { result ≡ Err Stop.Sink → Rises (K.faults sink.old) (K.faults sink.new) }
+    ensures calls { H.calls shelf.new ≤ H.calls shelf.old + 1 }
+{
+    match shelf.get(name, SCENARIO_LIMIT) {
+        Got::Whole(bytes) => run_bytes(alloc, &bytes, sink),
+        Got::Longer => refuse_scenario(&SceneFault::TooLong, sink),
+        Got::Absent | Got::Failed => refuse_shelf(sink),
+        Got::Memory => Err(Stop::Memory),
+    }
+}
+
+// The run of the words.
+fn run_words<H: Shelf, K: Sink>(
+    alloc: Global,
+    words: &[String],
+    shelf: &mut H,
+    sink: &mut K,
+) -> Result<Status, Stop>
+    ensures run { IsRun (job_of (map string_bytes words.now)) (H.contents shelf.old) (H.faults shelf.old) (H.faults shelf.new) (H.last_failed shelf.new)
+        (K.text sink.old) (K.text sink.new) (ending_of result) }
+    ensures contents { H.contents shelf.new ≡ H.contents shelf.old }
+    ensures failed { result ≡ Err Stop.Sink → Rises (K.faults sink.old) (K.faults sink.new) }
+    ensures calls { H.calls shelf.new ≤ H.calls shelf.old + length (names_of (job_of (map string_bytes words.now))) }
+{
+    match scenario_name(words) {
+        Some(name) => run_named(alloc, name, shelf, sink),
+        None => refuse_words(sink),
+    }
+}
+
+/// Runs the words of a command line, as those of `peano run <scenario>`, over a shelf and a sink, and answers
+/// the exit status.
+///
+/// The job is `run` and the name of a scenario, which the shelf holds. Text and status are those of a walk in
+/// curve order over the cells by address, as `docs/PROMISES.md` says:
+///
+/// - 0: all is done, and the last line is `done`.
+/// - 2: the words name no job (`fault words`).
+/// - 3: the scenario is refused (`fault scenario ..`).
+/// - 6: the shelf failed, or does not hold the scenario (`fault shelf scenario`).
+/// - 7: the sink failed; a part of the text was written.
+/// - 9: want of memory; a part of the text was written.
+pub fn peano<H: Shelf, K: Sink>(alloc: Global, words: &[String], shelf: &mut H, sink: &mut K) -> u8
+    // The text and the status are those of the run of the words, over what the shelf holds.
+    ensures run { IsRun (job_of (map string_bytes words.now)) (H.contents shelf.old) (H.faults shelf.old) (H.faults shelf.new) (H.last_failed shelf.new)
+        (K.text sink.old) (K.text sink.new) result }
+    ensures contents { H.contents shelf.new ≡ H.contents shelf.old }
+
+    // An interruption has its cause outside, and the shelf is asked at most once for each name of the job.
+    ensures shelf_cause { result ≡ 6 → IsShelfCause (job_of (map string_bytes words.now)) (H.contents shelf.old)
+        (H.faults shelf.old) (H.faults shelf.new) (H.last_failed shelf.new) }
+    ensures sink_cause { result ≡ 7 → Rises (K.faults sink.old) (K.faults sink.new) }
+    ensures shelf_calls { H.calls shelf.new ≤ H.calls shelf.old + length (names_of (job_of (map string_bytes words.now))) }
+
+    // Where nothing failed, only want of memory keeps the run from its end.
+    ensures completeness { ¬ Rises (H.faults shelf.old) (H.faults shelf.new) → ¬ Rises (K.faults sink.old) (K.faults sink.new)
+        → IsComplete (job_of (map string_bytes words.now)) (H.contents shelf.old) (K.text sink.old) (K.text sink.new) result }
+{
+    exit_status(run_words(alloc, words, shelf, sink))
 }
