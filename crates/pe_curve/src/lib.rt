@@ -4,6 +4,8 @@
 mod children;
 mod cursor;
 mod digits;
+#[cfg(test)]
+mod rows;
 
 pub use children::child;
 pub use cursor::Cursor;
