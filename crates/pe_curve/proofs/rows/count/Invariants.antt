@@ -1,6 +1,6 @@
--- Each turn counts one, and the children are as many as are still to come and have come.
+-- What has come and what is still to come are all children.
 use Rattle.std.proofs.Common.{◌≡◌, ◌+◌, ◌^◌, length}
 use Rattle.pe_curve.proofs.rows.count.Given as goal
 
 abbrev pub invariant-loop-digits : goal.invariant-loop-digits
-invariant-loop-digits l = ?
+invariant-loop-digits l = l.count + length l._digits-iterator ≡ 3 ^ l.fn.dim
