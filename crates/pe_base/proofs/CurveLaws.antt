@@ -198,11 +198,11 @@ complement-digit_lists zero = refl
 complement-digit_lists (suc k) =
     let block : ℕ → List (List ℕ) = λ t. map (λ ts. t ∷ ts) (digit_lists k) in
     let turn : (t : ℕ) → map complement (block t) ≡ reverse (block (2 - t)) =
-      λ t. complement-block t (digit_lists k) ∙ ap (map (λ ts. (2 - t) ∷ ts)) (complement-digit_lists k) ∙ map-reverse (λ ts. (2 - t) ∷ ts) (digit_lists k) in
+    λ t. complement-block t (digit_lists k) ∙ ap (map (λ ts. (2 - t) ∷ ts)) (complement-digit_lists k) ∙ map-reverse (λ ts. (2 - t) ∷ ts) (digit_lists k) in
     let left : map complement (digit_lists (suc k)) ≡ map complement (block 0) ++ (map complement (block 1) ++ (map complement (block 2) ++ [])) =
-      simp map-append in
+    simp map-append in
     let right : reverse (digit_lists (suc k)) ≡ reverse (block 2) ++ (reverse (block 1) ++ (reverse (block 0) ++ [])) =
-      simp (reverse-append, append_assoc, append-nil) in
+    simp (reverse-append, append_assoc, append-nil) in
     let zeroth = turn 0 in
     let first = turn 1 in
     let second = turn 2 in
@@ -218,15 +218,15 @@ mirrored-odd turns t e = ap (λ (r : ℕ). if r == 0 then t else (2 - t)) e
 mirrored-complement : (a b t : ℕ) → t < 3 → (a + b) % 2 ≡ 1 → mirrored a (2 - t) ≡ mirrored b t
 mirrored-complement a b t below odd =
     elim (cases_lt (a % 2) 1) [
-      inl even ↦
-        let ev : a % 2 ≡ 0 = omega arith in
-        let od : b % 2 ≡ 1 = omega arith in
-        mirrored-even a (2 - t) ev ∙ sym (mirrored-odd b t od)
-    | inr other ↦
-        let od : a % 2 ≡ 1 = omega arith in
-        let ev : b % 2 ≡ 0 = omega arith in
-        let twice : 2 - (2 - t) ≡ t = omega arith in
-        mirrored-odd a (2 - t) od ∙ twice ∙ sym (mirrored-even b t ev)
+      | inl even ↦
+          let ev : a % 2 ≡ 0 = omega arith in
+          let od : b % 2 ≡ 1 = omega arith in
+          mirrored-even a (2 - t) ev ∙ sym (mirrored-odd b t od)
+      | inr other ↦
+          let od : a % 2 ≡ 1 = omega arith in
+          let ev : b % 2 ≡ 0 = omega arith in
+          let twice : 2 - (2 - t) ≡ t = omega arith in
+          mirrored-odd a (2 - t) od ∙ twice ∙ sym (mirrored-even b t ev)
     ]
 
 -- the flips of the other way
@@ -241,7 +241,7 @@ turned-complement (e ∷ es) a b (t ∷ ts) same parities below =
     let digit : t < 3 = All-head (λ t. t < 3) t ts below in
     let head : mirrored (e + a) (2 - t) ≡ mirrored (1 - e + b) t = mirrored-complement (e + a) (1 - e + b) t digit (omega arith) in
     let tail : turned es (a + (2 - t)) (complement ts) ≡ turned (complement_flips es) (b + t) ts =
-      turned-complement es (a + (2 - t)) (b + t) ts (omega arith) (All-tail (λ e. e < 2) e es parities) (All-tail (λ t. t < 3) t ts below) in
+    turned-complement es (a + (2 - t)) (b + t) ts (omega arith) (All-tail (λ e. e < 2) e es parities) (All-tail (λ t. t < 3) t ts below) in
     cc
 
 -- all digits of all lists are digits
@@ -258,7 +258,7 @@ child_digits-inverted axes es parities =
     let back : List ℕ → Digits = λ ts. digits_of (turned (complement_flips es) 0 ts) in
     sym (map-reverse there (digit_lists axes)) ∙ ap (map there) (sym (complement-digit_lists axes)) ∙ map-complement there (digit_lists axes)
     ∙ map_same (λ ts. there (complement ts)) back (digit_lists axes)
-      (λ n d h. ap digits_of (turned-complement es 0 0 _ refl parities (digit_lists-below axes n d h)))
+    (λ n d h. ap digits_of (turned-complement es 0 0 _ refl parities (digit_lists-below axes n d h)))
 
 sum-cons : (x : ℕ) (xs : List ℕ) → sum (x ∷ xs) ≡ x + sum xs
 sum-cons x xs = sum_by-cons (λ x. x) x xs
@@ -305,5 +305,5 @@ turned-parity (e₁ ∷ es) before (t ∷ ts) (suc axis) e h = turned-parity es 
 pub IsCellPlace-children : (axes : ℕ) (way : Way) (cell : Place) → axes ≤ 4 → IsCellPlace axes cell → cell.level < 20 → All (IsCellPlace axes) (children axes way cell)
 IsCellPlace-children axes way cell within h level =
     All-map (IsCellPlace axes) (child_at cell) (child_digits axes way (flips axes cell.pos))
-      (All-weaker (IsDigits axes) (λ digits. IsCellPlace axes (child_at cell digits)) (λ digits d. IsCellPlace-child_at axes cell digits h level d) (child_digits axes way (flips axes cell.pos))
-        (IsDigits-child_digits axes way (flips axes cell.pos) (length-flips axes cell.pos) within))
+    (All-weaker (IsDigits axes) (λ digits. IsCellPlace axes (child_at cell digits)) (λ digits d. IsCellPlace-child_at axes cell digits h level d) (child_digits axes way (flips axes cell.pos))
+    (IsDigits-child_digits axes way (flips axes cell.pos) (length-flips axes cell.pos) within))

@@ -55,7 +55,10 @@ fn the_plane_is_walked_as_drawn(rt: HostRuntime) -> Result<(), Fail> {
     for n in 0..9 {
         let (x, y) = PLANE[n as usize];
         assert_eq!(rt; child(dim, &root, Way::Forward, n), plane_place(1, x, y));
-        assert_eq!(rt; child(dim, &root, Way::Inverted, 8 - n), plane_place(1, x, y));
+        assert_eq!(rt;
+            child(dim, &root, Way::Inverted, 8 - n),
+            plane_place(1, x, y)
+        );
     }
     let above = plane_place(1, 0, 1);
     assert_eq!(rt; child(dim, &above, Way::Forward, 0), plane_place(2, 2, 3));
