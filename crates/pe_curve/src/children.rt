@@ -5,7 +5,10 @@ ghost use Rattle.pe_base.specs.Curve.{children, flips};
 use crate::digits::digits_at;
 use pe_base::{Digits, Dim, Place, Way};
 
-/// The n-th child of a cell in the order of a way along the curve, counted from 0.
+/// The n-th child of a cell in the order of a way along the curve.
+///
+/// `n` counts from 0 to `3^d - 1`, and the cell's level is 0 to 19, so that its children have a level.
+/// The two ways give the same children in reversed orders.
 pub fn child(dim: Dim, parent: &Place, way: Way, n: u8) -> Place
     requires place { IsCellPlace dim parent.now }
     requires level { parent.now.level < 20 }

@@ -10,6 +10,7 @@ use std::marker::Model;
 
 /// The digits of the children of a cell, one after another, in the order of a way along the curve.
 ///
+/// It gives `3^d` digits, and `None` from then on. It knows the cell's flips and not its position.
 /// Contracts see it as the list of the digits that are still to come.
 #[derive(Drop)]
 pub struct Cursor {
@@ -33,7 +34,10 @@ impl Model for Cursor {
 }
 
 impl Cursor {
-    /// All children of a cell in the order of a way. Bit i of `flips` is the flip of axis i.
+    /// All children of a cell in the order of a way.
+    ///
+    /// Bit i of `flips` is the flip of axis i: the parity of the sum of the cell's position over the
+    /// other axes. Bits from the dimension on are not read.
     pub fn new(dim: Dim, way: Way, flips: u8) -> Cursor
         ensures digits { result ≡ child_digits dim way (bits dim flips) }
         ensures count { length result ≡ 3 ^ dim }

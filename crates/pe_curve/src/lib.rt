@@ -1,4 +1,6 @@
 //! The order of a cell's children along the Peano curve, in both ways of a traversal.
+//!
+//! [`child`] gives one child's place, and [`Cursor`] the digits of all children in turn. Neither takes memory.
 #![tactic(auto)]
 
 mod children;
