@@ -103,8 +103,3 @@ IsCellPlace-child_at axes parent digits h level d = record {
       let P : ℕ → Type 0 = λ bound. IsPosition axes bound (finer parent.pos digits.k) in
       subst P bound (IsPosition-finer axes (3 ^ parent.level) parent.pos digits.k h.pos d);
 }
-
--- a finer position, axis by axis
-pub finer-four : (xs ks : List ℕ) → length xs ≡ 4 → length ks ≡ 4 → finer xs ks ≡ (3 * slice_index xs 0 + slice_index ks 0) ∷ (3 * slice_index xs 1 + slice_index ks 1) ∷ (3 * slice_index xs 2 + slice_index ks 2) ∷ (3 * slice_index xs 3 + slice_index ks 3) ∷ []
-finer-four xs ks e d =
-    ap (λ (ys : List ℕ). finer ys ks) (four xs e) ∙ ap (λ (js : List ℕ). finer (slice_index xs 0 ∷ slice_index xs 1 ∷ slice_index xs 2 ∷ slice_index xs 3 ∷ []) js) (four ks d)

@@ -9,7 +9,7 @@ use Rattle.pe_base.specs.Curve.{flip, mirrored, turned}
 use Rattle.pe_base.proofs.PlaceLaws.{bits-suc}
 use Rattle.pe_base.proofs.CurveLaws.{ternary, power_positive}
 
-pub power_suc : (d axis : ℕ) → axis < d → 3 ^ (d - axis) ≡ 3 ^ (d - (axis + 1)) * 3
+power_suc : (d axis : ℕ) → axis < d → 3 ^ (d - axis) ≡ 3 ^ (d - (axis + 1)) * 3
 power_suc d axis h =
     let less : d - axis ≡ suc (d - (axis + 1)) = omega arith in
     ap (λ (i : ℕ). 3 ^ i) less ∙ pow-suc 3 (d - (axis + 1))

@@ -1,11 +1,14 @@
-ghost use Rattle.std.specs.Prelude.{◌≡◌, ℕ, ◌+◌, ◌<◌, ◌≤◌, ◌^◌, ◌%◌, slice_get, Some};
-ghost use Rattle.pe_base.specs.Places.{IsCellPlace, bits};
+ghost use Rattle.std.specs.Prelude.{◌≡◌, ℕ, ◌+◌, ◌<◌, ◌≤◌, ◌^◌, ◌%◌, slice_get, slice_index, Some};
+ghost use Rattle.pe_base.specs.Places.{IsCellPlace, bits, child_at};
 ghost use Rattle.pe_base.specs.Curve.{children, flips};
 
 use crate::digits::digits_at;
-use pe_base::{Dim, Place, Way};
+use pe_base::{Digits, Dim, Place, Way};
 
-/// The n-th child of a cell in the order of a way along the curve, counted from 0.
+/// The n-th child of a cell in the order of a way along the curve.
+///
+/// `n` counts from 0 to `3^d - 1`, and the cell's level is 0 to 19, so that its children have a level.
+/// The two ways give the same children in reversed orders.
 pub fn child(dim: Dim, parent: &Place, way: Way, n: u8) -> Place
     requires place { IsCellPlace dim parent.now }
     requires level { parent.now.level < 20 }
@@ -13,7 +16,16 @@ pub fn child(dim: Dim, parent: &Place, way: Way, n: u8) -> Place
     ensures child { slice_get (children dim way parent.now) n ≡ Some result }
     ensures place { IsCellPlace dim result }
 {
-    let digits = digits_at(dim, way, flips_at(parent), n);
+    child_at(parent, digits_at(dim, way, flips_at(parent), n))
+}
+
+// The child of a cell that lies at these digits.
+fn child_at(parent: &Place, digits: Digits) -> Place
+    requires level { parent.now.level < 20 }
+    requires pos { (axis : ℕ) → slice_index parent.now.pos axis < 3 ^ 20 }
+    requires digits { (axis : ℕ) → slice_index digits.k axis < 3 }
+    ensures { result ≡ child_at parent.now digits }
+{
     let [x, y, z, w] = parent.pos;
     let [i, j, k, l] = digits.k;
     Place {

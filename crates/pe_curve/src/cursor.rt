@@ -1,5 +1,6 @@
-ghost use Rattle.std.specs.Prelude.{◌≡◌, ◌^◌, ◌++◌, [], All, length, option_to_list, IfNone};
+ghost use Rattle.std.specs.Prelude.{◌≡◌, ◌^◌, All, length};
 ghost use Rattle.std.specs.Iterator.{YieldsFirst, item_count};
+ghost use Rattle.pe_base.specs.Dim.{IsDim};
 ghost use Rattle.pe_base.specs.Places.{IsDigits, bits};
 ghost use Rattle.pe_base.specs.Curve.{child_digits};
 
@@ -9,6 +10,7 @@ use std::marker::Model;
 
 /// The digits of the children of a cell, one after another, in the order of a way along the curve.
 ///
+/// It gives `3^d` digits, and `None` from then on. It knows the cell's flips and not its position.
 /// Contracts see it as the list of the digits that are still to come.
 #[derive(Drop)]
 pub struct Cursor {
@@ -32,10 +34,14 @@ impl Model for Cursor {
 }
 
 impl Cursor {
-    /// All children of a cell in the order of a way. Bit i of `flips` is the flip of axis i.
+    /// All children of a cell in the order of a way.
+    ///
+    /// Bit i of `flips` is the flip of axis i: the parity of the sum of the cell's position over the
+    /// other axes. Bits from the dimension on are not read.
     pub fn new(dim: Dim, way: Way, flips: u8) -> Cursor
         ensures digits { result ≡ child_digits dim way (bits dim flips) }
         ensures count { length result ≡ 3 ^ dim }
+        ensures range { IsDim dim }
         ensures places { All (IsDigits dim) result }
     {
         Cursor {
@@ -55,11 +61,7 @@ impl Iterator for Cursor {
     ghost remaining = { item_count (λ cursor. cursor) };
 
     /// The digits of the next child, or `None` where all have come.
-    fn next(&mut self) -> Option<Digits>
-        ensures turn { YieldsFirst (λ cursor. cursor) self.old result self.new }
-        ensures items { self.old ≡ option_to_list result ++ self.new }
-        ensures none { IfNone result (self.old ≡ []) }
-    {
+    fn next(&mut self) -> Option<Digits> {
         if self.left == 0 {
             return None;
         }

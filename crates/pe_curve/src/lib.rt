@@ -1,9 +1,13 @@
 //! The order of a cell's children along the Peano curve, in both ways of a traversal.
+//!
+//! [`child`] gives one child's place, and [`Cursor`] the digits of all children in turn. Neither takes memory.
 #![tactic(auto)]
 
 mod children;
 mod cursor;
 mod digits;
+#[cfg(test)]
+mod rows;
 
 pub use children::child;
 pub use cursor::Cursor;

@@ -15,11 +15,8 @@ none_left c =
     let past : length (child_digits inside.dim inside.way es) ≤ 3 ^ inside.dim - inside.left = omega (arith, length-child_digits inside.dim inside.way es) in
     sym c.self.view_is ∙ drop_all (3 ^ inside.dim - inside.left) (child_digits inside.dim inside.way es) past
 
-pub returns-then-self-eq0-clause-turn : goal.returns-then-self-eq0-clause-turn
-returns-then-self-eq0-clause-turn c = (none_left c, none_left c)
-
-pub returns-then-self-eq0-clause-none : goal.returns-then-self-eq0-clause-none
-returns-then-self-eq0-clause-none c = none_left c
+pub returns-then-self-eq0-clause-steps : goal.returns-then-self-eq0-clause-steps
+returns-then-self-eq0-clause-steps c = (none_left c, none_left c)
 
 -- the digits that come, and those that are left
 one_more : (c : goal.After-digits_at) → c.args.self.now ≡ c.digits_at.result ∷ drop (3 ^ c.self.inside.dim - (c.self.inside.left - 1)) (child_digits c.self.inside.dim c.self.inside.way (bits c.self.inside.dim c.self.inside.flips))
@@ -32,8 +29,5 @@ one_more c =
     sym c.self.view_is ∙ drop-slice_get all (3 ^ inside.dim - inside.left) c.digits_at.result at
     ∙ ap (λ (n : ℕ). c.digits_at.result ∷ drop n all) more
 
-pub returns-clause-turn : goal.returns-clause-turn
-returns-clause-turn c = one_more c
-
-pub returns-clause-items : goal.returns-clause-items
-returns-clause-items c = one_more c
+pub returns-clause-steps : goal.returns-clause-steps
+returns-clause-steps c = one_more c
