@@ -1,2 +1,3 @@
 pub mod NumberSets
 pub mod PartialWrites
+pub mod Rising
