@@ -1,3 +1,3 @@
+pub mod Appending
 pub mod NumberSets
 pub mod PartialWrites
-pub mod Appending

@@ -1,4 +1,5 @@
-ghost use Rattle.std.specs.Prelude.{◌≡◌, None};
+ghost use Rattle.std.specs.Prelude.{◌≡◌, ◌≤◌, [], None, IsOk, OnOk, OnErr};
+ghost use Rattle.pe_io.specs.Counts.{CountsOne};
 
 use crate::sink::{Sink, SinkFailed};
 use crate::whole::write_whole;
@@ -35,7 +36,12 @@ impl<R: Print> Sink for StdSink<'_, R> {
 
     ghost faults = { λ faults. faults };
 
-    fn write(&mut self, bytes: &[u8]) -> Result<(), SinkFailed> {
+    fn write(&mut self, bytes: &[u8]) -> Result<(), SinkFailed>
+        ensures faults { self.old ≤ self.new }
+        ensures failed { OnErr result (CountsOne self.old self.new) }
+        ensures sound { OnOk result (self.new ≡ self.old) }
+        ensures nothing { bytes.now ≡ [] → IsOk result }
+    {
         if bytes.is_empty() {
             return Ok(());
         }
