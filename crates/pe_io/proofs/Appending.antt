@@ -1,11 +1,10 @@
 -- Pieces that are appended one after another.
-use Rattle.std.proofs.Common.{◌≡◌, ℕ, ◌+◌, ◌≤◌, Result, Ok, Err, OnErr, inl, inr, arith, List, [], ◌∷◌, ◌++◌, length, take, drop, slice_get, Option, Some, None, refl, sym, ap, subst, ◌∙◌, append_assoc}
+use Rattle.std.proofs.Common.{◌≡◌, ℕ, ◌+◌, Result, Ok, Err, OnErr, List, [], ◌∷◌, ◌++◌, length, take, drop, slice_get, Option, Some, None, refl, sym, ap, subst, ◌∙◌, append_assoc}
 use Rattle.std.specs.List.{flat_map}
 use Rattle.std.proofs.lemmas.Grind.{flat_map-append}
 use Rattle.std.proofs.lemmas.List.{append-nil, take_more, drop_more, take-append-drop}
 use Rattle.std.proofs.lemmas.Option.{get_or_from_slice_get, slice_get_within}
 use Rattle.std.proofs.Math.Seq.{take-append_seam, take-append-add}
-use Rattle.pe_io.specs.Counts.{Rises}
 use Rattle.pe_io.specs.Sink.{Appends, AppendsPrefix}
 
 -- nothing
@@ -49,11 +48,6 @@ AppendsPrefix-whole (Some a) b x y first = (length x, first ∙ ap (λ t. Some (
 pub OnErr-given : {T E P : Type 0} (r : Result T E) → P → OnErr r P
 OnErr-given (Ok x) p = tt
 OnErr-given (Err e) p = p
-
--- a count that rises later
-pub Rises-later : (a b c : ℕ) → a ≤ b → Rises b c → Rises a c
-Rises-later a b c before (inl rose) = inl (omega arith)
-Rises-later a b c before (inr last) = inr last
 
 -- a list up to one of its members, and around it
 pub take-member : {X : Type 0} (xs : List X) (n : ℕ) (x : X) → slice_get xs n ≡ Some x → take n xs ++ x ∷ [] ≡ take (n + 1) xs

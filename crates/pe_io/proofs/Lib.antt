@@ -1,3 +1,4 @@
 pub mod Appending
 pub mod NumberSets
 pub mod PartialWrites
+pub mod Rising

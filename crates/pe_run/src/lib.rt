@@ -1,6 +1,8 @@
 //! The top call of `peano run`: from the words of the command line to the text and the exit status.
 #![tactic(auto)]
 
+#[cfg(test)]
+mod rows;
 mod run;
 mod scenario;
 mod status;
