@@ -4,6 +4,13 @@ pub mod Places
 pub mod Ways
 pub mod Curve
 pub mod Around
+pub mod Faces
+pub mod States
+pub mod Kinds
 pub mod Events
 pub mod Lines
-pub mod Firings
+pub mod Payloads
+pub mod Working
+pub mod Touches
+pub mod Walk
+pub mod Traces

@@ -4,20 +4,24 @@
 
 mod dim;
 mod event;
+mod fields;
 mod kind;
 mod list;
 mod place;
 #[cfg(test)]
 mod rows;
 mod state;
+mod tally;
 mod text;
 mod way;
 
 pub use dim::Dim;
 pub use event::{Event, Sort};
+pub use fields::Fields;
 pub use kind::Kind;
 pub use list::List;
 pub use place::{Digits, Place};
 pub use state::State;
+pub use tally::Tally;
 pub use text::Text;
 pub use way::Way;

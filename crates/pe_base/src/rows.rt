@@ -4,10 +4,13 @@ ghost use Rattle.std.specs.Prelude.{◌≡◌, [], ◌∷◌, map, codes, length
 ghost use Rattle.std.specs.List.{flat_map};
 ghost use Rattle.pe_base.specs.declared.way.Way.TheVariants.{Forward, Inverted};
 ghost use Rattle.pe_base.specs.declared.event.Event.{Event as AnEvent};
-ghost use Rattle.pe_base.specs.declared.event.Event.TheVariants.{EnterCell, BeginIteration};
+ghost use Rattle.pe_base.specs.declared.event.Event.TheVariants.{EnterCell, BeginIteration, CreateHangingVertex};
 ghost use Rattle.pe_base.specs.Places.{root, at};
 ghost use Rattle.pe_base.specs.Curve.{children, order};
 ghost use Rattle.pe_base.specs.Lines.{place_line, plain_line};
+ghost use Rattle.pe_base.specs.Events.{is_among};
+ghost use Rattle.pe_base.specs.Traces.{traversals_text};
+ghost use Rattle.std.specs.Prelude.{take, drop};
 
 use crate::{Dim, Event, List, Sort, Text, Way};
 use std::test::Fail;
@@ -34,8 +37,20 @@ fn lines()
     ensures plain { plain_line BeginIteration 12 ≡ codes "begin_iteration 12\n" }
 {}
 
+fn walks_of_level_one()
+    ensures cells { traversals_text (is_among (EnterCell ∷ [])) 2 1 ≡
+        codes "enter_cell 1 0 0\nenter_cell 1 0 1\nenter_cell 1 0 2\nenter_cell 1 1 2\nenter_cell 1 1 1\nenter_cell 1 1 0\nenter_cell 1 2 0\nenter_cell 1 2 1\nenter_cell 1 2 2\ntraversal 1 forward cells 9 in 0 out 4 created 4 destroyed 0 hanging 20\n" }
+    ensures inverted { drop (length (traversals_text (is_among []) 2 1)) (traversals_text (is_among []) 2 2) ≡
+        codes "traversal 2 inverted cells 9 in 4 out 4 created 0 destroyed 0 hanging 20\n" }
+    ensures three_axes { traversals_text (is_among []) 3 1 ≡
+        codes "traversal 1 forward cells 27 in 0 out 8 created 8 destroyed 0 hanging 152\n" }
+    ensures hanging { take 84 (traversals_text (is_among (CreateHangingVertex ∷ [])) 2 1) ≡
+        codes "create_hanging_vertex 1 0 1\ncreate_hanging_vertex 1 1 0\ncreate_hanging_vertex 1 0 0\n" }
+{}
+
 #[test]
 fn the_definitions_give_the_rows() {
+    walks_of_level_one();
     children_of_the_root();
     turn_between_parents();
     lines();
