@@ -2,6 +2,11 @@
 //! and depots, which keep records on numbered stacks.
 #![tactic(auto)]
 
+mod depot;
 mod record;
+mod vec_depot;
+mod vec_stack;
 
+pub use depot::{Depot, Shown};
 pub use record::{CellRec, Vertex};
+pub use vec_depot::VecDepot;

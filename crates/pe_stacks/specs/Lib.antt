@@ -1,0 +1,4 @@
+-- What contracts see of depots.
+pub mod Holdings
+pub mod VecStack
+pub mod VecDepot
