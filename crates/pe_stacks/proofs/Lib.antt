@@ -1,1 +1,2 @@
+pub mod CornerPlaces
 pub mod Stacks

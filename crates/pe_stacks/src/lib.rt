@@ -2,11 +2,16 @@
 //! and depots, which keep records on numbered stacks.
 #![tactic(auto)]
 
+mod corners;
 mod depot;
+mod grid;
+mod places;
 mod record;
 mod vec_depot;
 mod vec_stack;
 
+pub use corners::Corners;
 pub use depot::{Depot, Shown};
+pub use grid::Grid;
 pub use record::{CellRec, Vertex};
 pub use vec_depot::VecDepot;
