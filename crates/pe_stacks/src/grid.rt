@@ -23,7 +23,11 @@ impl<C> Grid<C> {
     /// A grid before its first traversal, with the root's payload. The input stacks are 8 for vertices and 0 for cells.
     pub fn fresh(dim: Dim, root: C) -> Grid<C>
         ensures { result ≡ record {
-            dim = dim; finished = 0; swapped = false; root = record { payload = root } } }
+          dim = dim;
+          finished = 0;
+          swapped = false;
+          root = record { payload = root };
+        } }
     {
         Grid::resume(dim, 0, root)
     }
@@ -31,7 +35,11 @@ impl<C> Grid<C> {
     /// A grid after that many traversals, with the root's payload. The input stacks are 8 for vertices and 0 for cells.
     pub fn resume(dim: Dim, finished: u64, root: C) -> Grid<C>
         ensures { result ≡ record {
-            dim = dim; finished = finished; swapped = false; root = record { payload = root } } }
+          dim = dim;
+          finished = finished;
+          swapped = false;
+          root = record { payload = root };
+        } }
     {
         Grid {
             dim,

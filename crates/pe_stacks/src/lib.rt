@@ -7,6 +7,8 @@ mod depot;
 mod grid;
 mod places;
 mod record;
+#[cfg(test)]
+mod rows;
 mod vec_depot;
 mod vec_stack;
 

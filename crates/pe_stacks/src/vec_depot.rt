@@ -128,8 +128,9 @@ impl<R: Drop> Depot<R> for VecDepot<R> {
 
     fn pop(&mut self, s: u8) -> R {
         let r = self.stacks[s as usize].pop();
-        self.out += 1;
-        self.most = self.most.max(self.out);
+        let out = self.out + 1;
+        self.out = out;
+        self.most = self.most.max(out);
         r
     }
 
