@@ -1,2 +1,3 @@
 pub mod CornerPlaces
+pub mod Counts
 pub mod Stacks

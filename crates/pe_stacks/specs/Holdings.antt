@@ -85,3 +85,16 @@ module _ {X : Type 0} where
   -- of no stack do the length and the room together fall
   abbrev pub KeepsRoom : Holdings X → (ℕ → ℕ) → Holdings X → (ℕ → ℕ) → Type 0
   KeepsRoom held room held' room' = (s : ℕ) → len_at held s + room s ≤ len_at held' s + room' s
+
+  -- every count is at most n
+  pub record CountsWithin (held : Holdings X) (n : ℕ) : Type 0 where
+    pub fresh : held.fresh ≤ n
+    pub spent : held.spent ≤ n
+    pub out : held.out ≤ n
+    pub most : held.most ≤ n
+    pub pushes : (s : ℕ) → (stack_at held s).pushes ≤ n
+    pub pops : (s : ℕ) → (stack_at held s).pops ≤ n
+
+  -- no count rises by more than k over the greatest one
+  pub record RaisesCounts (held held' : Holdings X) (k : ℕ) : Type 0 where
+    pub within : (n : ℕ) → CountsWithin held n → CountsWithin held' (n + k)
