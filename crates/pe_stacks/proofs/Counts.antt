@@ -36,8 +36,22 @@ module _ {X : Type 0} where
         subst (CountsWithin third) sum (rest.within (n + j) (start.within n counts));
   }
 
-  pub raises-lent : (held : Holdings X) → RaisesCounts held (lent held) 1
-  raises-lent held = record {
+  pub raises_at_most : (held held' : Holdings X) (j k : ℕ) → j ≤ k → RaisesCounts held held' j → RaisesCounts held held' k
+  raises_at_most held held' j k few rises = record {
+    within = λ n counts.
+        let now = rises.within n counts in
+        record {
+          fresh = omega (arith, now.fresh);
+          spent = omega (arith, now.spent);
+          out = omega (arith, now.out);
+          most = omega (arith, now.most);
+          pushes = λ s. omega (arith, now.pushes s);
+          pops = λ s. omega (arith, now.pops s);
+        };
+  }
+
+  raises_by-lent : (held : Holdings X) → RaisesCounts held (lent held) 1
+  raises_by-lent held = record {
     within = λ n counts. record {
       fresh = omega (arith, counts.fresh);
       spent = omega (arith, counts.spent);
@@ -48,8 +62,12 @@ module _ {X : Type 0} where
     };
   }
 
-  pub raises-given_up : (held : Holdings X) → RaisesCounts held (given_up held) 1
-  raises-given_up held = record {
+  -- each call raises each count by one at most
+  pub raises-lent : (held held' : Holdings X) → held' ≡ lent held → RaisesCounts held held' 1
+  raises-lent held held' is = rw is (raises_by-lent held)
+
+  raises_by-given_up : (held : Holdings X) → RaisesCounts held (given_up held) 1
+  raises_by-given_up held = record {
     within = λ n counts. record {
       fresh = omega (arith, counts.fresh);
       spent = omega (arith, counts.spent);
@@ -60,8 +78,11 @@ module _ {X : Type 0} where
     };
   }
 
-  pub raises-pushed : (held : Holdings X) (t : ℕ) (r : X) → RaisesCounts held (pushed held t r) 1
-  raises-pushed held t r = record {
+  pub raises-given_up : (held held' : Holdings X) → held' ≡ given_up held → RaisesCounts held held' 1
+  raises-given_up held held' is = rw is (raises_by-given_up held)
+
+  raises_by-pushed : (held : Holdings X) (t : ℕ) (r : X) → RaisesCounts held (pushed held t r) 1
+  raises_by-pushed held t r = record {
     within = λ n counts. record {
       fresh = omega (arith, counts.fresh);
       spent = omega (arith, counts.spent);
@@ -72,8 +93,11 @@ module _ {X : Type 0} where
     };
   }
 
-  pub raises-popped : (held : Holdings X) (t : ℕ) → RaisesCounts held (popped held t) 1
-  raises-popped held t = record {
+  pub raises-pushed : (held held' : Holdings X) (t : ℕ) (r : X) → held' ≡ pushed held t r → RaisesCounts held held' 1
+  raises-pushed held held' t r is = rw is (raises_by-pushed held t r)
+
+  raises_by-popped : (held : Holdings X) (t : ℕ) → RaisesCounts held (popped held t) 1
+  raises_by-popped held t = record {
     within = λ n counts. record {
       fresh = omega (arith, counts.fresh);
       spent = omega (arith, counts.spent);
@@ -84,9 +108,11 @@ module _ {X : Type 0} where
     };
   }
 
-  -- clearing raises no count over the greatest one, since no more records are spent than were lent
-  pub raises-cleared : (held : Holdings X) → held.fresh ≡ held.spent + held.out + total_len held.stacks → RaisesCounts held (cleared held) 0
-  raises-cleared held balance = record {
+  pub raises-popped : (held held' : Holdings X) (t : ℕ) → held' ≡ popped held t → RaisesCounts held held' 1
+  raises-popped held held' t is = rw is (raises_by-popped held t)
+
+  raises_by-cleared : (held : Holdings X) → held.fresh ≡ held.spent + held.out + total_len held.stacks → RaisesCounts held (cleared held) 0
+  raises_by-cleared held balance = record {
     within = λ n counts. record {
       fresh = omega (arith, counts.fresh);
       spent = omega (arith, counts.fresh, balance);
@@ -96,3 +122,7 @@ module _ {X : Type 0} where
       pops = bound-map (λ (stack : Stack X). stack.pops) emptied (λ _. refl) new_stack (n + 0) held.stacks (λ s. omega (arith, counts.pops s));
     };
   }
+
+  -- clearing raises none over the greatest one, since no more records are spent than were lent
+  pub raises-cleared : (held held' : Holdings X) → held.fresh ≡ held.spent + held.out + total_len held.stacks → held' ≡ cleared held → RaisesCounts held held' 0
+  raises-cleared held held' balance is = rw is (raises_by-cleared held balance)
