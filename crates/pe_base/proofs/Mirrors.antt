@@ -142,3 +142,90 @@ sum-turned [] b (suc n) ts zs l d = absurd (omega arith)
 sum-turned (e ∷ es) b zero ts zs l d = absurd (omega arith)
 sum-turned (e ∷ es) b (suc n) [] zs l d = absurd (omega arith)
 sum-turned (e ∷ es) b (suc n) (t ∷ ts) zs l d = omega (arith, mirrored_parity (e + b) t d.0, sum-turned es (b + t) n ts zs (omega arith) d.1)
+
+-- a position one further on an axis
+abbrev pub up : ℕ → List ℕ → List ℕ
+up axis pos = set pos axis (slice_index pos axis + 1)
+
+pub turned_same : (es fs : List ℕ) (b c : ℕ) (ts : List ℕ) → Pairs (λ e f. (e + f) % 2 ≡ 0) es fs → length es ≡ length fs → (b + c) % 2 ≡ 0 → turned es b ts ≡ turned fs c ts
+turned_same [] [] b c ts p l h = refl
+turned_same [] (f ∷ fs) b c ts p l h = absurd (omega arith)
+turned_same (e ∷ es) [] b c ts p l h = absurd (omega arith)
+turned_same (e ∷ es) (f ∷ fs) b c [] p l h = refl
+turned_same (e ∷ es) (f ∷ fs) b c (t ∷ ts) p l h =
+    ap₂ (λ k ks. k ∷ ks) (mirrored_same (e + b) (f + c) t (omega (arith, p.0))) (turned_same es fs (b + t) (c + t) ts p.1 (omega arith) (omega arith))
+
+-- flips that have equal parity on all axes but one
+abbrev pub AgreeBut : ℕ → List ℕ → List ℕ → Type 0
+AgreeBut axis [] fs = 1 ≤ 0
+AgreeBut axis (e ∷ es) [] = 1 ≤ 0
+AgreeBut zero (e ∷ es) (f ∷ fs) = ((e + f) % 2 ≡ 1) × Pairs (λ x y. (x + y) % 2 ≡ 0) es fs × (length es ≡ length fs)
+AgreeBut (suc axis) (e ∷ es) (f ∷ fs) = ((e + f) % 2 ≡ 0) × AgreeBut axis es fs
+
+-- under such flips the digit on that axis is the complement
+pub turned_across-digit : (axis : ℕ) (es fs : List ℕ) (b c n : ℕ) (ts : List ℕ) → AgreeBut axis es fs → length es ≡ n → (b + c) % 2 ≡ 0 → Digits3 n ts
+    → slice_index (turned fs c ts) axis ≡ 2 - slice_index (turned es b ts) axis
+turned_across-digit axis [] fs b c n ts a l h d = absurd (omega arith)
+turned_across-digit axis (e ∷ es) [] b c n ts a l h d = absurd (omega arith)
+turned_across-digit axis (e ∷ es) (f ∷ fs) b c zero ts a l h d = absurd (omega arith)
+turned_across-digit axis (e ∷ es) (f ∷ fs) b c (suc n) [] a l h d = absurd (omega arith)
+turned_across-digit zero (e ∷ es) (f ∷ fs) b c (suc n) (t ∷ ts) a l h d = mirrored_other (e + b) (f + c) t (omega (arith, a.0)) d.0
+turned_across-digit (suc axis) (e ∷ es) (f ∷ fs) b c (suc n) (t ∷ ts) a l h d = turned_across-digit axis es fs (b + t) (c + t) n ts a.1 (omega arith) (omega arith) d.1
+
+-- and where it is 2 and 0, the two children are neighbours on that axis, as their parents are
+pub turned_across : (axis : ℕ) (es fs : List ℕ) (b c n : ℕ) (ts zs pos : List ℕ) → AgreeBut axis es fs → length es ≡ n → (b + c) % 2 ≡ 0 → Digits3 n ts
+    → slice_index (turned es b ts) axis ≡ 2 → finer (up axis pos) (turned fs c ts ++ zs) ≡ up axis (finer pos (turned es b ts ++ zs))
+turned_across axis es fs b c n ts zs [] a l h d k = refl
+turned_across axis [] fs b c n ts zs (x ∷ pos) a l h d k = absurd (omega arith)
+turned_across axis (e ∷ es) [] b c n ts zs (x ∷ pos) a l h d k = absurd (omega arith)
+turned_across axis (e ∷ es) (f ∷ fs) b c zero ts zs (x ∷ pos) a l h d k = absurd (omega arith)
+turned_across axis (e ∷ es) (f ∷ fs) b c (suc n) [] zs (x ∷ pos) a l h d k = absurd (omega arith)
+turned_across zero (e ∷ es) (f ∷ fs) b c (suc n) (t ∷ ts) zs (x ∷ pos) a l h d k =
+    ap₂ (λ y ys. y ∷ finer pos (ys ++ zs)) (omega (arith, mirrored_other (e + b) (f + c) t (omega (arith, a.0)) d.0))
+        (sym (turned_same es fs (b + t) (c + t) ts a.1 a.2 (omega arith)))
+turned_across (suc axis) (e ∷ es) (f ∷ fs) b c (suc n) (t ∷ ts) zs (x ∷ pos) a l h d k =
+    ap₂ (λ y ys. (3 * x + y) ∷ ys) (mirrored_same (f + c) (e + b) t (omega (arith, a.0)))
+        (turned_across axis es fs (b + t) (c + t) n ts zs pos a.1 (omega arith) (omega arith) d.1 k)
+
+-- the number of turns at the digit behind some digits
+abbrev pub turns_at : List ℕ → ℕ → List ℕ → ℕ
+turns_at [] b us = 0
+turns_at (e ∷ es) b [] = e + b
+turns_at (e ∷ es) b (u ∷ us) = turns_at es (b + u) us
+
+pub turned-at : (es : List ℕ) (b n : ℕ) (us : List ℕ) (t : ℕ) (ts : List ℕ) → length es ≡ n → Digits3 n (us ++ t ∷ ts)
+    → slice_index (turned es b (us ++ t ∷ ts)) (length us) ≡ mirrored (turns_at es b us) t
+turned-at [] b zero [] t ts l d = absurd (omega arith)
+turned-at [] b zero (u ∷ us) t ts l d = absurd (omega arith)
+turned-at [] b (suc n) us t ts l d = absurd (omega arith)
+turned-at (e ∷ es) b n [] t ts l d = refl
+turned-at (e ∷ es) b zero (u ∷ us) t ts l d = absurd (omega arith)
+turned-at (e ∷ es) b (suc n) (u ∷ us) t ts l d = turned-at es (b + u) n us t ts (omega arith) d.1
+
+-- In a cell, the child at a digit and the child at the next digit with the complement behind it are neighbours:
+-- the second is further where the number of turns is even, and else the first.
+pub turned_next-even : (es : List ℕ) (b n : ℕ) (us : List ℕ) (t : ℕ) (ts zs pos : List ℕ) → length es ≡ n → Digits3 n (us ++ t ∷ ts) → t < 2 → turns_at es b us % 2 ≡ 0
+    → up (length us) (finer pos (turned es b (us ++ t ∷ ts) ++ zs)) ≡ finer pos (turned es b (us ++ (t + 1) ∷ complement ts) ++ zs)
+turned_next-even es b n us t ts zs [] l d s h = refl
+turned_next-even [] b zero [] t ts zs (x ∷ pos) l d s h = absurd (omega arith)
+turned_next-even [] b zero (u ∷ us) t ts zs (x ∷ pos) l d s h = absurd (omega arith)
+turned_next-even [] b (suc n) us t ts zs (x ∷ pos) l d s h = absurd (omega arith)
+turned_next-even (e ∷ es) b zero us t ts zs (x ∷ pos) l d s h = absurd (omega arith)
+turned_next-even (e ∷ es) b (suc n) [] t ts zs (x ∷ pos) l d s h =
+    ap₂ (λ y ys. y ∷ finer pos (ys ++ zs)) (omega (arith, mirrored_even (e + b) t h, mirrored_even (e + b) (t + 1) h))
+        (turned_complement 1 es es (b + t) (b + (t + 1)) n ts (Pairs-same _ (λ y. omega arith) es) refl (omega arith) d.1)
+turned_next-even (e ∷ es) b (suc n) (u ∷ us) t ts zs (x ∷ pos) l d s h =
+    ap (λ ys. (3 * x + mirrored (e + b) u) ∷ ys) (turned_next-even es (b + u) n us t ts zs pos (omega arith) d.1 s h)
+
+pub turned_next-odd : (es : List ℕ) (b n : ℕ) (us : List ℕ) (t : ℕ) (ts zs pos : List ℕ) → length es ≡ n → Digits3 n (us ++ t ∷ ts) → t < 2 → turns_at es b us % 2 ≡ 1
+    → up (length us) (finer pos (turned es b (us ++ (t + 1) ∷ complement ts) ++ zs)) ≡ finer pos (turned es b (us ++ t ∷ ts) ++ zs)
+turned_next-odd es b n us t ts zs [] l d s h = refl
+turned_next-odd [] b zero [] t ts zs (x ∷ pos) l d s h = absurd (omega arith)
+turned_next-odd [] b zero (u ∷ us) t ts zs (x ∷ pos) l d s h = absurd (omega arith)
+turned_next-odd [] b (suc n) us t ts zs (x ∷ pos) l d s h = absurd (omega arith)
+turned_next-odd (e ∷ es) b zero us t ts zs (x ∷ pos) l d s h = absurd (omega arith)
+turned_next-odd (e ∷ es) b (suc n) [] t ts zs (x ∷ pos) l d s h =
+    ap₂ (λ y ys. y ∷ finer pos (ys ++ zs)) (omega (arith, mirrored_odd (e + b) t h, mirrored_odd (e + b) (t + 1) h))
+        (sym (turned_complement 1 es es (b + t) (b + (t + 1)) n ts (Pairs-same _ (λ y. omega arith) es) refl (omega arith) d.1))
+turned_next-odd (e ∷ es) b (suc n) (u ∷ us) t ts zs (x ∷ pos) l d s h =
+    ap (λ ys. (3 * x + mirrored (e + b) u) ∷ ys) (turned_next-odd es (b + u) n us t ts zs pos (omega arith) d.1 s h)
