@@ -1,2 +1,4 @@
 pub mod Lists
 pub mod Mirrors
+pub mod Children
+pub mod Corners

@@ -1,5 +1,5 @@
 -- Lists made by `map`, `flat_map`, `filter` and `reverse`.
-use Rattle.std.proofs.Common.{◌≡◌, ℕ, Bool, true, false, cond, List, [], ◌∷◌, ◌++◌, map, reverse, filter, refl, sym, ap, ap₂, ◌∙◌, append_assoc, append-nil, arith}
+use Rattle.std.proofs.Common.{◌≡◌, ℕ, Bool, true, false, cond, ◌&&◌, List, [], ◌∷◌, ◌++◌, map, reverse, filter, refl, sym, ap, ap₂, ◌∙◌, append_assoc, append-nil, arith}
 use Rattle.std.specs.List.{flat_map}
 use Rattle.std.proofs.lemmas.List.{reverse-append, map-append}
 use Rattle.std.proofs.lemmas.List.Elements.{filter-append}
@@ -125,11 +125,11 @@ Each-filter P p (x ∷ xs) e = go (p x) refl (Each-filter P p xs e.1)
     go true is r = ((e.0, is), r)
     go false is r = r
 
-pub filter-filter : {X : Type 0} (p q : X → Bool) (xs : List X) → filter (λ x. cond (q x) (p x) false) xs ≡ filter p (filter q xs)
+pub filter-filter : {X : Type 0} (p q : X → Bool) (xs : List X) → filter (λ x. q x && p x) xs ≡ filter p (filter q xs)
 filter-filter p q [] = refl
 filter-filter p q (x ∷ xs) = go (q x) (filter-filter p q xs)
   where
-    go : (b : Bool) → filter (λ y. cond (q y) (p y) false) xs ≡ filter p (filter q xs)
-        → cond (cond b (p x) false) (x ∷ filter (λ y. cond (q y) (p y) false) xs) (filter (λ y. cond (q y) (p y) false) xs) ≡ filter p (cond b (x ∷ filter q xs) (filter q xs))
+    go : (b : Bool) → filter (λ y. q y && p y) xs ≡ filter p (filter q xs)
+        → cond (b && p x) (x ∷ filter (λ y. q y && p y) xs) (filter (λ y. q y && p y) xs) ≡ filter p (cond b (x ∷ filter q xs) (filter q xs))
     go true e = ap (λ r. cond (p x) (x ∷ r) r) e
     go false e = e
