@@ -118,3 +118,37 @@ reverse-children axes Forward cell = sym (map-reverse (child_at cell) (child_dig
 reverse-children axes Inverted cell =
     sym (map-reverse (child_at cell) (child_digits axes Inverted (flips axes cell.pos)))
     ∙ ap (map (child_at cell)) (reverse-reverse (child_digits axes Forward (flips axes cell.pos)))
+
+-- a child's coordinate
+pub slice_index-finer : (axis n : ℕ) (pos ks zs : List ℕ) → axis < n → n ≤ length pos → Digits3 n ks → slice_index (finer pos (ks ++ zs)) axis ≡ 3 * slice_index pos axis + slice_index ks axis
+slice_index-finer axis zero pos ks zs a l d = absurd (omega arith)
+slice_index-finer axis (suc n) [] ks zs a l d = absurd (omega arith)
+slice_index-finer axis (suc n) (x ∷ pos) [] zs a l d = absurd (omega arith)
+slice_index-finer zero (suc n) (x ∷ pos) (k ∷ ks) zs a l d = refl
+slice_index-finer (suc axis) (suc n) (x ∷ pos) (k ∷ ks) zs a l d = slice_index-finer axis n pos ks zs (omega arith) (omega arith) d.1
+
+pub slice_index-below : (axis n : ℕ) (ks : List ℕ) → axis < n → Digits3 n ks → slice_index ks axis < 3
+slice_index-below axis zero ks a d = absurd (omega arith)
+slice_index-below axis (suc n) [] a d = absurd (omega arith)
+slice_index-below zero (suc n) (k ∷ ks) a d = d.0
+slice_index-below (suc axis) (suc n) (k ∷ ks) a d = slice_index-below axis n ks (omega arith) d.1
+
+length-finer : (n : ℕ) (pos ks zs : List ℕ) → n ≤ length pos → Digits3 n ks → n ≤ length (finer pos (ks ++ zs))
+length-finer zero pos ks zs l d = omega arith
+length-finer (suc n) [] ks zs l d = absurd (omega arith)
+length-finer (suc n) (x ∷ pos) [] zs l d = absurd (omega arith)
+length-finer (suc n) (x ∷ pos) (k ∷ ks) zs l d = omega (arith, length-finer n pos ks zs (omega arith) d.1)
+
+-- the digits of a child's place
+abbrev pub child_ks : ℕ → Way → Place → List ℕ → List ℕ
+child_ks axes way cell ts = turned (flips_in axes way cell.pos) 0 ts
+
+pub child_ks-below : (axes : ℕ) (way : Way) (cell : Place) (ts : List ℕ) → Digits3 axes ts → Digits3 axes (child_ks axes way cell ts)
+child_ks-below axes way cell ts d = turned_below (flips_in axes way cell.pos) 0 axes ts (length-flips axes way cell.pos) d
+
+pub child_index : (axes : ℕ) (way : Way) (cell : Place) (ts : List ℕ) (axis : ℕ) → axis < axes → axes ≤ length cell.pos → Digits3 axes ts
+    → slice_index (child_of axes way cell ts).pos axis ≡ 3 * slice_index cell.pos axis + slice_index (child_ks axes way cell ts) axis
+child_index axes way cell ts axis a l d = slice_index-finer axis axes cell.pos (child_ks axes way cell ts) (replicate (4 - axes) 0) a l (child_ks-below axes way cell ts d)
+
+pub child_length : (axes : ℕ) (way : Way) (cell : Place) (ts : List ℕ) → axes ≤ length cell.pos → Digits3 axes ts → axes ≤ length (child_of axes way cell ts).pos
+child_length axes way cell ts l d = length-finer axes cell.pos (child_ks axes way cell ts) (replicate (4 - axes) 0) l (child_ks-below axes way cell ts d)

@@ -97,6 +97,18 @@ same_scaled : (x b s p : ℕ) → 0 < p → ((x + b) * p == (x + s) * p) ≡ (b 
 same_scaled x b s p h = same_tests ((x + b) * p) ((x + s) * p) b s
     (λ e. let k : x + b ≡ x + s = eq_of_mul-eq-mul_right p h (x + b) (x + s) e in omega arith) (λ e. ap (λ y. (x + y) * p) e)
 
+abbrev pub touch_at : Place → List ℕ → Touch
+touch_at cell bs = record { vertex = record { level = cell.level; pos = moved cell.pos bs }; cell = cell }
+
+pub corner_touches_are : (axes : ℕ) (cell : Place) → axes ≤ 4 → corner_touches axes cell ≡ map (touch_at cell) (bit_lists axes)
+corner_touches_are axes cell four = sym (map-map (touch_at cell) (bits axes) (range_with_len 0 (2 ^ axes))) ∙ ap (map (touch_at cell)) (bits_are axes four)
+
+pub slice_index-bits : (axis n : ℕ) (bs : List ℕ) → axis < n → IsBits n bs → slice_index bs axis < 2
+slice_index-bits axis zero bs a d = absurd (omega arith)
+slice_index-bits axis (suc n) [] a d = absurd (omega arith)
+slice_index-bits zero (suc n) (b ∷ bs) a d = d.0
+slice_index-bits (suc axis) (suc n) (b ∷ bs) a d = slice_index-bits axis n bs (omega arith) d.1
+
 -- what a test finds of a cell's own corners at a face
 pub own_corners : (axes : ℕ) (test : Touch → Bool) (finest axis side : ℕ) (cell : Place) → axes ≤ 4 → axis < axes → axes ≤ length cell.pos
     → at_face test finest (record { axis = axis; side = side }) cell (reverse (corner_touches axes cell))

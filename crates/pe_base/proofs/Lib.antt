@@ -2,3 +2,5 @@ pub mod Lists
 pub mod Mirrors
 pub mod Children
 pub mod Corners
+pub mod FaceLists
+pub mod Ranks

@@ -1,5 +1,5 @@
 -- Lists made by `map`, `flat_map`, `filter` and `reverse`.
-use Rattle.std.proofs.Common.{◌≡◌, ℕ, Bool, true, false, cond, ◌&&◌, List, [], ◌∷◌, ◌++◌, map, reverse, filter, refl, sym, ap, ap₂, ◌∙◌, append_assoc, append-nil, arith}
+use Rattle.std.proofs.Common.{◌≡◌, ℕ, Bool, true, false, cond, ◌&&◌, List, [], ◌∷◌, ◌++◌, map, reverse, filter, refl, sym, ap, ap₂, ◌∙◌, append_assoc, append-nil, subst, arith}
 use Rattle.std.specs.List.{flat_map}
 use Rattle.std.proofs.lemmas.List.{reverse-append, map-append}
 use Rattle.std.proofs.lemmas.List.Elements.{filter-append}
@@ -133,3 +133,7 @@ filter-filter p q (x ∷ xs) = go (q x) (filter-filter p q xs)
         → cond (b && p x) (x ∷ filter (λ y. q y && p y) xs) (filter (λ y. q y && p y) xs) ≡ filter p (cond b (x ∷ filter q xs) (filter q xs))
     go true e = ap (λ r. cond (p x) (x ∷ r) r) e
     go false e = e
+
+pub Each-reverse : {X : Type 0} (P : X → Type 0) (xs : List X) → Each P xs → Each P (reverse xs)
+Each-reverse P [] e = tt
+Each-reverse P (x ∷ xs) e = subst (Each P) (sym (reverse-cons x xs)) (Each-append P (reverse xs) (x ∷ []) (Each-reverse P xs e.1) (e.0, tt))
