@@ -4,3 +4,4 @@ pub mod Children
 pub mod Corners
 pub mod FaceLists
 pub mod Ranks
+pub mod Quiet

@@ -215,11 +215,11 @@ steps_close r low high (x ∷ y ∷ xs) s =
         (steps_close r (suc (r x)) high (y ∷ xs) s.1) (steps_within (λ z. suc (r x) ≤ r z) (y ∷ xs) up))
 
 -- tests on places
-and_left : (a b : Bool) → (a && b) ≡ true → a ≡ true
+pub and_left : (a b : Bool) → (a && b) ≡ true → a ≡ true
 and_left true b h = refl
 and_left false b h = h
 
-and_right : (a b : Bool) → (a && b) ≡ true → b ≡ true
+pub and_right : (a b : Bool) → (a && b) ≡ true → b ≡ true
 and_right true b h = h
 and_right false b h = absurd (true≢false (sym h))
 
