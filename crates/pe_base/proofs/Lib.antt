@@ -5,3 +5,4 @@ pub mod Corners
 pub mod FaceLists
 pub mod Ranks
 pub mod Quiet
+pub mod Blocks

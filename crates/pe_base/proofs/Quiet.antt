@@ -1,5 +1,5 @@
 -- Faces where nothing arrives, and faces where nothing is left.
-use Rattle.std.proofs.Common.{◌≡◌, ℕ, zero, suc, ◌+◌, ◌-◌, ◌*◌, ◌/◌, ◌%◌, ◌^◌, ◌<◌, ◌≤◌, ◌⊎◌, Bool, true, false, cond, ◌&&◌, ◌==◌, if◌then◌else◌, List, [], ◌∷◌, ◌++◌, map, filter, reverse, length, get_or, set, take, drop, slice_index, slice_set, replicate, refl, sym, ap, ap₂, ◌∙◌, subst, true≢false, inl, inr, pow-suc, le_trans, mul-le-mul_right, mod-lt, take-append-drop, arith}
+use Rattle.std.proofs.Common.{◌≡◌, ℕ, zero, suc, ◌+◌, ◌-◌, ◌*◌, ◌/◌, ◌%◌, ◌^◌, ◌<◌, ◌≤◌, ◌⊎◌, ◌≢◌, length-set, Bool, true, false, cond, ◌&&◌, ◌==◌, if◌then◌else◌, List, [], ◌∷◌, ◌++◌, map, filter, reverse, length, get_or, set, take, drop, slice_index, slice_set, replicate, refl, sym, ap, ap₂, ◌∙◌, subst, true≢false, inl, inr, pow-suc, le_trans, mul-le-mul_right, mod-lt, take-append-drop, arith}
 use Rattle.std.specs.List.{flat_map}
 use Rattle.std.proofs.lemmas.Bool.Decides.{nat_tests}
 use Rattle.pe_base.specs.declared.place.Place.{Place}
@@ -163,3 +163,81 @@ leaving_none axes way counts levels level face cell four a b on l q =
             inl earlier ↦ inl (earlier_child axes way (opposite way) face level c ts four a b l d at earlier)
           | inr still ↦ inr (still_child axes (opposite way) face c ts a l four d at still) ])
         four a b (cell.level + levels) levels level cell on l refl q
+
+-- ranks and the sums of positions have the same parity, so neighbours have different ranks
+odd_power : (n : ℕ) → (m : ℕ) × (3 ^ n ≡ 2 * m + 1)
+odd_power zero = (0, omega arith)
+odd_power (suc n) = let p = odd_power n in (3 * p.0 + 1, omega (arith, pow-suc 3 n, p.1))
+
+odd_times : (x w m : ℕ) → w ≡ 2 * m + 1 → (x * w + x) % 2 ≡ 0
+odd_times x w m e = rw e (let k : x * (2 * m + 1) + x ≡ 2 * (x * m + x) = omega arith in rw k (omega arith))
+
+value-parity : (n : ℕ) (ts : List ℕ) → length ts ≤ n → (value n ts + sum_of ts) % 2 ≡ 0
+value-parity zero [] l = refl
+value-parity zero (t ∷ ts) l = absurd (omega arith)
+value-parity (suc n) [] l = refl
+value-parity (suc n) (t ∷ ts) l = let p = odd_power n in omega (arith, odd_times t (3 ^ n) p.0 p.1, value-parity n ts (omega arith))
+
+length-turned : (es : List ℕ) (b : ℕ) (ts : List ℕ) → length (turned es b ts) ≤ length es
+length-turned [] b ts = omega arith
+length-turned (e ∷ es) b [] = omega arith
+length-turned (e ∷ es) b (t ∷ ts) = omega (arith, length-turned es (b + t) ts)
+
+digits-take : (n : ℕ) (ts : List ℕ) → n ≤ length ts → Each (λ t. t < 3) ts → Digits3 n (take n ts)
+digits-take zero ts l e = tt
+digits-take (suc n) [] l e = absurd (omega arith)
+digits-take (suc n) (t ∷ ts) l e = (e.0, digits-take n ts (omega arith) e.1)
+
+sum-thirds : (n : ℕ) (pos : List ℕ) → sum_of (take n pos) ≡ 3 * sum_of (take n (thirds pos)) + sum_of (take n (rests pos))
+sum-thirds zero pos = refl
+sum-thirds (suc n) [] = refl
+sum-thirds (suc n) (x ∷ pos) = omega (arith, sum-thirds n pos)
+
+length-of_map : (f : ℕ → ℕ) (xs : List ℕ) → length (map f xs) ≡ length xs
+length-of_map f [] = refl
+length-of_map f (x ∷ xs) = ap suc (length-of_map f xs)
+
+rank-parity : (axes : ℕ) (way : Way) (level : ℕ) (pos : List ℕ) → axes ≤ length pos → (rank axes way level pos + sum_of (take axes pos)) % 2 ≡ 0
+rank-parity axes way zero pos l = omega arith
+rank-parity axes way (suc level) pos l =
+    let es = flips_in axes way (thirds pos) in
+    let p = odd_power axes in
+    let lr : axes ≤ length (rests pos) = omega (arith, length-of_map (λ x. x % 3) pos) in
+    let s : (sum_of (turned es 0 (rests pos)) + sum_of (take axes (rests pos))) % 2 ≡ 0 =
+        subst (λ r. (sum_of (turned es 0 r) + sum_of (take axes (rests pos))) % 2 ≡ 0) (take-append-drop axes (rests pos))
+            (sum-turned es 0 axes (take axes (rests pos)) (drop axes (rests pos)) (length-flips axes way (thirds pos)) (digits-take axes (rests pos) lr (rests-each pos))) in
+    let v = value-parity axes (turned es 0 (rests pos)) (omega (arith, length-turned es 0 (rests pos), length-flips axes way (thirds pos))) in
+    let r = rank-parity axes way level (thirds pos) (omega (arith, length-of_map (λ x. x / 3) pos)) in
+    omega (arith, odd_times (rank axes way level (thirds pos)) (3 ^ axes) p.0 p.1, s, v, r, sum-thirds axes pos)
+
+sum-set : (n axis : ℕ) (pos : List ℕ) (y : ℕ) → axis < n → n ≤ length pos → sum_of (take n (set pos axis y)) + slice_index pos axis ≡ sum_of (take n pos) + y
+sum-set zero axis pos y a l = absurd (omega arith)
+sum-set (suc n) axis [] y a l = absurd (omega arith)
+sum-set (suc n) zero (x ∷ pos) y a l = omega arith
+sum-set (suc n) (suc axis) (x ∷ pos) y a l = omega (arith, sum-set n axis pos y (omega arith) (omega arith))
+
+-- a face has a later neighbour, or an earlier one, or none on the near side
+pub later_or_earlier : (axes : ℕ) (way : Way) (face : Face) (level : ℕ) (cell : Place) → face.axis < axes → axes ≤ length cell.pos → face.side < 2
+    → (Later axes way face level cell) ⊎ ((Earlier axes way face level cell) ⊎ (Still face cell))
+later_or_earlier axes way face level cell a l b = go face.side (slice_index cell.pos face.axis) refl refl b
+  where
+    apart : (y : ℕ) → y ≡ beside face.side (slice_index cell.pos face.axis) → (y + slice_index cell.pos face.axis) % 2 ≡ 1
+        → (Later axes way face level cell) ⊎ ((Earlier axes way face level cell) ⊎ (Still face cell))
+    apart y is odd =
+        let n = set cell.pos face.axis y in
+        let one = rank-parity axes way level cell.pos l in
+        let two = rank-parity axes way level n (omega (arith, l, length-set cell.pos face.axis y)) in
+        let s = sum-set axes face.axis cell.pos y a l in
+        let d : rank axes way level cell.pos ≢ rank axes way level n = omega (arith, one, two, s, odd) in
+        let e : rank axes way level n ≡ rank_of axes way level (across face cell) = ap (λ z. rank axes way level (set cell.pos face.axis z)) is in
+        elim (cases (rank axes way level cell.pos) (rank axes way level n) d) [
+            inl h ↦ inl (omega (arith, e, h))
+          | inr h ↦ inr (inl (omega (arith, e, h))) ]
+      where
+        cases : (p q : ℕ) → p ≢ q → (p < q) ⊎ (q < p)
+        cases p q d = grind arith
+    go : (s x : ℕ) → face.side ≡ s → slice_index cell.pos face.axis ≡ x → s < 2 → (Later axes way face level cell) ⊎ ((Earlier axes way face level cell) ⊎ (Still face cell))
+    go zero zero e f h = inr (inr (e, f))
+    go zero (suc x) e f h = let k : x ≡ suc x - 1 = omega arith in apart x (k ∙ sym (ap₂ beside e f)) (omega arith)
+    go (suc zero) x e f h = apart (x + 1) (sym (ap₂ beside e f)) (omega arith)
+    go (suc (suc s)) x e f h = absurd (omega arith)

@@ -9,7 +9,7 @@
 --     +-----v-----+       at the face between them
 --
 -- All is defined on the regular tree of cells, some levels deep below a cell. A test says which vertices count.
-use Rattle.std.specs.Prelude.{ℕ, zero, suc, ◌+◌, ◌-◌, ◌*◌, ◌%◌, ◌^◌, Bool, ◌&&◌, ◌==◌, nat_eq, List, [], ◌∷◌, ◌++◌, map, filter, reverse, if◌then◌else◌, slice_index, slice_set}
+use Rattle.std.specs.Prelude.{◌≡◌, ℕ, zero, suc, ◌+◌, ◌-◌, ◌*◌, ◌%◌, ◌^◌, Bool, ◌&&◌, ◌==◌, nat_eq, List, [], ◌∷◌, ◌++◌, map, filter, reverse, if◌then◌else◌, slice_index, slice_set}
 use Rattle.std.specs.List.{flat_map, range_with_len, list_any}
 use Rattle.std.specs.Cmp.Lexicographic.{pointwise}
 use Rattle.pe_base.specs.declared.place.Place.{Place}
@@ -104,3 +104,13 @@ in_corners axes way counts face cell = arriving axes way counts 0 face cell
 
 abbrev pub out_corners : ℕ → Way → (Place → Bool) → Face → Place → List Place
 out_corners axes way counts face cell = leaving axes way counts 0 face cell
+
+-- on a stack of vertices, one list is taken off the top, and another is put there
+pub record Turn : Type 0 where
+  pub takes : List Place
+  pub gives : List Place
+
+-- some turns on a stack, the top first: each finds what it takes on top, and leaves what is beneath as it was
+abbrev pub Turns : List Turn → List Place → List Place → Type 0
+Turns [] before after = before ≡ after
+Turns (turn ∷ turns) before after = (beneath : List Place) × (before ≡ turn.takes ++ beneath) × Turns turns (turn.gives ++ beneath) after
