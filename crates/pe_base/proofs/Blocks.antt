@@ -70,6 +70,11 @@ MeetBehind (suc axis) (suc n) takes gives outer = (t : ℕ) → t < 3 → MeetBe
 abbrev pub OneWay : ℕ → Lists → Lists → (List ℕ → Bool) → Type 0
 OneWay n takes gives outer = ((ts : List ℕ) → Digits3 n ts → outer ts ≡ true → takes ts ≡ []) ⊎ ((ts : List ℕ) → Digits3 n ts → outer ts ≡ true → gives ts ≡ [])
 
+one_behind : (n t : ℕ) (takes gives : Lists) (outer : List ℕ → Bool) → t < 3 → OneWay (suc n) takes gives outer → OneWay n (behind t takes) (behind t gives) (behind t outer)
+one_behind n t takes gives outer b one = elim one [
+    inl h ↦ inl (λ ts d o. h (t ∷ ts) (b, d) o)
+  | inr h ↦ inr (λ ts d o. h (t ∷ ts) (b, d) o) ]
+
 -- parts of lists made from three blocks
 block_turns : (n t : ℕ) (takes gives : Lists) → map (λ ts. turn_of (takes ts) (gives ts)) (map (λ ts. t ∷ ts) (digit_lists n)) ≡ child_turns n (behind t takes) (behind t gives)
 block_turns n t takes gives = map-map (λ ts. turn_of (takes ts) (gives ts)) (λ ts. t ∷ ts) (digit_lists n)
@@ -145,3 +150,82 @@ meeting_blocks n takes gives next_takes next_gives agree none next_none rest =
         (all_give takes gives (digit_lists n) rest (Each-weaker (Digits3 n) _ none (digit_lists n) (digit_lists_below n)))
         (subst (λ z. Turns (child_turns n next_takes next_gives) (z ++ rest) rest) (sym back)
             (all_take next_takes next_gives (digit_lists n) rest (Each-weaker (Digits3 n) _ next_none (digit_lists n) (digit_lists_below n))))
+
+meet_here : (n : ℕ) (takes gives : Lists) (outer : List ℕ → Bool) (first : ℕ) → first < 2
+    → ((ts : List ℕ) → Digits3 n ts → gives (first ∷ ts) ≡ takes ((first + 1) ∷ complement ts))
+    → ((ts : List ℕ) → Digits3 n ts → takes (first ∷ ts) ≡ []) → ((ts : List ℕ) → Digits3 n ts → gives ((first + 1) ∷ ts) ≡ [])
+    → ((ts : List ℕ) → Digits3 n ts → outer (first ∷ ts) ≡ false) → ((ts : List ℕ) → Digits3 n ts → outer ((first + 1) ∷ ts) ≡ false)
+    → ((t : ℕ) → t < 3 → t ≢ first → t ≢ first + 1 → (ts : List ℕ) → Digits3 n ts → outer (t ∷ ts) ≡ true)
+    → OneWay (suc n) takes gives outer → (rest : List Place) → Turns (child_turns (suc n) takes gives) (outer_takes (suc n) takes outer ++ rest) (outer_gives (suc n) gives outer ++ rest)
+meet_here n takes gives outer zero low agree none next_none inner inner_next outside one rest =
+    let c = λ (t : ℕ). child_turns n (behind t takes) (behind t gives) in
+    let k0 = filter_none (behind 0 outer) (digit_lists n) (Each-weaker (Digits3 n) _ inner (digit_lists n) (digit_lists_below n)) in
+    let k1 = filter_none (behind 1 outer) (digit_lists n) (Each-weaker (Digits3 n) _ inner_next (digit_lists n) (digit_lists_below n)) in
+    let a : outer_takes (suc n) takes outer ≡ outer_takes n (behind 2 takes) (behind 2 outer) =
+        three_takes n takes outer ∙ ap₂ (λ x y. flat_map (behind 0 takes) x ++ (flat_map (behind 1 takes) y ++ outer_takes n (behind 2 takes) (behind 2 outer))) k0 k1 in
+    let l : outer_gives (suc n) gives outer ≡ outer_gives n (behind 2 gives) (behind 2 outer) =
+        three_gives n gives outer ∙ ap₂ (λ x y. (outer_gives n (behind 2 gives) (behind 2 outer) ++ flat_map (behind 1 gives) (reverse y)) ++ flat_map (behind 0 gives) (reverse x)) k0 k1
+        ∙ append-nil _ ∙ append-nil _ in
+    let s = Turns-append (c 0 ++ c 1) (c 2) (outer_takes n (behind 2 takes) (behind 2 outer) ++ rest) (outer_takes n (behind 2 takes) (behind 2 outer) ++ rest) (outer_gives n (behind 2 gives) (behind 2 outer) ++ rest)
+        (meeting_blocks n (behind 0 takes) (behind 0 gives) (behind 1 takes) (behind 1 gives) agree none next_none (outer_takes n (behind 2 takes) (behind 2 outer) ++ rest))
+        (outer_block n (behind 2 takes) (behind 2 gives) (behind 2 outer) (outside 2 (omega arith) (omega arith) (omega arith)) (one_behind n 2 takes gives outer (omega arith) one) rest) in
+    subst₂ (λ x y. Turns (child_turns (suc n) takes gives) (x ++ rest) (y ++ rest)) (sym a) (sym l)
+        (subst (λ z. Turns z (outer_takes n (behind 2 takes) (behind 2 outer) ++ rest) (outer_gives n (behind 2 gives) (behind 2 outer) ++ rest)) (append_assoc (c 0) (c 1) (c 2) ∙ sym (three_turns n takes gives)) s)
+meet_here n takes gives outer (suc zero) low agree none next_none inner inner_next outside one rest =
+    let c = λ (t : ℕ). child_turns n (behind t takes) (behind t gives) in
+    let k1 = filter_none (behind 1 outer) (digit_lists n) (Each-weaker (Digits3 n) _ inner (digit_lists n) (digit_lists_below n)) in
+    let k2 = filter_none (behind 2 outer) (digit_lists n) (Each-weaker (Digits3 n) _ inner_next (digit_lists n) (digit_lists_below n)) in
+    let a : outer_takes (suc n) takes outer ≡ outer_takes n (behind 0 takes) (behind 0 outer) =
+        three_takes n takes outer ∙ ap₂ (λ x y. outer_takes n (behind 0 takes) (behind 0 outer) ++ (flat_map (behind 1 takes) x ++ flat_map (behind 2 takes) y)) k1 k2 ∙ append-nil _ in
+    let l : outer_gives (suc n) gives outer ≡ outer_gives n (behind 0 gives) (behind 0 outer) =
+        three_gives n gives outer ∙ ap₂ (λ x y. (flat_map (behind 2 gives) (reverse y) ++ flat_map (behind 1 gives) (reverse x)) ++ outer_gives n (behind 0 gives) (behind 0 outer)) k1 k2 in
+    let s = Turns-append (c 0) (c 1 ++ c 2) (outer_takes n (behind 0 takes) (behind 0 outer) ++ rest) (outer_gives n (behind 0 gives) (behind 0 outer) ++ rest) (outer_gives n (behind 0 gives) (behind 0 outer) ++ rest)
+        (outer_block n (behind 0 takes) (behind 0 gives) (behind 0 outer) (outside 0 (omega arith) (omega arith) (omega arith)) (one_behind n 0 takes gives outer (omega arith) one) rest)
+        (meeting_blocks n (behind 1 takes) (behind 1 gives) (behind 2 takes) (behind 2 gives) agree none next_none (outer_gives n (behind 0 gives) (behind 0 outer) ++ rest)) in
+    subst₂ (λ x y. Turns (child_turns (suc n) takes gives) (x ++ rest) (y ++ rest)) (sym a) (sym l)
+        (subst (λ z. Turns z (outer_takes n (behind 0 takes) (behind 0 outer) ++ rest) (outer_gives n (behind 0 gives) (behind 0 outer) ++ rest)) (sym (three_turns n takes gives)) s)
+meet_here n takes gives outer (suc (suc first)) low agree none next_none inner inner_next outside one rest = absurd (omega arith)
+
+-- three parts one after another
+three_blocks : (c0 c1 c2 : List Turn) (a0 a1 a2 l0 l1 l2 : List Place) → ((rest : List Place) → Turns c0 (a0 ++ rest) (l0 ++ rest)) → ((rest : List Place) → Turns c1 (a1 ++ rest) (l1 ++ rest)) → ((rest : List Place) → Turns c2 (a2 ++ rest) (l2 ++ rest))
+    → ((a0 ≡ []) × (a1 ≡ []) × (a2 ≡ [])) ⊎ ((l0 ≡ []) × (l1 ≡ []) × (l2 ≡ [])) → (rest : List Place) → Turns (c0 ++ (c1 ++ c2)) ((a0 ++ (a1 ++ a2)) ++ rest) (((l2 ++ l1) ++ l0) ++ rest)
+three_blocks c0 c1 c2 a0 a1 a2 l0 l1 l2 s0 s1 s2 none rest = elim none [
+    inl e ↦ subst₂ (Turns (c0 ++ (c1 ++ c2)))
+        (ap₂ (λ x y. (x ++ y) ++ rest) (sym e.0) (ap₂ (λ x y. x ++ y) (sym e.1) (sym e.2)))
+        (sym (append_assoc l2 l1 (l0 ++ rest)) ∙ sym (append_assoc (l2 ++ l1) l0 rest))
+        (Turns-append c0 (c1 ++ c2) rest (l0 ++ rest) (l2 ++ (l1 ++ (l0 ++ rest))) (subst (λ z. Turns c0 (z ++ rest) (l0 ++ rest)) e.0 (s0 rest))
+            (Turns-append c1 c2 (l0 ++ rest) (l1 ++ (l0 ++ rest)) (l2 ++ (l1 ++ (l0 ++ rest))) (subst (λ z. Turns c1 (z ++ (l0 ++ rest)) (l1 ++ (l0 ++ rest))) e.1 (s1 (l0 ++ rest)))
+                (subst (λ z. Turns c2 (z ++ (l1 ++ (l0 ++ rest))) (l2 ++ (l1 ++ (l0 ++ rest)))) e.2 (s2 (l1 ++ (l0 ++ rest))))))
+  | inr e ↦ subst₂ (Turns (c0 ++ (c1 ++ c2)))
+        (ap (λ z. a0 ++ z) (sym (append_assoc a1 a2 rest)) ∙ sym (append_assoc a0 (a1 ++ a2) rest))
+        (ap₂ (λ x y. (x ++ y) ++ rest) (ap₂ (λ x y. x ++ y) (sym e.2) (sym e.1)) (sym e.0))
+        (Turns-append c0 (c1 ++ c2) (a0 ++ (a1 ++ (a2 ++ rest))) (a1 ++ (a2 ++ rest)) rest (subst (λ z. Turns c0 (a0 ++ (a1 ++ (a2 ++ rest))) (z ++ (a1 ++ (a2 ++ rest)))) e.0 (s0 (a1 ++ (a2 ++ rest))))
+            (Turns-append c1 c2 (a1 ++ (a2 ++ rest)) (a2 ++ rest) rest (subst (λ z. Turns c1 (a1 ++ (a2 ++ rest)) (z ++ (a2 ++ rest))) e.1 (s1 (a2 ++ rest)))
+                (subst (λ z. Turns c2 (a2 ++ rest) (z ++ rest)) e.2 (s2 rest)))) ]
+
+-- The turns of the children take the lists of the outer face off the stack and leave the others there.
+pub blocks : (axis n : ℕ) (takes gives : Lists) (outer : List ℕ → Bool) → MeetBehind axis n takes gives outer → OneWay n takes gives outer
+    → (rest : List Place) → Turns (child_turns n takes gives) (outer_takes n takes outer ++ rest) (outer_gives n gives outer ++ rest)
+blocks axis zero takes gives outer m one rest = absurd (omega arith)
+blocks zero (suc n) takes gives outer m one rest = meet_here n takes gives outer m.first m.low m.agree m.takes_none m.gives_none m.inner m.inner_next m.outside one rest
+blocks (suc axis) (suc n) takes gives outer m one rest =
+    let c = λ (t : ℕ). child_turns n (behind t takes) (behind t gives) in
+    let a = λ (t : ℕ). outer_takes n (behind t takes) (behind t outer) in
+    let l = λ (t : ℕ). outer_gives n (behind t gives) (behind t outer) in
+    let part : (t : ℕ) → t < 3 → (r : List Place) → Turns (c t) (a t ++ r) (l t ++ r) =
+        λ t h r. blocks axis n (behind t takes) (behind t gives) (behind t outer) (m t h) (one_behind n t takes gives outer h one) r in
+    let none : ((a 0 ≡ []) × (a 1 ≡ []) × (a 2 ≡ [])) ⊎ ((l 0 ≡ []) × (l 1 ≡ []) × (l 2 ≡ [])) = elim one [
+        inl e ↦ inl (outer_takes_none n _ _ (λ ts d o. e (0 ∷ ts) (omega arith, d) o), outer_takes_none n _ _ (λ ts d o. e (1 ∷ ts) (omega arith, d) o), outer_takes_none n _ _ (λ ts d o. e (2 ∷ ts) (omega arith, d) o))
+      | inr e ↦ inr (outer_gives_none n _ _ (λ ts d o. e (0 ∷ ts) (omega arith, d) o), outer_gives_none n _ _ (λ ts d o. e (1 ∷ ts) (omega arith, d) o), outer_gives_none n _ _ (λ ts d o. e (2 ∷ ts) (omega arith, d) o)) ] in
+    subst (λ z. Turns z (outer_takes (suc n) takes outer ++ rest) (outer_gives (suc n) gives outer ++ rest)) (sym (three_turns n takes gives))
+        (subst₂ (λ x y. Turns (c 0 ++ (c 1 ++ c 2)) (x ++ rest) (y ++ rest)) (sym (three_takes n takes outer)) (sym (three_gives n gives outer))
+            (three_blocks (c 0) (c 1) (c 2) (a 0) (a 1) (a 2) (l 0) (l 1) (l 2) (part 0 (omega arith)) (part 1 (omega arith)) (part 2 (omega arith)) none rest))
+
+-- it is enough that they meet behind each list of digits before the axis
+pub meet_behind : (axis n : ℕ) (takes gives : Lists) (outer : List ℕ → Bool)
+    → ((us : List ℕ) (m : ℕ) → length us ≡ axis → n ≡ length us + suc m → Each (λ u. u < 3) us → Meet m (λ ts. takes (us ++ ts)) (λ ts. gives (us ++ ts)) (λ ts. outer (us ++ ts)))
+    → axis < n → MeetBehind axis n takes gives outer
+meet_behind axis zero takes gives outer h a = absurd (omega arith)
+meet_behind zero (suc n) takes gives outer h a = h [] n refl (omega arith) tt
+meet_behind (suc axis) (suc n) takes gives outer h a = λ t b.
+    meet_behind axis n (behind t takes) (behind t gives) (behind t outer) (λ us m l e d. h (t ∷ us) m (ap suc l) (omega arith) (b, d)) (omega arith)
