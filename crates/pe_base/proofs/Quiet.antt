@@ -28,7 +28,7 @@ thirds-across zero side (x ∷ pos) (k ∷ ks) b l e h = ap₂ (λ y ys. y ∷ y
 thirds-across (suc axis) side (x ∷ pos) (k ∷ ks) b l e h = ap₂ (λ y ys. y ∷ ys) (omega (arith, e.0)) (thirds-across axis side pos ks b (omega arith) e.1 h)
 
 -- a rank is that of the parent, and then a number below the number of children
-value-below : (n : ℕ) (ts : List ℕ) → Each (λ t. t < 3) ts → value n ts < 3 ^ n
+pub value-below : (n : ℕ) (ts : List ℕ) → Each (λ t. t < 3) ts → value n ts < 3 ^ n
 value-below zero ts e = pow_three 0
 value-below (suc n) [] e = pow_three (suc n)
 value-below (suc n) (t ∷ ts) e =
@@ -59,7 +59,7 @@ Earlier axes way face level cell = rank_of axes way level (across face cell) < r
 abbrev pub Still : Face → Place → Type 0
 Still face cell = (face.side ≡ 0) × (slice_index cell.pos face.axis ≡ 0)
 
-when_same : (x y : ℕ) → (x == y) ≡ true → x ≡ y
+pub when_same : (x y : ℕ) → (x == y) ≡ true → x ≡ y
 when_same x y h = grind (arith, nat_tests)
 
 -- the children at the face are as their parent is
@@ -78,7 +78,7 @@ across_child axes way face cell ts four a b l d at =
     index zero (suc n) (k ∷ ks) a d = refl
     index (suc axis) (suc n) (k ∷ ks) a d = index axis n ks (omega arith) d.1
 
-later_child : (axes : ℕ) (way walk : Way) (face : Face) (level : ℕ) (cell : Place) (ts : List ℕ) → axes ≤ 4 → face.axis < axes → face.side < 2 → length cell.pos ≡ 4 → Digits3 axes ts → is_child_at axes walk cell face ts ≡ true
+pub later_child : (axes : ℕ) (way walk : Way) (face : Face) (level : ℕ) (cell : Place) (ts : List ℕ) → axes ≤ 4 → face.axis < axes → face.side < 2 → length cell.pos ≡ 4 → Digits3 axes ts → is_child_at axes walk cell face ts ≡ true
     → Later axes way face level cell → Later axes way face (suc level) (child_of axes walk cell ts)
 later_child axes way walk face level cell ts four a b l d at h =
     let child = child_of axes walk cell ts in
@@ -86,7 +86,7 @@ later_child axes way walk face level cell ts four a b l d at h =
         (subst (λ p. rank_of axes way (suc level) child < (rank axes way level p + 1) * 3 ^ axes) (thirds-child axes walk cell ts four l d) (rank-parent axes way level child.pos).1)
         (subst (λ p. rank axes way level p * 3 ^ axes ≤ rank_of axes way (suc level) (across face child)) (across_child axes walk face cell ts four a b l d at) (rank-parent axes way level (across face child).pos).0)
 
-earlier_child : (axes : ℕ) (way walk : Way) (face : Face) (level : ℕ) (cell : Place) (ts : List ℕ) → axes ≤ 4 → face.axis < axes → face.side < 2 → length cell.pos ≡ 4 → Digits3 axes ts → is_child_at axes walk cell face ts ≡ true
+pub earlier_child : (axes : ℕ) (way walk : Way) (face : Face) (level : ℕ) (cell : Place) (ts : List ℕ) → axes ≤ 4 → face.axis < axes → face.side < 2 → length cell.pos ≡ 4 → Digits3 axes ts → is_child_at axes walk cell face ts ≡ true
     → Earlier axes way face level cell → Earlier axes way face (suc level) (child_of axes walk cell ts)
 earlier_child axes way walk face level cell ts four a b l d at h =
     let child = child_of axes walk cell ts in
@@ -94,7 +94,7 @@ earlier_child axes way walk face level cell ts four a b l d at h =
         (subst (λ p. rank_of axes way (suc level) (across face child) < (rank axes way level p + 1) * 3 ^ axes) (across_child axes walk face cell ts four a b l d at) (rank-parent axes way level (across face child).pos).1)
         (subst (λ p. rank axes way level p * 3 ^ axes ≤ rank_of axes way (suc level) child) (thirds-child axes walk cell ts four l d) (rank-parent axes way level child.pos).0)
 
-still_child : (axes : ℕ) (walk : Way) (face : Face) (cell : Place) (ts : List ℕ) → face.axis < axes → length cell.pos ≡ 4 → axes ≤ 4 → Digits3 axes ts → is_child_at axes walk cell face ts ≡ true
+pub still_child : (axes : ℕ) (walk : Way) (face : Face) (cell : Place) (ts : List ℕ) → face.axis < axes → length cell.pos ≡ 4 → axes ≤ 4 → Digits3 axes ts → is_child_at axes walk cell face ts ≡ true
     → Still face cell → Still face (child_of axes walk cell ts)
 still_child axes walk face cell ts a l four d at h =
     (h.0, omega (arith, h.0, h.1, when_same (slice_index (child_ks axes walk cell ts) face.axis) (2 * face.side) at, child_index axes walk cell ts face.axis a (omega arith) d))

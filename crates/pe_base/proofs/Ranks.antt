@@ -96,7 +96,7 @@ rests-finer [] (k ∷ ks) l b = absurd (omega arith)
 rests-finer (x ∷ pos) [] l b = absurd (omega arith)
 rests-finer (x ∷ pos) (k ∷ ks) l b = ap₂ (λ y ys. y ∷ ys) (omega (arith, b.0)) (rests-finer pos ks (omega arith) b.1)
 
-Each-digits : (n : ℕ) (ts : List ℕ) → Digits3 n ts → Each (λ t. t < 3) ts
+pub Each-digits : (n : ℕ) (ts : List ℕ) → Digits3 n ts → Each (λ t. t < 3) ts
 Each-digits zero [] d = tt
 Each-digits zero (t ∷ ts) d = absurd (omega arith)
 Each-digits (suc n) [] d = absurd (omega arith)

@@ -114,3 +114,23 @@ pub record Turn : Type 0 where
 abbrev pub Turns : List Turn → List Place → List Place → Type 0
 Turns [] before after = before ≡ after
 Turns (turn ∷ turns) before after = (beneath : List Place) × (before ≡ turn.takes ++ beneath) × Turns turns (turn.gives ++ beneath) after
+
+-- What the walk of a cell does on one stack, by axis and parity. Each child in turn takes off what arrives in it, and
+-- puts on what it leaves.
+abbrev pub child_turn : ℕ → Way → (Place → Bool) → ℕ → ℕ → ℕ → Place → Turn
+child_turn axes way counts levels axis parity child = record {
+    takes = arriving axes way counts levels (face_on axis parity child) child;
+    gives = leaving axes way counts levels (face_on axis parity child) child }
+
+abbrev pub child_turns : ℕ → Way → (Place → Bool) → ℕ → ℕ → ℕ → Place → List Turn
+child_turns axes way counts zero axis parity cell = []
+child_turns axes way counts (suc levels) axis parity cell = map (child_turn axes way counts levels axis parity) (children axes way cell)
+
+-- the cell takes off its own corners before, and puts on its own corners after
+abbrev pub corner_turn : List Place → List Place → Turn
+corner_turn takes gives = record { takes = takes; gives = gives }
+
+abbrev pub cell_turns : ℕ → Way → (Place → Bool) → ℕ → ℕ → ℕ → Place → List Turn
+cell_turns axes way counts levels axis parity cell =
+    corner_turn (in_corners axes way counts (face_on axis parity cell) cell) []
+    ∷ child_turns axes way counts levels axis parity cell ++ corner_turn [] (out_corners axes way counts (face_on axis parity cell) cell) ∷ []
