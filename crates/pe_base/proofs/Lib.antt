@@ -6,4 +6,4 @@ pub mod FaceLists
 pub mod Ranks
 pub mod Quiet
 pub mod Blocks
-pub mod Composition
+pub mod Waits

@@ -1,6 +1,6 @@
 -- Lists made by `map`, `flat_map`, `filter` and `reverse`.
-use Rattle.std.proofs.Common.{◌≡◌, ℕ, Bool, true, false, cond, ◌&&◌, List, [], ◌∷◌, ◌++◌, map, reverse, filter, refl, sym, ap, ap₂, ◌∙◌, append_assoc, append-nil, subst, arith}
-use Rattle.std.specs.List.{flat_map}
+use Rattle.std.proofs.Common.{◌≡◌, ℕ, Bool, true, false, cond, ◌&&◌, ◌||◌, ◌⊎◌, ◌≤◌, true≢false, inl, inr, List, [], ◌∷◌, ◌++◌, map, reverse, filter, refl, sym, ap, ap₂, ◌∙◌, append_assoc, append-nil, subst, arith}
+use Rattle.std.specs.List.{flat_map, list_any}
 use Rattle.std.proofs.lemmas.List.{reverse-append, map-append}
 use Rattle.std.proofs.lemmas.List.Elements.{filter-append}
 use Rattle.std.proofs.lemmas.List.Concat.{flat_map-append}
@@ -137,3 +137,71 @@ filter-filter p q (x ∷ xs) = go (q x) (filter-filter p q xs)
 pub Each-reverse : {X : Type 0} (P : X → Type 0) (xs : List X) → Each P xs → Each P (reverse xs)
 Each-reverse P [] e = tt
 Each-reverse P (x ∷ xs) e = subst (Each P) (sym (reverse-cons x xs)) (Each-append P (reverse xs) (x ∷ []) (Each-reverse P xs e.1) (e.0, tt))
+
+-- x is an item
+abbrev pub In : {X : Type 0} → X → List X → Type 0
+In x [] = 1 ≤ 0
+In x (y ∷ ys) = (x ≡ y) ⊎ In x ys
+
+pub In-append_left : {X : Type 0} (x : X) (xs ys : List X) → In x xs → In x (xs ++ ys)
+In-append_left x [] ys h = absurd (omega arith)
+In-append_left x (y ∷ xs) ys h = elim h [ inl e ↦ inl e | inr k ↦ inr (In-append_left x xs ys k) ]
+
+pub In-append_right : {X : Type 0} (x : X) (xs ys : List X) → In x ys → In x (xs ++ ys)
+In-append_right x [] ys h = h
+In-append_right x (y ∷ xs) ys h = inr (In-append_right x xs ys h)
+
+pub In-map : {X Y : Type 0} (f : X → Y) (x : X) (xs : List X) → In x xs → In (f x) (map f xs)
+In-map f x [] h = absurd (omega arith)
+In-map f x (y ∷ xs) h = elim h [ inl e ↦ inl (ap f e) | inr k ↦ inr (In-map f x xs k) ]
+
+pub In-flat_map : {X Y : Type 0} (f : X → List Y) (x : X) (y : Y) (xs : List X) → In x xs → In y (f x) → In y (flat_map f xs)
+In-flat_map f x y [] h k = absurd (omega arith)
+In-flat_map f x y (z ∷ xs) h k = elim h [
+    inl e ↦ In-append_left y (f z) (flat_map f xs) (subst (λ w. In y (f w)) e k)
+  | inr i ↦ In-append_right y (f z) (flat_map f xs) (In-flat_map f x y xs i k) ]
+
+pub In-filter : {X : Type 0} (p : X → Bool) (x : X) (xs : List X) → p x ≡ true → In x xs → In x (filter p xs)
+In-filter p x [] t h = absurd (omega arith)
+In-filter p x (y ∷ xs) t h = go (p y) refl (λ k. In-filter p x xs t k) h
+  where
+    go : (b : Bool) → p y ≡ b → (In x xs → In x (filter p xs)) → (x ≡ y) ⊎ In x xs → In x (cond b (y ∷ filter p xs) (filter p xs))
+    go true is rest k = elim k [ inl e ↦ inl e | inr i ↦ inr (rest i) ]
+    go false is rest k = elim k [ inl e ↦ absurd (true≢false (sym t ∙ ap p e ∙ is)) | inr i ↦ rest i ]
+
+pub In-reverse : {X : Type 0} (x : X) (xs : List X) → In x xs → In x (reverse xs)
+In-reverse x [] h = absurd (omega arith)
+In-reverse x (y ∷ xs) h = subst (In x) (sym (reverse-cons y xs)) (elim h [ inl e ↦ In-append_right x (reverse xs) (y ∷ []) (inl e) | inr k ↦ In-append_left x (reverse xs) (y ∷ []) (In-reverse x xs k) ])
+
+pub Each-In : {X : Type 0} (P : X → Type 0) (x : X) (xs : List X) → Each P xs → In x xs → P x
+Each-In P x [] e h = absurd (omega arith)
+Each-In P x (y ∷ xs) e h = elim h [ inl is ↦ subst P (sym is) e.0 | inr k ↦ Each-In P x xs e.1 k ]
+
+-- tests that no item passes
+pub list_any_none : {X : Type 0} (p : X → Bool) (xs : List X) → Each (λ x. p x ≡ false) xs → list_any p xs ≡ false
+list_any_none p [] e = refl
+list_any_none p (x ∷ xs) e = ap₂ (λ a b. a || b) e.0 (list_any_none p xs e.1)
+
+or_left : (a b : Bool) → (a || b) ≡ false → a ≡ false
+or_left true b h = h
+or_left false b h = refl
+
+or_right : (a b : Bool) → (a || b) ≡ false → b ≡ false
+or_right true b h = absurd (true≢false h)
+or_right false b h = h
+
+pub none_Each : {X : Type 0} (p : X → Bool) (xs : List X) → list_any p xs ≡ false → Each (λ x. p x ≡ false) xs
+none_Each p [] h = tt
+none_Each p (x ∷ xs) h = (or_left (p x) (list_any p xs) h, none_Each p xs (or_right (p x) (list_any p xs) h))
+
+pub Each-left : {X : Type 0} (P : X → Type 0) (xs ys : List X) → Each P (xs ++ ys) → Each P xs
+Each-left P [] ys e = tt
+Each-left P (x ∷ xs) ys e = (e.0, Each-left P xs ys e.1)
+
+pub Each-right : {X : Type 0} (P : X → Type 0) (xs ys : List X) → Each P (xs ++ ys) → Each P ys
+Each-right P [] ys e = e
+Each-right P (x ∷ xs) ys e = Each-right P xs ys e.1
+
+pub Each-parts : {X Y : Type 0} (P : Y → Type 0) (f : X → List Y) (xs : List X) → Each P (flat_map f xs) → Each (λ x. Each P (f x)) xs
+Each-parts P f [] e = tt
+Each-parts P f (x ∷ xs) e = (Each-left P (f x) (flat_map f xs) e, Each-parts P f xs (Each-right P (f x) (flat_map f xs) e))

@@ -63,10 +63,10 @@ pub when_same : (x y : ℕ) → (x == y) ≡ true → x ≡ y
 when_same x y h = grind (arith, nat_tests)
 
 -- the children at the face are as their parent is
-less_below : (a b w x y : ℕ) → a < b → x < (a + 1) * w → b * w ≤ y → x < y
+pub less_below : (a b w x y : ℕ) → a < b → x < (a + 1) * w → b * w ≤ y → x < y
 less_below a b w x y h lo hi = let m : (a + 1) * w ≤ b * w = mul-le-mul_right w (omega arith) in omega arith
 
-across_child : (axes : ℕ) (way : Way) (face : Face) (cell : Place) (ts : List ℕ) → axes ≤ 4 → face.axis < axes → face.side < 2 → length cell.pos ≡ 4 → Digits3 axes ts → is_child_at axes way cell face ts ≡ true
+pub across_child : (axes : ℕ) (way : Way) (face : Face) (cell : Place) (ts : List ℕ) → axes ≤ 4 → face.axis < axes → face.side < 2 → length cell.pos ≡ 4 → Digits3 axes ts → is_child_at axes way cell face ts ≡ true
     → thirds (across face (child_of axes way cell ts)).pos ≡ (across face cell).pos
 across_child axes way face cell ts four a b l d at =
     thirds-across face.axis face.side cell.pos (child_ks axes way cell ts ++ replicate (4 - axes) 0) b (l ∙ sym (length-child_digits axes way cell ts four d)) (child_digits-below axes way cell ts d)
@@ -129,7 +129,7 @@ at_face_none axes walk test face Quiet fails passes four a b finest levels level
                 (Each-weaker _ _ (λ ts d. go levels (suc level) (child_of axes walk cell ts) (omega arith) (child_four axes walk cell ts four l d.0) (omega arith) (passes level cell ts l d.0 d.1 q))
                     (filter (is_child_at axes walk cell face) (digit_lists axes)) (Each-filter (Digits3 axes) (is_child_at axes walk cell face) (digit_lists axes) (digit_lists_below axes))))
 
-false_unless : (b : Bool) → (b ≡ true → 1 ≤ 0) → b ≡ false
+pub false_unless : (b : Bool) → (b ≡ true → 1 ≤ 0) → b ≡ false
 false_unless true h = absurd (omega (arith, h refl))
 false_unless false h = refl
 

@@ -9,7 +9,7 @@
 --     +-----v-----+       at the face between them
 --
 -- All is defined on the regular tree of cells, some levels deep below a cell. A test says which vertices count.
-use Rattle.std.specs.Prelude.{◌≡◌, ℕ, zero, suc, ◌+◌, ◌-◌, ◌*◌, ◌%◌, ◌^◌, Bool, ◌&&◌, ◌==◌, nat_eq, List, [], ◌∷◌, ◌++◌, map, filter, reverse, if◌then◌else◌, slice_index, slice_set}
+use Rattle.std.specs.Prelude.{◌≡◌, ℕ, zero, suc, ◌+◌, ◌-◌, ◌*◌, ◌%◌, ◌^◌, Bool, false, ◌&&◌, ◌==◌, nat_eq, List, [], ◌∷◌, ◌++◌, map, filter, reverse, if◌then◌else◌, slice_index, slice_set}
 use Rattle.std.specs.List.{flat_map, range_with_len, list_any}
 use Rattle.std.specs.Cmp.Lexicographic.{pointwise}
 use Rattle.pe_base.specs.declared.place.Place.{Place}
@@ -105,32 +105,41 @@ in_corners axes way counts face cell = arriving axes way counts 0 face cell
 abbrev pub out_corners : ℕ → Way → (Place → Bool) → Face → Place → List Place
 out_corners axes way counts face cell = leaving axes way counts 0 face cell
 
--- on a stack of vertices, one list is taken off the top, and another is put there
+-- a vertex is touched in the walk of a cell
+abbrev pub is_touched : ℕ → Way → ℕ → Place → Place → Bool
+is_touched axes way levels cell vertex = list_any (λ touch. is_same touch.vertex vertex) (loads axes way levels cell)
+
+-- a part of the walk, on one stack: what it takes off the top, what it puts there, and the vertices that it touches
 pub record Turn : Type 0 where
   pub takes : List Place
   pub gives : List Place
+  pub touches : Place → Bool
 
--- some turns on a stack, the top first: each finds what it takes on top, and leaves what is beneath as it was
+-- Some turns on a stack, the top first. Each finds what it takes on top, and leaves what is beneath as it was: none of
+-- that is touched meanwhile.
 abbrev pub Turns : List Turn → List Place → List Place → Type 0
 Turns [] before after = before ≡ after
-Turns (turn ∷ turns) before after = (beneath : List Place) × (before ≡ turn.takes ++ beneath) × Turns turns (turn.gives ++ beneath) after
+Turns (turn ∷ turns) before after =
+    (beneath : List Place) × (before ≡ turn.takes ++ beneath) × (list_any turn.touches beneath ≡ false) × Turns turns (turn.gives ++ beneath) after
 
 -- What the walk of a cell does on one stack, by axis and parity. Each child in turn takes off what arrives in it, and
 -- puts on what it leaves.
 abbrev pub child_turn : ℕ → Way → (Place → Bool) → ℕ → ℕ → ℕ → Place → Turn
 child_turn axes way counts levels axis parity child = record {
     takes = arriving axes way counts levels (face_on axis parity child) child;
-    gives = leaving axes way counts levels (face_on axis parity child) child }
+    gives = leaving axes way counts levels (face_on axis parity child) child;
+    touches = is_touched axes way levels child }
 
 abbrev pub child_turns : ℕ → Way → (Place → Bool) → ℕ → ℕ → ℕ → Place → List Turn
 child_turns axes way counts zero axis parity cell = []
 child_turns axes way counts (suc levels) axis parity cell = map (child_turn axes way counts levels axis parity) (children axes way cell)
 
 -- the cell takes off its own corners before, and puts on its own corners after
-abbrev pub corner_turn : List Place → List Place → Turn
-corner_turn takes gives = record { takes = takes; gives = gives }
+abbrev pub corner_turn : ℕ → Way → Place → List Place → List Place → Turn
+corner_turn axes way cell takes gives = record { takes = takes; gives = gives; touches = is_touched axes way 0 cell }
 
 abbrev pub cell_turns : ℕ → Way → (Place → Bool) → ℕ → ℕ → ℕ → Place → List Turn
 cell_turns axes way counts levels axis parity cell =
-    corner_turn (in_corners axes way counts (face_on axis parity cell) cell) []
-    ∷ child_turns axes way counts levels axis parity cell ++ corner_turn [] (out_corners axes way counts (face_on axis parity cell) cell) ∷ []
+    corner_turn axes way cell (in_corners axes way counts (face_on axis parity cell) cell) []
+    ∷ child_turns axes way counts levels axis parity cell
+    ++ corner_turn axes way cell [] (out_corners axes way counts (face_on axis parity cell) cell) ∷ []
