@@ -1,5 +1,5 @@
 -- The turns of the children on one stack, by the blocks in which they meet.
-use Rattle.std.proofs.Common.{◌≡◌, ◌≢◌, ℕ, zero, suc, ◌+◌, ◌-◌, ◌*◌, ◌<◌, ◌≤◌, ◌⊎◌, Bool, true, false, cond, ◌||◌, ◌^◌, List, [], ◌∷◌, ◌++◌, map, filter, reverse, length, refl, sym, ap, ap₂, ◌∙◌, subst, subst₂, inl, inr, append_assoc, append-nil, mul-le-mul_right, arith}
+use Rattle.std.proofs.Common.{◌≡◌, ◌≢◌, ℕ, zero, suc, ◌+◌, ◌*◌, ◌<◌, ◌≤◌, ◌⊎◌, Bool, true, false, cond, ◌||◌, ◌^◌, List, [], ◌∷◌, ◌++◌, map, filter, reverse, length, refl, sym, ap, ap₂, ◌∙◌, subst, subst₂, inl, inr, append_assoc, append-nil, mul-le-mul_right, arith}
 use Rattle.std.specs.List.{flat_map, list_any}
 use Rattle.std.proofs.lemmas.List.{map-append, reverse-append, reverse-reverse}
 use Rattle.std.proofs.lemmas.List.Elements.{filter-append}
@@ -7,7 +7,7 @@ use Rattle.std.proofs.lemmas.List.Concat.{flat_map-append}
 use Rattle.pe_base.specs.declared.place.Place.{Place}
 use Rattle.pe_base.specs.Curve.{digit_lists}
 use Rattle.pe_base.specs.Faces.{Turn, Turns}
-use Rattle.pe_base.proofs.Lists.{Each, Each-all, Each-weaker, Each-reverse, Each-filter, map-map, map_same, flat_map_same, flat_map_none, flat_map-map, filter-map, filter_same, filter_none, map-reverse, reverse-cons}
+use Rattle.pe_base.proofs.Lists.{Each, Each-weaker, Each-reverse, Each-filter, map-map, flat_map_same, flat_map_none, flat_map-map, filter-map, filter_none, map-reverse, reverse-cons}
 use Rattle.pe_base.proofs.Mirrors.{Digits3, complement, digit_lists_below, reverse-digit_lists}
 
 use Rattle.pe_base.proofs.Ranks.{value, Rising, Rising-above, digit_lists_rise, Each-digits}

@@ -1,15 +1,14 @@
 -- The children of a cell, one formula for both ways.
-use Rattle.std.proofs.Common.{◌≡◌, ◌≢◌, ℕ, zero, suc, ◌+◌, ◌-◌, ◌*◌, ◌/◌, ◌%◌, ◌^◌, ◌<◌, ◌≤◌, ◌⊎◌, Bool, true, false, cond, List, [], ◌∷◌, ◌++◌, map, reverse, length, get_or, set, replicate, slice_index, sum, refl, sym, ap, ap₂, ◌∙◌, subst, inl, inr, arith}
-use Rattle.std.specs.List.{range_with_len, remove}
+use Rattle.std.proofs.Common.{◌≡◌, ◌≢◌, ℕ, zero, suc, ◌+◌, ◌-◌, ◌*◌, ◌%◌, ◌<◌, ◌≤◌, List, [], ◌∷◌, ◌++◌, map, reverse, length, replicate, slice_index, refl, sym, ap, ◌∙◌, subst, arith}
+use Rattle.std.specs.List.{range_with_len}
 use Rattle.std.proofs.lemmas.List.{reverse-reverse, length-set, get_or-set_same, get_or-set_other}
 use Rattle.std.proofs.lemmas.List.Sums.{sum_by-remove, sum_by-set}
 use Rattle.pe_base.specs.declared.place.Place.{Place}
-use Rattle.pe_base.specs.declared.place.Digits.{Digits}
 use Rattle.pe_base.specs.declared.way.Way.{Way}
 use Rattle.pe_base.specs.declared.way.Way.TheVariants.{Forward, Inverted}
-use Rattle.pe_base.specs.Places.{finer, padded, child_at}
-use Rattle.pe_base.specs.Curve.{digit_lists, turned, flip, flips, digits_of, along, child_digits, children}
-use Rattle.pe_base.proofs.Lists.{Each, Each-weaker, map-map, map_same, map-reverse}
+use Rattle.pe_base.specs.Places.{finer, child_at}
+use Rattle.pe_base.specs.Curve.{digit_lists, turned, flip, flips, digits_of, child_digits, children}
+use Rattle.pe_base.proofs.Lists.{Each-weaker, map-map, map_same, map-reverse}
 use Rattle.pe_base.proofs.Mirrors.{Digits3, complement, digit_lists_below, complement_below, reverse-digit_lists, turned_below, Pairs, turned_complement, turned_same, AgreeBut, up}
 
 abbrev pub turn_of : Way → ℕ

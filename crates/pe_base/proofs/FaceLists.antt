@@ -1,19 +1,19 @@
 -- The lists of a face: those of the cell's own corners and of its children at the face; neighbours agree.
-use Rattle.std.proofs.Common.{◌≡◌, ℕ, zero, suc, ◌+◌, ◌-◌, ◌*◌, ◌/◌, ◌%◌, ◌^◌, ◌<◌, ◌≤◌, ◌⊎◌, Bool, true, false, cond, ◌&&◌, ◌==◌, List, [], ◌∷◌, ◌++◌, map, filter, reverse, length, get_or, set, slice_index, slice_set, replicate, refl, sym, ap, ap₂, ◌∙◌, subst, inl, inr, le_trans, pow-suc, mul-le-mul_right, arith}
-use Rattle.std.specs.List.{flat_map, range_with_len}
-use Rattle.std.proofs.lemmas.List.{length-set, map-append, reverse-append, reverse-reverse}
+use Rattle.std.proofs.Common.{◌≡◌, ℕ, zero, suc, ◌+◌, ◌-◌, ◌*◌, ◌^◌, ◌<◌, ◌≤◌, ◌⊎◌, Bool, true, false, ◌&&◌, ◌==◌, List, [], ◌∷◌, ◌++◌, map, filter, reverse, length, slice_index, slice_set, replicate, refl, sym, ap, ap₂, ◌∙◌, subst, inl, inr, le_trans, pow-suc, mul-le-mul_right, arith}
+use Rattle.std.specs.List.{flat_map}
+use Rattle.std.proofs.lemmas.List.{length-set, map-append, reverse-append}
 use Rattle.std.proofs.lemmas.List.Elements.{filter-append}
 use Rattle.std.proofs.lemmas.Bool.Decides.{nat_tests}
 use Rattle.pe_base.specs.declared.place.Place.{Place}
 use Rattle.pe_base.specs.declared.way.Way.{Way}
 use Rattle.pe_base.specs.declared.way.Way.TheVariants.{Forward, Inverted}
-use Rattle.pe_base.specs.Places.{bits, moved, corner, finer}
-use Rattle.pe_base.specs.Curve.{digit_lists, turned, children}
-use Rattle.pe_base.specs.Faces.{Face, Touch, across, plane, in_finest, is_on, is_step, corner_touches, loads, stores, comes_across, goes_across, at_face, arriving, leaving}
-use Rattle.pe_base.proofs.Lists.{Each, Each-all, Each-weaker, Each-append, Each-map, Each-flat_map, Each-filter, Each-reverse, map-map, map_same, flat_map_same, flat_map-map, flat_map-filter, map-flat_map, filter-flat_map, map-reverse, reverse-flat_map, filter-map, filter-reverse, filter_same, filter_none, filter-filter}
+use Rattle.pe_base.specs.Places.{moved}
+use Rattle.pe_base.specs.Curve.{digit_lists, children}
+use Rattle.pe_base.specs.Faces.{Face, Touch, across, in_finest, is_step, corner_touches, loads, stores, comes_across, goes_across, at_face, arriving, leaving}
+use Rattle.pe_base.proofs.Lists.{Each, Each-all, Each-weaker, Each-append, Each-map, Each-flat_map, Each-filter, Each-reverse, flat_map_same, flat_map-map, flat_map-filter, reverse-flat_map, filter_same, filter_none}
 use Rattle.pe_base.proofs.Mirrors.{Digits3, digit_lists_below, turned_across, turned_across-digit, up}
-use Rattle.pe_base.proofs.Children.{opposite, flips_in, flips_agree, length-flips, child_pos, child_of, child_ks, child_ks-below, child_index, child_length, children_are, reverse-children, slice_index-below}
-use Rattle.pe_base.proofs.Corners.{IsBits, bit_lists, bit_lists_below, bits_are, shared_corners, slice_index-moved, slice_index-bits, touch_at, corner_touches_are, pow_three, same_tests, own_corners}
+use Rattle.pe_base.proofs.Children.{opposite, flips_in, flips_agree, length-flips, child_of, child_ks, child_ks-below, child_index, child_length, children_are, reverse-children, slice_index-below}
+use Rattle.pe_base.proofs.Corners.{IsBits, bit_lists, bit_lists_below, shared_corners, slice_index-moved, slice_index-bits, touch_at, corner_touches_are, pow_three, same_tests, own_corners}
 
 abbrev pub face_of : ℕ → ℕ → Face
 face_of axis side = record { axis = axis; side = side }

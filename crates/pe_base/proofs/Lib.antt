@@ -7,3 +7,5 @@ pub mod Ranks
 pub mod Quiet
 pub mod Blocks
 pub mod Waits
+pub mod Meetings
+pub mod Composition

@@ -1,11 +1,9 @@
 -- The digits of the curve, mirrored and turned.
-use Rattle.std.proofs.Common.{◌≡◌, ℕ, zero, suc, ◌+◌, ◌-◌, ◌*◌, ◌/◌, ◌%◌, ◌^◌, ◌<◌, ◌≤◌, ◌⊎◌, Bool, true, false, cond, if◌then◌else◌, ◌==◌, List, [], ◌∷◌, ◌++◌, map, reverse, length, get_or, set, take, replicate, slice_index, refl, sym, ap, ap₂, ◌∙◌, subst, inl, inr, append-nil, arith}
-use Rattle.std.specs.List.{flat_map}
-use Rattle.std.proofs.lemmas.List.{reverse-append, map-append}
+use Rattle.std.proofs.Common.{◌≡◌, ℕ, zero, suc, ◌+◌, ◌-◌, ◌*◌, ◌%◌, ◌<◌, ◌≤◌, ◌⊎◌, List, [], ◌∷◌, ◌++◌, map, reverse, length, set, slice_index, refl, sym, ap, ap₂, ◌∙◌, inl, inr, arith}
 use Rattle.std.proofs.lemmas.Bool.Decides.{nat_tests}
 use Rattle.pe_base.specs.Places.{finer}
 use Rattle.pe_base.specs.Curve.{digit_lists, mirrored, turned}
-use Rattle.pe_base.proofs.Lists.{Each, Each-weaker, Each-append, Each-map, map-map, map_same, map-reverse, reverse-flat_map, flat_map-map, map-flat_map}
+use Rattle.pe_base.proofs.Lists.{Each, Each-weaker, Each-append, Each-map, map-map, map-reverse, reverse-flat_map, map-flat_map}
 
 -- as many digits below 3 as there are axes
 abbrev pub Digits3 : ℕ → List ℕ → Type 0

@@ -1,17 +1,16 @@
 -- Faces where nothing arrives, and faces where nothing is left.
-use Rattle.std.proofs.Common.{◌≡◌, ℕ, zero, suc, ◌+◌, ◌-◌, ◌*◌, ◌/◌, ◌%◌, ◌^◌, ◌<◌, ◌≤◌, ◌⊎◌, ◌≢◌, length-set, Bool, true, false, cond, ◌&&◌, ◌==◌, if◌then◌else◌, List, [], ◌∷◌, ◌++◌, map, filter, reverse, length, get_or, set, take, drop, slice_index, slice_set, replicate, refl, sym, ap, ap₂, ◌∙◌, subst, true≢false, inl, inr, pow-suc, le_trans, mul-le-mul_right, mod-lt, take-append-drop, arith}
-use Rattle.std.specs.List.{flat_map}
+use Rattle.std.proofs.Common.{◌≡◌, ℕ, zero, suc, ◌+◌, ◌-◌, ◌*◌, ◌/◌, ◌%◌, ◌^◌, ◌<◌, ◌≤◌, ◌⊎◌, ◌≢◌, length-set, Bool, true, false, ◌==◌, List, [], ◌∷◌, ◌++◌, map, filter, reverse, length, set, take, drop, slice_index, slice_set, replicate, refl, sym, ap, ap₂, ◌∙◌, subst, inl, inr, pow-suc, mul-le-mul_right, take-append-drop, arith}
 use Rattle.std.proofs.lemmas.Bool.Decides.{nat_tests}
 use Rattle.pe_base.specs.declared.place.Place.{Place}
 use Rattle.pe_base.specs.declared.way.Way.{Way}
 use Rattle.pe_base.specs.Places.{finer, moved}
-use Rattle.pe_base.specs.Curve.{digit_lists, mirrored, turned, children}
-use Rattle.pe_base.specs.Faces.{Face, Touch, beside, across, is_step, corner_touches, loads, comes_across, goes_across, at_face, arriving, leaving}
+use Rattle.pe_base.specs.Curve.{digit_lists, turned}
+use Rattle.pe_base.specs.Faces.{Face, Touch, beside, across, corner_touches, loads, comes_across, goes_across, at_face, arriving, leaving}
 use Rattle.pe_base.proofs.Lists.{Each, Each-all, Each-weaker, Each-map, Each-filter, filter_none, flat_map_none}
 use Rattle.pe_base.proofs.Mirrors.{Digits3, digit_lists_below, sum_of, sum-turned, mirrored_below}
-use Rattle.pe_base.proofs.Children.{opposite, flips_in, length-flips, child_pos, child_of, child_ks, child_ks-below, child_index}
+use Rattle.pe_base.proofs.Children.{opposite, flips_in, length-flips, child_of, child_ks, child_ks-below, child_index}
 use Rattle.pe_base.proofs.Corners.{bit_lists, own_corners, pow_three}
-use Rattle.pe_base.proofs.FaceLists.{face_of, is_child_at, at_face_parts, leaving_is}
+use Rattle.pe_base.proofs.FaceLists.{is_child_at, at_face_parts, leaving_is}
 use Rattle.pe_base.proofs.Ranks.{value, thirds, rests, rank, rank_of, thirds-finer, thirds-child, child_digits-below, length-child_digits, child_four, and_right, is_step-rises}
 
 -- the parent of a child's neighbour at a face of the parent is the parent's neighbour

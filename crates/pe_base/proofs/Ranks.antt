@@ -1,17 +1,17 @@
 -- The place of a cell in the order of its level, as a number.
-use Rattle.std.proofs.Common.{◌≡◌, ℕ, zero, suc, ◌+◌, ◌-◌, ◌*◌, ◌/◌, ◌%◌, ◌^◌, ◌<◌, ◌≤◌, ◌⊎◌, Bool, true, false, cond, ◌&&◌, ◌==◌, List, [], ◌∷◌, ◌++◌, map, filter, length, get_or, set, take, drop, slice_index, slice_set, replicate, refl, sym, ap, ap₂, ◌∙◌, subst, true≢false, ◌||◌, nat_eq, inl, inr, pow-suc, le_trans, mul-le-mul_right, take-append-drop, length-append, arith}
+use Rattle.std.proofs.Common.{◌≡◌, ℕ, zero, suc, ◌+◌, ◌-◌, ◌*◌, ◌/◌, ◌%◌, ◌^◌, ◌<◌, ◌≤◌, ◌⊎◌, Bool, true, false, cond, ◌&&◌, ◌==◌, List, [], ◌∷◌, ◌++◌, map, filter, length, take, replicate, refl, sym, ap, ap₂, ◌∙◌, subst, true≢false, ◌||◌, nat_eq, inl, inr, pow-suc, mul-le-mul_right, length-append, arith}
 use Rattle.std.specs.List.{flat_map, list_any}
 use Rattle.std.specs.Cmp.Lexicographic.{pointwise}
 use Rattle.std.proofs.lemmas.List.{length-replicate}
 use Rattle.std.proofs.lemmas.Bool.Decides.{nat_tests}
 use Rattle.pe_base.specs.declared.place.Place.{Place}
 use Rattle.pe_base.specs.declared.way.Way.{Way}
-use Rattle.pe_base.specs.Places.{finer, root}
+use Rattle.pe_base.specs.Places.{finer}
 use Rattle.pe_base.specs.Curve.{digit_lists, turned, children, order}
 use Rattle.pe_base.specs.Around.{is_corner, around, steps}
-use Rattle.pe_base.specs.Faces.{Face, across, beside, is_same, is_step}
+use Rattle.pe_base.specs.Faces.{is_same, is_step}
 use Rattle.pe_base.proofs.Lists.{Each, Each-all, Each-weaker, Each-append, Each-map, Each-flat_map}
-use Rattle.pe_base.proofs.Mirrors.{Digits3, digit_lists_below, sum_of, sum-turned, turned_twice, mirrored_below}
+use Rattle.pe_base.proofs.Mirrors.{Digits3, digit_lists_below, sum_of, turned_twice}
 use Rattle.pe_base.proofs.Children.{flips_in, length-flips, child_pos, child_of, child_ks, child_ks-below, children_are, length-digits}
 
 -- the number with some digits in base 3, the first digit leading
