@@ -9,3 +9,4 @@ pub mod Blocks
 pub mod Waits
 pub mod Meetings
 pub mod Composition
+pub mod Counts

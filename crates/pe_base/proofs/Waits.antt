@@ -30,11 +30,11 @@ abbrev pub deeper : ℕ → ℕ → ℕ
 deeper zero level = level
 deeper (suc m) level = suc (deeper m level)
 
-deeper_is : (m level : ℕ) → deeper m level ≡ level + m
+pub deeper_is : (m level : ℕ) → deeper m level ≡ level + m
 deeper_is zero level = omega arith
 deeper_is (suc m) level = omega (arith, deeper_is m level)
 
-deeper-suc : (m level : ℕ) → deeper m (suc level) ≡ suc (deeper m level)
+pub deeper-suc : (m level : ℕ) → deeper m (suc level) ≡ suc (deeper m level)
 deeper-suc m level = omega (arith, deeper_is m level, deeper_is m (suc level))
 
 -- the order of two cells is that of their ancestors

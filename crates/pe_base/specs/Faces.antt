@@ -143,3 +143,15 @@ cell_turns axes way counts levels axis parity cell =
     corner_turn axes way cell (in_corners axes way counts (face_on axis parity cell) cell) []
     ∷ child_turns axes way counts levels axis parity cell
     ++ corner_turn axes way cell [] (out_corners axes way counts (face_on axis parity cell) cell) ∷ []
+
+-- the cells for which a vertex is touched, in the order of the touches
+abbrev pub touched_for : Place → List Touch → List Place
+touched_for vertex touches = map (λ touch. touch.cell) (filter (λ touch. is_same touch.vertex vertex) touches)
+
+-- the step around a vertex by which the walk comes to a cell, none for the first: the pops of its load there
+abbrev pub steps_to : ℕ → Way → Place → Place → List (Place × Place)
+steps_to axes way vertex cell = filter (λ step. is_same step.1 cell) (steps (around axes way vertex))
+
+-- the step by which it goes on from there, none for the last: the pushes of its store there
+abbrev pub steps_from : ℕ → Way → Place → Place → List (Place × Place)
+steps_from axes way vertex cell = filter (λ step. is_same step.0 cell) (steps (around axes way vertex))
