@@ -3,5 +3,6 @@ pub mod Trace
 pub mod Scenario
 pub mod Scene
 pub mod Statuses
+pub mod LevelOne
 pub mod Run
 pub mod Stages
