@@ -1,3 +1,1 @@
 pub mod ScenarioLemmas
-pub mod FiredTexts
-pub mod RunLaws

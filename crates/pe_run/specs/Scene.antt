@@ -2,7 +2,8 @@
 use Rattle.std.specs.Prelude.{◌≡◌, ℕ, List, Option, Some, None, Result, Ok, Err}
 use Rattle.pe_base.specs.declared.event.Event.{Event}
 use Rattle.pe_base.specs.Events.{is_among}
-use Rattle.pe_base.specs.Firings.{Firing, trace_text}
+use Rattle.pe_base.specs.Working.{Firing}
+use Rattle.pe_base.specs.Traces.{trace_text}
 use Rattle.pe_run.specs.declared.trace.Trace.{Trace}
 use Rattle.pe_run.specs.declared.scenario.Scenario.{Scenario}
 use Rattle.pe_run.specs.declared.scenario.SceneFault.{SceneFault}

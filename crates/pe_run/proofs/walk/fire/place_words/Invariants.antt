@@ -1,7 +1,7 @@
 use Rattle.std.proofs.Common.{◌≡◌, ◌+◌, ◌*◌, ◌≤◌, ◌∷◌, ◌++◌, length, take, map, decimal}
 use Rattle.std.specs.List.{flat_map}
 use Rattle.pe_base.specs.Events.{name_of}
-use Rattle.pe_run.proofs.walk.place_words.Given as goal
+use Rattle.pe_run.proofs.walk.fire.place_words.Given as goal
 
 -- the name, the level, and the position on the axes so far
 abbrev pub invariant-loop-axis : goal.invariant-loop-axis
