@@ -1,3 +1,4 @@
+pub mod Words
 pub mod Trace
 pub mod Scenario
 pub mod Scene
@@ -5,3 +6,6 @@ pub mod Statuses
 pub mod LevelOne
 pub mod Traffic
 pub mod Walked
+pub mod Depots
+pub mod Run
+pub mod Stages

@@ -2,26 +2,28 @@
 -- and of the step whose shelf call failed, if one did.
 use Rattle.std.specs.Prelude.{◌≡◌, ℕ, ◌⊎◌, Bool, ◌||◌, ◌==◌, MatchBool, List, [], ◌∷◌, ◌++◌, codes, Option, Some, None, IsSome, Result, Ok, Err}
 use Rattle.pe_base.specs.Lines.{shown_key, line, fault_line}
-use Rattle.pe_base.specs.Firings.{traversals_text}
+use Rattle.pe_base.specs.Traces.{traversals_text}
 use Rattle.pe_io.specs.declared.shelf.ShelfCall.{ShelfCall}
 use Rattle.pe_io.specs.declared.shelf.ShelfCall.TheVariants.{Get}
 use Rattle.pe_io.specs.Counts.{Rises}
 use Rattle.pe_io.specs.Sink.{Appends, AppendsPrefix}
 use Rattle.pe_io.specs.Shelf.{Contents, FailedCall, failed_call}
-use Rattle.pe_run.specs.Words.{job_of}
+use Rattle.pe_stacks.specs.Holdings.{Holdings}
+use Rattle.pe_run.specs.Depots.{HasTraffic}
 use Rattle.pe_run.specs.Scenario.{Scene, Cause, too_long, not_toml, unbuilt, scene_of}
 
 -- the steps that call the shelf
 pub data Step : Type 0 where
   scenario_step : Step
 
--- how a run ends: the text that it has written, and its status
+-- how a run ends: the text that it has written, its status, and the scenario that was walked, if one was
 pub record Ran : Type 0 where
   pub text : List ℕ
   pub status : ℕ
+  pub walked : Option Scene
 
 abbrev pub ends : List ℕ → ℕ → Ran
-ends text status = record { text = text; status = status }
+ends text status = record { text = text; status = status; walked = None }
 
 -- the words name no job
 abbrev pub no_job : Ran
@@ -40,7 +42,11 @@ no_scenario = ends (fault_line (codes "shelf" ∷ codes "scenario" ∷ [])) 6
 -- the run of a scenario: its traversals, and a last line
 abbrev pub run_scene : Result Scene Cause → Ran
 run_scene (Err cause) = ends (scenario_fault cause) 3
-run_scene (Ok scene) = ends (traversals_text scene.traced scene.axes 1 scene.traversals ++ line (codes "done") []) 0
+run_scene (Ok scene) = record {
+  text = traversals_text scene.traced scene.axes scene.traversals ++ line (codes "done") [];
+  status = 0;
+  walked = Some scene;
+}
 
 -- the run with what the shelf gives under the scenario's name
 abbrev pub run_held : Option (List ℕ) → Ran
@@ -52,9 +58,6 @@ abbrev pub run_job : Option (List ℕ) → Contents → Option Step → Ran
 run_job None held failed = no_job
 run_job (Some name) held None = run_held (held name)
 run_job (Some name) held (Some scenario_step) = no_scenario
-
-abbrev pub run : List (List ℕ) → Contents → Option Step → Ran
-run words held failed = run_job (job_of words) held failed
 
 -- the names that a job asks the shelf for
 abbrev pub names_of : Option (List ℕ) → List (List ℕ)
@@ -91,14 +94,21 @@ Writes status old text new = MatchBool (is_interruption status) (AppendsPrefix o
 abbrev pub Answers : ℕ → ℕ → Type 0
 Answers status ran = (status ≡ ran) ⊎ (status ≡ 7) ⊎ (status ≡ 9)
 
--- text and status are those of the run of the job, over what the shelf holds, with the step that failed, if one did
-pub record IsRun (job : Option (List ℕ)) (told : Option Contents) (before after : ℕ) (last : Option FailedCall) (old new : Option (List ℕ)) (status : ℕ) : Type 0 where
+-- the depots have counted the walk of the scenario, if one was walked
+abbrev pub CountsWalk : {V C : Type 0} → Option Scene → Holdings V → Holdings C → Type 0
+CountsWalk None vertices cells = Unit {0}
+CountsWalk (Some scene) vertices cells = HasTraffic scene.axes scene.traversals vertices cells
+
+-- Text and status are those of the run of the job, over what the shelf holds, with the step that failed, if one did.
+-- On status 0 so is what the depots have counted.
+pub record IsRun {V C : Type 0} (job : Option (List ℕ)) (told : Option Contents) (before after : ℕ) (last : Option FailedCall) (old new : Option (List ℕ)) (vertices : Holdings V) (cells : Holdings C) (status : ℕ) : Type 0 where
   pub held : Contents
   pub failed : Option Step
   pub contents : Holds told held
   pub cause : MayFail job before after last status failed
   pub text : Writes status old (run_job job held failed).text new
   pub answer : Answers status (run_job job held failed).status
+  pub traffic : status ≡ 0 → CountsWalk (run_job job held failed).walked vertices cells
 
 -- why the shelf ended the run: a step's call failed, or the told contents do not hold the name
 abbrev pub IsShelfCause : Option (List ℕ) → Option Contents → ℕ → ℕ → Option FailedCall → Type 0

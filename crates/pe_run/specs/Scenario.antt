@@ -4,9 +4,7 @@ use Rattle.std.specs.Str.{bytes_eq, is_utf8}
 use Rattle.toml.specs.Data.{Data, Items, no_items, item, Members, no_members, member, get_member, as_str, as_integer, as_array}
 use Rattle.toml.specs.Parse.{parse_document}
 use Rattle.pe_base.specs.declared.event.Event.{Event}
-use Rattle.pe_base.specs.declared.event.Sort.{Sort}
-use Rattle.pe_base.specs.declared.event.Sort.TheVariants.{Plain, Vertex, Cell}
-use Rattle.pe_base.specs.Events.{event_named, is_among, sort_of}
+use Rattle.pe_base.specs.Events.{event_named, is_among}
 
 -- what a scenario says
 pub record Scene : Type 0 where
@@ -46,19 +44,10 @@ between low high (negsuc n) = None
 abbrev pub number_at : List ℕ → ℕ → ℕ → Members → Option ℕ
 number_at key low high members = option_and_then (between low high) (option_and_then as_integer (get_member key members))
 
--- an event whose trace is built: level 1 has no vertices yet
-abbrev pub is_traceable_sort : Sort → Bool
-is_traceable_sort Plain = true
-is_traceable_sort Vertex = false
-is_traceable_sort Cell = true
-
-abbrev pub is_traceable : Event → Bool
-is_traceable event = is_traceable_sort (sort_of event)
-
--- the event of a name, if it may be traced and is not yet among those seen
+-- the event of a name, if it is not yet among those seen
 abbrev pub next_event : (Event → Bool) → Data → Option Event
 next_event seen name =
-    option_and_then (λ event. if is_traceable event && not (seen event) then Some event else None) (option_and_then event_named (as_str name))
+    option_and_then (λ event. if not (seen event) then Some event else None) (option_and_then event_named (as_str name))
 
 -- the events of an array of names, none twice and none of those already seen, the last one first
 abbrev pub events_after : List Event → Items → Option (List Event)
@@ -70,14 +59,14 @@ abbrev pub events_in : Option Data → Option (List Event)
 events_in None = Some []
 events_in (Some value) = option_and_then (events_after []) (as_array value)
 
--- a document of the form that is built: `dim` is 2, `traversals` from 1 to 1000, `trace` an array of events
+-- a document of the form that is built: `dim` is from 2 to 4, `traversals` from 1 to 1000, `trace` an array of events
 unfoldable pub built_form : Members → Option Scene
 built_form members =
     if all_known members then option_and_then
     (λ axes. option_and_then
     (λ traversals. option_map (λ events. record { axes = axes; traversals = traversals; traced = is_among events }) (events_in (get_member (codes "trace") members)))
     (number_at (codes "traversals") 1 1000 members))
-    (number_at (codes "dim") 2 2 members)
+    (number_at (codes "dim") 2 4 members)
     else None
 
 -- a document of another form asks for what is not built

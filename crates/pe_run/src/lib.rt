@@ -1,14 +1,13 @@
 //! The top call of `peano run`: from the words of the command line to the text and the exit status.
 #![tactic(auto)]
 
+#[cfg(test)]
+mod rows;
+mod run;
 mod scenario;
 mod status;
 mod trace;
 mod walk;
-#[cfg(test)]
-mod walk_rows;
+mod words;
 
-pub use scenario::{SceneFault, Scenario, read_scenario};
-pub use status::Stop;
-pub use trace::Trace;
-pub use walk::traverse_all;
+pub use run::peano;

@@ -2,18 +2,24 @@
 ghost use Rattle.std.specs.Prelude.{◌≡◌, ◌≢◌, ◌≤◌, ◌+◌, Result as Outcome, Some, Err, Ok, OnOk, OnErr, map, length, string_bytes};
 ghost use Rattle.pe_io.specs.Counts.{CountsOne, Rises};
 ghost use Rattle.pe_io.specs.Sink.{Appends, AppendsPrefix};
+ghost use Rattle.pe_base.specs.Traces.{traversals_text};
+ghost use Rattle.pe_stacks.specs.Holdings.{new_holdings, cleared};
+ghost use Rattle.pe_run.specs.Trace.{traces};
+ghost use Rattle.pe_run.specs.Depots.{HasTraffic, IsSettled};
 ghost use Rattle.pe_run.specs.Words.{job_of};
 ghost use Rattle.pe_run.specs.Scenario.{Scene, Cause, unbuilt, scene_of};
 ghost use Rattle.pe_run.specs.Scene.{scene_view, RefusesFor};
 ghost use Rattle.pe_run.specs.Statuses.{ending_of};
-ghost use Rattle.pe_run.specs.Stages.{RunsTo};
+ghost use Rattle.pe_run.specs.Stages.{RunsTo, Counts};
 ghost use Rattle.pe_run.specs.Run.{no_job, no_scenario, run_scene, scenario_fault, names_of, IsRun, IsShelfCause, IsComplete};
 
 use crate::scenario::{SCENARIO_LIMIT, Scenario, SceneFault, read_scenario};
 use crate::status::{Status, Stop, exit_status};
 use crate::walk::traverse_all;
 use crate::words::scenario_name;
+use pe_base::Fields;
 use pe_io::{Got, Line, Shelf, Sink, SinkFailed};
+use pe_stacks::{CellRec, Depot, Shown, Vertex};
 use std::alloc::Global;
 
 // The words name no job.
@@ -37,13 +43,43 @@ fn refuse_shelf<K: Sink>(sink: &mut K) -> Result<Status, Stop>
     Ok(Status::NoShelf)
 }
 
+// The traversals of a scenario, as the walk by address makes them.
+fn walk_scenario<K: Sink, DV: Depot<Vertex<Fields>>, DC: Depot<CellRec<Fields>>>(
+    scenario: &Scenario,
+    sink: &mut K,
+    vertices: &mut DV,
+    cells: &mut DC,
+) -> Result<(), Stop>
+    requires vertices { DV.holds vertices.old ≡ new_holdings 10 }
+    requires cells { DC.holds cells.old ≡ new_holdings 2 }
+    ensures ok { OnOk result (Appends (K.text sink.old) (traversals_text (traces scenario.now.trace) scenario.now.dim scenario.now.traversals) (K.text sink.new)) }
+    ensures err { OnErr result (AppendsPrefix (K.text sink.old) (traversals_text (traces scenario.now.trace) scenario.now.dim scenario.now.traversals) (K.text sink.new)) }
+    ensures faults { K.faults sink.old ≤ K.faults sink.new }
+    ensures failed { result ≡ Err Stop.Sink → Rises (K.faults sink.old) (K.faults sink.new) }
+    ensures traffic { OnOk result (HasTraffic scenario.now.dim scenario.now.traversals (DV.holds vertices.new) (DC.holds cells.new)) }
+    ensures idle_vertices { (DV.holds vertices.new).out ≡ 0 }
+    ensures idle_cells { (DC.holds cells.new).out ≡ 0 }
+{
+    traverse_all(scenario, sink, vertices, cells)
+}
+
 // The traversals, and the last line.
-fn run_scenario<K: Sink>(scenario: &Scenario, sink: &mut K) -> Result<Status, Stop>
+fn run_scenario<K: Sink, DV: Depot<Vertex<Fields>>, DC: Depot<CellRec<Fields>>>(
+    scenario: &Scenario,
+    sink: &mut K,
+    vertices: &mut DV,
+    cells: &mut DC,
+) -> Result<Status, Stop>
+    requires vertices { DV.holds vertices.old ≡ new_holdings 10 }
+    requires cells { DC.holds cells.old ≡ new_holdings 2 }
     ensures run { RunsTo (run_scene (Ok (scene_view scenario.now))) (K.text sink.old) (K.text sink.new) result }
     ensures faults { K.faults sink.old ≤ K.faults sink.new }
     ensures failed { result ≡ Err Stop.Sink → Rises (K.faults sink.old) (K.faults sink.new) }
+    ensures traffic { Counts (run_scene (Ok (scene_view scenario.now))) (DV.holds vertices.new) (DC.holds cells.new) result }
+    ensures idle_vertices { (DV.holds vertices.new).out ≡ 0 }
+    ensures idle_cells { (DC.holds cells.new).out ≡ 0 }
 {
-    traverse_all(scenario, sink)?;
+    walk_scenario(scenario, sink, vertices, cells)?;
     sink.write(b"done\n")?;
     Ok(Status::Done)
 }
@@ -78,32 +114,49 @@ fn write_unbuilt<K: Sink>(key: &str, sink: &mut K) -> Result<(), SinkFailed>
 }
 
 // The run of a scenario's bytes.
-fn run_bytes<K: Sink>(alloc: Global, bytes: &[u8], sink: &mut K) -> Result<Status, Stop>
+fn run_bytes<K: Sink, DV: Depot<Vertex<Fields>>, DC: Depot<CellRec<Fields>>>(
+    alloc: Global,
+    bytes: &[u8],
+    sink: &mut K,
+    vertices: &mut DV,
+    cells: &mut DC,
+) -> Result<Status, Stop>
+    requires vertices { DV.holds vertices.old ≡ new_holdings 10 }
+    requires cells { DC.holds cells.old ≡ new_holdings 2 }
     ensures run { RunsTo (run_scene (scene_of bytes.now)) (K.text sink.old) (K.text sink.new) result }
     ensures faults { K.faults sink.old ≤ K.faults sink.new }
     ensures failed { result ≡ Err Stop.Sink → Rises (K.faults sink.old) (K.faults sink.new) }
+    ensures traffic { Counts (run_scene (scene_of bytes.now)) (DV.holds vertices.new) (DC.holds cells.new) result }
+    ensures idle_vertices { (DV.holds vertices.new).out ≡ 0 }
+    ensures idle_cells { (DC.holds cells.new).out ≡ 0 }
 {
     match read_scenario(alloc, bytes) {
-        Ok(scenario) => run_scenario(&scenario, sink),
+        Ok(scenario) => run_scenario(&scenario, sink, vertices, cells),
         Err(fault) => refuse_scenario(&fault, sink),
     }
 }
 
 // The run of a scenario's name.
-fn run_named<H: Shelf, K: Sink>(
+fn run_named<H: Shelf, K: Sink, DV: Depot<Vertex<Fields>>, DC: Depot<CellRec<Fields>>>(
     alloc: Global,
     name: &str,
     shelf: &mut H,
     sink: &mut K,
+    vertices: &mut DV,
+    cells: &mut DC,
 ) -> Result<Status, Stop>
+    requires vertices { DV.holds vertices.old ≡ new_holdings 10 }
+    requires cells { DC.holds cells.old ≡ new_holdings 2 }
     ensures run { IsRun (Some name.now) (H.contents shelf.old) (H.faults shelf.old) (H.faults shelf.new) (H.last_failed shelf.new)
-        (K.text sink.old) (K.text sink.new) (ending_of result) }
+        (K.text sink.old) (K.text sink.new) (DV.holds vertices.new) (DC.holds cells.new) (ending_of result) }
     ensures contents { H.contents shelf.new ≡ H.contents shelf.old }
     ensures failed { result ≡ Err Stop.Sink → Rises (K.faults sink.old) (K.faults sink.new) }
     ensures calls { H.calls shelf.new ≤ H.calls shelf.old + 1 }
+    ensures idle_vertices { (DV.holds vertices.new).out ≡ 0 }
+    ensures idle_cells { (DC.holds cells.new).out ≡ 0 }
 {
     match shelf.get(name, SCENARIO_LIMIT) {
-        Got::Whole(bytes) => run_bytes(alloc, &bytes, sink),
+        Got::Whole(bytes) => run_bytes(alloc, &bytes, sink, vertices, cells),
         Got::Longer => refuse_scenario(&SceneFault::TooLong, sink),
         Got::Absent | Got::Failed => refuse_shelf(sink),
         Got::Memory => Err(Stop::Memory),
@@ -111,29 +164,46 @@ fn run_named<H: Shelf, K: Sink>(
 }
 
 // The run of the words.
-fn run_words<H: Shelf, K: Sink>(
+fn run_words<H: Shelf, K: Sink, DV: Depot<Vertex<Fields>>, DC: Depot<CellRec<Fields>>>(
     alloc: Global,
     words: &[String],
     shelf: &mut H,
     sink: &mut K,
+    vertices: &mut DV,
+    cells: &mut DC,
 ) -> Result<Status, Stop>
+    requires vertices { DV.holds vertices.old ≡ new_holdings 10 }
+    requires cells { DC.holds cells.old ≡ new_holdings 2 }
     ensures run { IsRun (job_of (map string_bytes words.now)) (H.contents shelf.old) (H.faults shelf.old) (H.faults shelf.new) (H.last_failed shelf.new)
-        (K.text sink.old) (K.text sink.new) (ending_of result) }
+        (K.text sink.old) (K.text sink.new) (DV.holds vertices.new) (DC.holds cells.new) (ending_of result) }
     ensures contents { H.contents shelf.new ≡ H.contents shelf.old }
     ensures failed { result ≡ Err Stop.Sink → Rises (K.faults sink.old) (K.faults sink.new) }
     ensures calls { H.calls shelf.new ≤ H.calls shelf.old + length (names_of (job_of (map string_bytes words.now))) }
+    ensures idle_vertices { (DV.holds vertices.new).out ≡ 0 }
+    ensures idle_cells { (DC.holds cells.new).out ≡ 0 }
 {
     match scenario_name(words) {
-        Some(name) => run_named(alloc, name, shelf, sink),
+        Some(name) => run_named(alloc, name, shelf, sink, vertices, cells),
         None => refuse_words(sink),
     }
+}
+
+// Gives up what a run has left on the stacks of a depot.
+fn settle<R, D: Depot<R>>(depot: &mut D)
+    requires { (D.holds depot.old).out ≡ 0 }
+    ensures cleared { D.holds depot.new ≡ cleared (D.holds depot.old) }
+    ensures settled { IsSettled (D.holds depot.new) }
+{
+    depot.clear();
 }
 
 /// Runs the words of a command line, as those of `peano run <scenario>`, over a shelf and a sink, and answers
 /// the exit status.
 ///
 /// The job is `run` and the name of a scenario, which the shelf holds. Text and status are those of a walk in
-/// curve order over the cells by address, as `docs/PROMISES.md` says:
+/// curve order over the cells and vertices by address, as `docs/PROMISES.md` says. Vertices wait in the depot
+/// `vertices`, which has ten stacks, and cells in `cells`, which has two; both are new, and hold nothing after
+/// whichever status:
 ///
 /// - 0: all is done, and the last line is `done`.
 /// - 2: the words name no job (`fault words`).
@@ -141,10 +211,20 @@ fn run_words<H: Shelf, K: Sink>(
 /// - 6: the shelf failed, or does not hold the scenario (`fault shelf scenario`).
 /// - 7: the sink failed; a part of the text was written.
 /// - 9: want of memory; a part of the text was written.
-pub fn peano<H: Shelf, K: Sink>(alloc: Global, words: &[String], shelf: &mut H, sink: &mut K) -> u8
-    // The text and the status are those of the run of the words, over what the shelf holds.
+pub fn peano<H: Shelf, K: Sink, DV: Shown<Vertex<Fields>>, DC: Shown<CellRec<Fields>>>(
+    alloc: Global,
+    words: &[String],
+    shelf: &mut H,
+    sink: &mut K,
+    vertices: &mut DV,
+    cells: &mut DC,
+) -> u8
+    requires vertices { DV.holds vertices.old ≡ new_holdings 10 }
+    requires cells { DC.holds cells.old ≡ new_holdings 2 }
+
+    // Text, status and traffic are those of the run of the words, over what the shelf holds.
     ensures run { IsRun (job_of (map string_bytes words.now)) (H.contents shelf.old) (H.faults shelf.old) (H.faults shelf.new) (H.last_failed shelf.new)
-        (K.text sink.old) (K.text sink.new) result }
+        (K.text sink.old) (K.text sink.new) (DV.holds vertices.new) (DC.holds cells.new) result }
     ensures contents { H.contents shelf.new ≡ H.contents shelf.old }
 
     // An interruption has its cause outside, and the shelf is asked at most once for each name of the job.
@@ -156,6 +236,12 @@ pub fn peano<H: Shelf, K: Sink>(alloc: Global, words: &[String], shelf: &mut H, 
     // Where nothing failed, only want of memory keeps the run from its end.
     ensures completeness { ¬ Rises (H.faults shelf.old) (H.faults shelf.new) → ¬ Rises (K.faults sink.old) (K.faults sink.new)
         → IsComplete (job_of (map string_bytes words.now)) (H.contents shelf.old) (K.text sink.old) (K.text sink.new) result }
+
+    // Whatever the status, no record stays anywhere.
+    ensures depots { IsSettled (DV.holds vertices.new) × IsSettled (DC.holds cells.new) }
 {
-    exit_status(run_words(alloc, words, shelf, sink))
+    let ending = run_words(alloc, words, shelf, sink, vertices, cells);
+    settle(vertices);
+    settle(cells);
+    exit_status(ending)
 }

@@ -3,14 +3,14 @@ ghost use Rattle.std.specs.Prelude.{◌≡◌, MatchOption, option_map, option_a
 ghost use Rattle.toml.specs.View.{view, table_view, array_view, items_view};
 ghost use Rattle.toml.specs.Data.{get_member};
 ghost use Rattle.pe_base.specs.Events.{is_among};
-ghost use Rattle.pe_run.specs.Scenario.{is_known, all_known, number_at, events_in, events_after, next_event, built_form, scene_of, is_traceable};
+ghost use Rattle.pe_run.specs.Scenario.{is_known, all_known, number_at, events_in, events_after, next_event, built_form, scene_of};
 ghost use Rattle.std.specs.Prelude.{Err};
 ghost use Rattle.pe_run.specs.Scenario.{unbuilt as not_built};
 ghost use Rattle.pe_run.specs.Trace.{traces};
 ghost use Rattle.pe_run.specs.Scene.{scene_view, GivesScene, RefusesFor, TracesEvents};
 
 use crate::trace::Trace;
-use pe_base::{Dim, Event, Sort, Text};
+use pe_base::{Dim, Event, Text};
 use std::alloc::Global;
 use toml::{Table, Value};
 
@@ -79,22 +79,12 @@ fn number_at(table: &Table, key: &str, low: u64, high: u64) -> Option<u64>
     }
 }
 
-fn is_traceable(event: Event) -> bool
-    ensures { result ≡ is_traceable event }
-{
-    event.sort() != Sort::Vertex
-}
-
-// The event of a name, if it may be traced and is not traced yet.
+// The event of a name, if it is not traced yet.
 fn next_event(trace: &Trace, name: &Value) -> Option<Event>
     ensures { result ≡ next_event (traces trace.now) (view name.now) }
 {
     let event = Event::of_name(name.as_str()?)?;
-    if is_traceable(event) && !trace.has(event) {
-        Some(event)
-    } else {
-        None
-    }
+    if trace.has(event) { None } else { Some(event) }
 }
 
 fn trace_of(names: &[Value]) -> Option<Trace>
@@ -124,7 +114,7 @@ fn built_form(table: &Table) -> Option<Scenario>
     if !all_known(table) {
         return None;
     }
-    let axes = number_at(table, "dim", 2, 2)?;
+    let axes = number_at(table, "dim", 2, 4)?;
     let traversals = number_at(table, "traversals", 1, 1000)?;
     let trace = trace_in(table)?;
     let dim = Dim::new(axes as u8)?;
