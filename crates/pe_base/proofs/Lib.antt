@@ -2,3 +2,5 @@
 pub mod PlaceLaws
 pub mod CurveLaws
 pub mod EventNames
+pub mod Walks
+pub mod Spans
