@@ -4,3 +4,4 @@ pub mod CurveLaws
 pub mod EventNames
 pub mod Walks
 pub mod Spans
+pub mod Levels

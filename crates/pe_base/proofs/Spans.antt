@@ -2,7 +2,7 @@
 -- planes the point lies inside the cell.
 use Rattle.std.proofs.Common.{◌≡◌, ℕ, zero, suc, ◌+◌, ◌-◌, ◌*◌, ◌/◌, ◌%◌, ◌<◌, ◌≤◌, Bool, true, false, ◌&&◌, ◌||◌, List, [], ◌∷◌, ◌++◌, map, Option, Some, None, sym, ap, ◌∙◌, subst, refl, inl, inr, ◌⊎◌, arith}
 use Rattle.std.specs.Prelude.{◌==◌, if◌then◌else◌, not}
-use Rattle.std.proofs.lemmas.Bool.{or_cases, and_parts, eqb-true, eqb-false, eq-eqb, ne_eqb, false≢true, cases_lt}
+use Rattle.std.proofs.lemmas.Bool.{or_cases, and_parts, eqb-true, eqb-false, eq-eqb, ne_eqb, false≢true, cases_lt, cases_eq}
 use Rattle.pe_base.proofs.Walks.{Step, Path, Walk, Path-join, Path-map, Path-weaker}
 
 -- where a point lies along an axis of a level: on the plane at a coordinate, or else inside the cell there
@@ -53,10 +53,10 @@ abbrev pub other : Bool → ℕ → ℕ
 other true lo = lo + 1
 other false lo = lo
 
--- the children along one axis, each with those along the axes behind
+-- the children along one axis, by those at each coordinate
 abbrev pub split : Bool → Bool → ℕ → (ℕ → List (List ℕ)) → List (List ℕ)
-split false even lo rest = map (λ cs. lo ∷ cs) (rest lo)
-split true even lo rest = map (λ cs. lead true even lo ∷ cs) (rest (lead true even lo)) ++ map (λ cs. other even lo ∷ cs) (rest (other even lo))
+split false even lo at = at lo
+split true even lo at = at (lead true even lo) ++ at (other even lo)
 
 abbrev pub is_even : ℕ → Bool
 is_even n = n % 2 == 0
@@ -64,7 +64,7 @@ is_even n = n % 2 == 0
 abbrev pub gray : ℕ → List Spot → List ℕ → List (List ℕ)
 gray b [] ps = [] ∷ []
 gray b (s ∷ ss) [] = [] ∷ []
-gray b (s ∷ ss) (p ∷ ps) = split (two s.x s.on) (is_even (b + p)) (low s.x s.on p) (λ c. gray (b + p + c) ss ps)
+gray b (s ∷ ss) (p ∷ ps) = split (two s.x s.on) (is_even (b + p)) (low s.x s.on p) (λ c. map (λ cs. c ∷ cs) (gray (b + p + c) ss ps))
 
 -- the first of them
 abbrev pub start : ℕ → List Spot → List ℕ → List ℕ
@@ -114,16 +114,38 @@ pub record Fit (x : ℕ) (on : Bool) (p lo : ℕ) (pair : Bool) : Type 0 where
   pub below : digit < 3
   pub least : lo ≡ 3 * p + digit
   pub plane : pair ≡ true → (on ≡ true) × (x ≡ lo + 1) × (digit < 2)
+  pub holds : (c : ℕ) → 3 * p ≤ c → c < 3 * p + 3 → fits (record { x = x; on = on }) c ≡ (c == lo || (pair && c == lo + 1))
+
+same_test : (a b c d : ℕ) → (a ≡ b → c ≡ d) → (c ≡ d → a ≡ b) → (a == b) ≡ (c == d)
+same_test a b c d to from = elim (cases_eq a b) [
+    | inl e ↦ eq-eqb a b e ∙ sym (eq-eqb c d (to e))
+    | inr e ↦ ne_eqb a b e ∙ sym (ne_eqb c d (λ h. e (from h)))
+  ]
+
+or_none : (v : Bool) → (v || false) ≡ v
+or_none true = refl
+or_none false = refl
+
+or_swap : (v u : Bool) → (v || u) ≡ (u || v)
+or_swap true true = refl
+or_swap true false = refl
+or_swap false true = refl
+or_swap false false = refl
 
 fit_off : (x p : ℕ) → fits (coarse (record { x = x; on = false })) p ≡ true → Fit x false p x false
 fit_off x p h =
     let parent : x / 3 ≡ p = elim (or_cases (x / 3 == p) false h) [ inl e ↦ eqb-true (x / 3) p e | inr e ↦ absurd (false≢true e) ] in
-    record { digit = x % 3; below = omega arith; least = omega arith; plane = λ e. absurd (false≢true e) }
+    record { digit = x % 3; below = omega arith; least = omega arith; plane = λ e. absurd (false≢true e);
+      holds = λ c from to. ap (λ v. v || false) (same_test x c c x (λ e. sym e) (λ e. sym e)) }
 
 fit_on : (x p : ℕ) (whole near : Bool) → (x % 3 == 0) ≡ whole → (x == 3 * p) ≡ near → (x / 3 == p || (whole && x / 3 == p + 1)) ≡ true → Fit x true p (low_on true whole near x) (two_on true whole)
 fit_on x p true true w n h =
     let at : x ≡ 3 * p = eqb-true x (3 * p) n in
-    record { digit = 0; below = omega arith; least = omega arith; plane = λ e. absurd (false≢true e) }
+    record { digit = 0; below = omega arith; least = omega arith; plane = λ e. absurd (false≢true e);
+      holds = λ c from to.
+          let here : (x == c) ≡ (c == x) = same_test x c c x (λ e. sym e) (λ e. sym e) in
+          let there : (x == c + 1) ≡ false = ne_eqb x (c + 1) (λ e. omega arith) in
+          ap (λ v. v || x == c + 1) here ∙ ap (λ v. c == x || v) there }
 fit_on x p true false w n h =
     let whole : x % 3 ≡ 0 = eqb-true (x % 3) 0 w in
     let apart : x ≡ 3 * p → ⊥ = eqb-false x (3 * p) n in
@@ -131,12 +153,20 @@ fit_on x p true false w n h =
         | inl e ↦ absurd (apart (let q : x / 3 ≡ p = eqb-true (x / 3) p e in omega arith))
         | inr e ↦ let q : x / 3 ≡ p + 1 = eqb-true (x / 3) (p + 1) e in omega arith
       ] in
-    record { digit = 2; below = omega arith; least = omega arith; plane = λ e. absurd (false≢true e) }
+    record { digit = 2; below = omega arith; least = omega arith; plane = λ e. absurd (false≢true e);
+      holds = λ c from to.
+          let here : (x == c) ≡ false = ne_eqb x c (λ e. omega arith) in
+          let there : (x == c + 1) ≡ (c == x - 1) = same_test x (c + 1) c (x - 1) (λ e. omega arith) (λ e. omega arith) in
+          ap (λ v. v || x == c + 1) here ∙ there ∙ sym (or_none (c == x - 1)) }
 fit_on x p false near w n h =
     let part : x % 3 ≡ 0 → ⊥ = eqb-false (x % 3) 0 w in
     let parent : x / 3 ≡ p = elim (or_cases (x / 3 == p) false h) [ inl e ↦ eqb-true (x / 3) p e | inr e ↦ absurd (false≢true e) ] in
     let positive : 0 < x % 3 = elim (cases_lt 0 (x % 3)) [ inl e ↦ e | inr e ↦ absurd (part (omega arith)) ] in
-    record { digit = x % 3 - 1; below = omega arith; least = omega arith; plane = λ e. (refl, omega arith, omega arith) }
+    record { digit = x % 3 - 1; below = omega arith; least = omega arith; plane = λ e. (refl, omega arith, omega arith);
+      holds = λ c from to.
+          let here : (x == c) ≡ (c == x - 1 + 1) = same_test x c c (x - 1 + 1) (λ e. omega arith) (λ e. omega arith) in
+          let there : (x == c + 1) ≡ (c == x - 1) = same_test x (c + 1) c (x - 1) (λ e. omega arith) (λ e. omega arith) in
+          ap (λ v. v || x == c + 1) here ∙ ap (λ v. c == x - 1 + 1 || v) there ∙ or_swap (c == x - 1 + 1) (c == x - 1) }
 
 pub fit : (x : ℕ) (on : Bool) (p : ℕ) → fits (coarse (record { x = x; on = on })) p ≡ true → Fit x on p (low x on p) (two x on)
 fit x false p h = fit_off x p h
@@ -228,7 +258,7 @@ odd_next n true false e o = refl
 odd_next n false true e o = refl
 odd_next n false false e o = let one = eqb-false (n % 2) 0 e in let next = eqb-false (suc n % 2) 0 o in absurd (omega arith)
 
-axis : (s : Spot) (ss : List Spot) (p : ℕ) (ps : List ℕ) (b lo : ℕ) (tw even odd : Bool) → Fit s.x s.on p lo tw → odd ≡ not even → fits_all (map coarse ss) ps ≡ true → ((c : ℕ) → Walk (enter (b + p + c) ss ps) (enter (suc b + p + c) ss ps) (Within ss ps) (gray (b + p + c) ss ps) (start (b + p + c) ss ps) (start (suc b + p + c) ss ps)) → Walk (enter_along (is_other tw even lo) (λ c. enter (b + p + c) ss ps)) (enter_along (is_other tw odd lo) (λ c. enter (suc b + p + c) ss ps)) (Within (s ∷ ss) (p ∷ ps)) (split tw even lo (λ c. gray (b + p + c) ss ps)) (lead tw even lo ∷ start (b + p + lead tw even lo) ss ps) (lead tw odd lo ∷ start (suc b + p + lead tw odd lo) ss ps)
+axis : (s : Spot) (ss : List Spot) (p : ℕ) (ps : List ℕ) (b lo : ℕ) (tw even odd : Bool) → Fit s.x s.on p lo tw → odd ≡ not even → fits_all (map coarse ss) ps ≡ true → ((c : ℕ) → Walk (enter (b + p + c) ss ps) (enter (suc b + p + c) ss ps) (Within ss ps) (gray (b + p + c) ss ps) (start (b + p + c) ss ps) (start (suc b + p + c) ss ps)) → Walk (enter_along (is_other tw even lo) (λ c. enter (b + p + c) ss ps)) (enter_along (is_other tw odd lo) (λ c. enter (suc b + p + c) ss ps)) (Within (s ∷ ss) (p ∷ ps)) (split tw even lo (λ c. map (λ cs. c ∷ cs) (gray (b + p + c) ss ps))) (lead tw even lo ∷ start (b + p + lead tw even lo) ss ps) (lead tw odd lo ∷ start (suc b + p + lead tw odd lo) ss ps)
 axis s ss p ps b lo false even odd h opposite fine tail =
     single s ss p ps lo (λ c. enter (b + p + c) ss ps) (λ c. enter (suc b + p + c) ss ps) (λ c. gray (b + p + c) ss ps) (λ c. start (b + p + c) ss ps) (λ c. start (suc b + p + c) ss ps)
     (omega (arith, h.least, h.below)) tail
