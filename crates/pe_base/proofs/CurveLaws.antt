@@ -260,7 +260,7 @@ child_digits-inverted axes es parities =
     ∙ map_same (λ ts. there (complement ts)) back (digit_lists axes)
     (λ n d h. ap digits_of (turned-complement es 0 0 _ refl parities (digit_lists-below axes n d h)))
 
-sum-cons : (x : ℕ) (xs : List ℕ) → sum (x ∷ xs) ≡ x + sum xs
+pub sum-cons : (x : ℕ) (xs : List ℕ) → sum (x ∷ xs) ≡ x + sum xs
 sum-cons x xs = sum_by-cons (λ x. x) x xs
 
 sum-finer : (xs ks : List ℕ) → length xs ≡ length ks → sum (finer xs ks) ≡ 3 * sum xs + sum ks
