@@ -5,3 +5,4 @@ pub mod EventNames
 pub mod Walks
 pub mod Spans
 pub mod Levels
+pub mod Rounds
