@@ -6,3 +6,4 @@ pub mod Walks
 pub mod Spans
 pub mod Levels
 pub mod Rounds
+pub mod RouteLaws
