@@ -7,3 +7,4 @@ pub mod Spans
 pub mod Levels
 pub mod Rounds
 pub mod RouteLaws
+pub mod StackLaws

@@ -143,7 +143,7 @@ crosses-length (s ∷ ss) (suc i) (u ∷ us) (v ∷ vs) h = ap suc (crosses-leng
 padded-step : (ss : List Spot) (i : ℕ) (us vs : List ℕ) → Crosses ss i us vs → vs ++ replicate (4 - length us) 0 ≡ padded vs
 padded-step ss i us vs h = ap (λ (l : ℕ). vs ++ replicate (4 - l) 0) (crosses-length ss i us vs h)
 
-axis_of-step : (ss : List Spot) (level i : ℕ) (us vs : List ℕ) → Crosses ss i us vs → axis_between (padded us) (padded vs) ≡ i
+pub axis_of-step : (ss : List Spot) (level i : ℕ) (us vs : List ℕ) → Crosses ss i us vs → axis_between (padded us) (padded vs) ≡ i
 axis_of-step ss level i us vs h =
     ap (axis_between (padded us)) (sym (padded-step ss i us vs h)) ∙ crosses-axis ss i us vs (replicate (4 - length us) 0) h
 
@@ -168,7 +168,7 @@ path-shares f g ss level a (b ∷ xs) z path =
     All-cons Shares (at level a, at level b) (zip (map (at level) (b ∷ xs)) (map (at level) xs)) (shares_face ss level path.0.axis a b path.0.crosses) (path-shares f g ss level b xs z path.1)
 
 -- the steps around a vertex, by the walk of its cells
-steps-round : (axes level : ℕ) (way : Way) (qs : List ℕ) (len : length qs ≡ axes) → axes ≤ 4 → (r : Round axes (way_turns way) level (spots qs)) → steps (around axes way (at level qs)) ≡ zip (map (at level) (r.first ∷ r.walk.rest)) (map (at level) r.walk.rest)
+pub steps-round : (axes level : ℕ) (way : Way) (qs : List ℕ) (len : length qs ≡ axes) → axes ≤ 4 → (r : Round axes (way_turns way) level (spots qs)) → steps (around axes way (at level qs)) ≡ zip (map (at level) (r.first ∷ r.walk.rest)) (map (at level) r.walk.rest)
 steps-round axes level way qs len within r = ap (λ (xs : List Place). zip xs (drop 1 xs)) (around-holders axes level way qs len within ∙ ap (map (at level)) r.walk.is)
 
 -- neighbours around a vertex share a face
