@@ -177,7 +177,7 @@ map-reverse f (x ∷ xs) =
     ap (map f) (reverse-append (x ∷ []) xs) ∙ map-append f (reverse xs) (x ∷ []) ∙ ap (λ ys. ys ++ f x ∷ []) (map-reverse f xs)
     ∙ sym (reverse-append (f x ∷ []) (map f xs))
 
-map_same : {A B : Type 0} (f g : A → B) (xs : List A) → All (λ x. f x ≡ g x) xs → map f xs ≡ map g xs
+pub map_same : {A B : Type 0} (f g : A → B) (xs : List A) → All (λ x. f x ≡ g x) xs → map f xs ≡ map g xs
 map_same f g [] h = refl
 map_same f g (x ∷ xs) h =
     let head : f x ≡ g x = All-head (λ x. f x ≡ g x) x xs h in
@@ -260,7 +260,7 @@ child_digits-inverted axes es parities =
     ∙ map_same (λ ts. there (complement ts)) back (digit_lists axes)
     (λ n d h. ap digits_of (turned-complement es 0 0 _ refl parities (digit_lists-below axes n d h)))
 
-sum-cons : (x : ℕ) (xs : List ℕ) → sum (x ∷ xs) ≡ x + sum xs
+pub sum-cons : (x : ℕ) (xs : List ℕ) → sum (x ∷ xs) ≡ x + sum xs
 sum-cons x xs = sum_by-cons (λ x. x) x xs
 
 sum-finer : (xs ks : List ℕ) → length xs ≡ length ks → sum (finer xs ks) ≡ 3 * sum xs + sum ks

@@ -14,3 +14,9 @@ pub mod Waits
 pub mod Meetings
 pub mod Composition
 pub mod Counts
+pub mod Walks
+pub mod Spans
+pub mod Levels
+pub mod Rounds
+pub mod RouteLaws
+pub mod StackLaws

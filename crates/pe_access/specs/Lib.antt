@@ -1,0 +1,3 @@
+-- The definitions of cell states.
+pub mod Lines
+pub mod States

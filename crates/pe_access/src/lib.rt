@@ -1,0 +1,16 @@
+//! Where a vertex comes from and where it goes: the stacks by which the cells around it hand it on.
+//!
+//! [`CellState`] stands for a cell without its position, and tells the [`Route`] of each corner. Nothing here takes memory.
+#![tactic(auto)]
+
+mod face;
+mod line;
+mod route;
+#[cfg(test)]
+mod rows;
+mod state;
+
+pub use face::{Face, Relation};
+pub use line::Line;
+pub use route::Route;
+pub use state::CellState;

@@ -1,0 +1,15 @@
+/// Where a cell takes a vertex from, or where it puts it.
+#[derive(Clone, Copy, Debug, PartialEq, Eq)]
+pub enum Route {
+    /// The stream: the cell is the first of the vertex's cells on the way in, the last one on the way out.
+    Stream,
+    /// The temporary stack of this number: `2 i + b` where the vertex crosses axis i at a coordinate of parity b.
+    Temp(u8),
+}
+
+/// The best route so far, and the level of its face; level 0 for the stream.
+#[derive(Clone, Copy, Debug, PartialEq, Eq)]
+pub struct Choice {
+    pub route: Route,
+    pub level: u8,
+}

@@ -1,0 +1,106 @@
+ghost use Rattle.std.specs.Prelude.{◌≡◌, ℕ, ◌<◌, ◌≤◌, ◌^◌};
+ghost use Rattle.pe_base.specs.declared.place.Place.{Place as APlace};
+ghost use Rattle.pe_base.specs.Places.{IsDigits, IsCellPlace, bits, child_at, root};
+ghost use Rattle.pe_base.specs.Curve.{flips};
+ghost use Rattle.pe_access.specs.States.{StandsFor};
+
+use crate::face::Relation;
+use crate::line::{Line, bit};
+use crate::route::{Choice, Route};
+use pe_base::{Digits, Dim, Way};
+
+/// What the walk knows of a cell besides its record: parities and faces, and no position.
+#[derive(Clone, Copy, Debug, PartialEq, Eq)]
+pub struct CellState {
+    dim: Dim,
+    way: Way,
+    level: u8,
+    lines: [Line; 4],
+}
+
+impl CellState {
+    /// The state of the root in a traversal that goes this way.
+    pub fn root(dim: Dim, way: Way) -> CellState
+        ensures { StandsFor dim way root result }
+    {
+        CellState {
+            dim,
+            way,
+            level: 0,
+            lines: [Line::root(), Line::root(), Line::root(), Line::root()],
+        }
+    }
+
+    /// The state of the child at these digits. The cell's level is below 20.
+    pub fn descend(&self, k: Digits) -> CellState
+        requires level { self.now.level < 20 }
+        requires digits { IsDigits self.now.dim k }
+        ensures { (cell : APlace) → IsCellPlace self.now.dim cell → StandsFor self.now.dim self.now.way cell self.now → StandsFor self.now.dim self.now.way (child_at cell k) result }
+    {
+        let [x, y, z, w] = self.lines;
+        let [i, j, k, l] = k.k;
+        let level = self.level + 1;
+        let turns = self.turns();
+        let lines = [
+            x.child(level, turns + bit(x.odd), i),
+            y.child(level, turns + i + bit(y.odd), j),
+            z.child(level, turns + i + j + bit(z.odd), k),
+            w.child(level, turns + i + j + k + bit(w.odd), l),
+        ];
+        CellState {
+            dim: self.dim,
+            way: self.way,
+            level,
+            lines,
+        }
+    }
+
+    // The turns of every axis: one where the walk is inverted, and one for each odd position.
+    fn turns(&self) -> u8 {
+        let [x, y, z, w] = self.lines;
+        let inverted = match self.way {
+            Way::Forward => 0,
+            Way::Inverted => 1,
+        };
+        inverted + bit(x.odd) + bit(y.odd) + bit(z.odd) + bit(w.odd)
+    }
+
+    /// The flips of the cell, for a cursor over its children: bit i is the flip of axis i.
+    pub fn flips(&self) -> u8 {
+        let [x, y, z, w] = self.lines;
+        let sum = bit(x.odd) + bit(y.odd) + bit(z.odd) + bit(w.odd);
+        (sum + bit(x.odd)) % 2
+            + 2 * ((sum + bit(y.odd)) % 2)
+            + 4 * ((sum + bit(z.odd)) % 2)
+            + 8 * ((sum + bit(w.odd)) % 2)
+    }
+
+    /// Where the cell takes its corner from: the stream exactly where no other cell comes before it around the
+    /// vertex, else the stack of the face to the cell before.
+    ///
+    /// `corner` is below `2^d`, and that corner lies strictly inside the root cube.
+    pub fn route_in(&self, corner: u8) -> Route {
+        self.route(Relation::Earlier, corner)
+    }
+
+    /// Where the cell puts its corner: the stream exactly where no other cell comes after it around the vertex,
+    /// else the stack of the face to the next cell.
+    ///
+    /// `corner` is below `2^d`, and that corner lies strictly inside the root cube.
+    pub fn route_out(&self, corner: u8) -> Route {
+        self.route(Relation::Later, corner)
+    }
+
+    // The route across the fastest face at a corner whose neighbour has this relation.
+    fn route(&self, relation: Relation, corner: u8) -> Route {
+        let [x, y, z, w] = self.lines;
+        let none = Choice {
+            route: Route::Stream,
+            level: 0,
+        };
+        let last = w.faster(relation, 3, corner / 8 % 2, none);
+        let third = z.faster(relation, 2, corner / 4 % 2, last);
+        let second = y.faster(relation, 1, corner / 2 % 2, third);
+        x.faster(relation, 0, corner % 2, second).route
+    }
+}

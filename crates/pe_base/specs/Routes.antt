@@ -1,0 +1,65 @@
+-- How a vertex goes from cell to cell around it: the face that each step crosses, and the stack on which the
+-- vertex waits meanwhile.
+--
+-- Around an inside vertex of the plane, where axis 0 is slower than axis 1, the four cells are visited as numbered.
+-- The steps from 1 to 2 and from 3 to 4 cross axis 1, that from 2 to 3 crosses axis 0:
+--
+--     2 3
+--     1 4
+use Rattle.std.specs.Prelude.{◌≡◌, ◌≢◌, ◌⊎◌, ℕ, ◌+◌, ◌*◌, ◌%◌, Bool, true, false, ◌&&◌, ◌==◌, if◌then◌else◌, List, [], ◌∷◌, Option, find, slice_index}
+use Rattle.std.specs.Option.{option_map}
+use Rattle.pe_base.specs.declared.place.Place.{Place}
+use Rattle.pe_base.specs.declared.way.Way.{Way}
+use Rattle.pe_base.specs.declared.way.Way.TheVariants.{Forward, Inverted}
+use Rattle.pe_base.specs.Around.{around, steps}
+
+-- an inverted walk turns each axis once more than a forward one
+abbrev pub way_turns : Way → ℕ
+way_turns Forward = 0
+way_turns Inverted = 1
+
+abbrev pub is_same_pos : List ℕ → List ℕ → Bool
+is_same_pos [] [] = true
+is_same_pos (x ∷ xs) (y ∷ ys) = x == y && is_same_pos xs ys
+is_same_pos [] (y ∷ ys) = false
+is_same_pos (x ∷ xs) [] = false
+
+-- two places are one
+abbrev pub is_same : Place → Place → Bool
+is_same a b = a.level == b.level && is_same_pos a.pos b.pos
+
+-- the first axis on which two positions differ
+abbrev pub axis_between : List ℕ → List ℕ → ℕ
+axis_between [] ys = 0
+axis_between (x ∷ xs) [] = 0
+axis_between (x ∷ xs) (y ∷ ys) = if x == y then axis_between xs ys + 1 else 0
+
+-- the axis across which a step goes
+abbrev pub axis_of : Place × Place → ℕ
+axis_of step = axis_between step.0.pos step.1.pos
+
+-- two cells of one level share a face normal to an axis: on it their positions differ by one, and on no other
+pub record SharesFace (axis : ℕ) (a b : Place) : Type 0 where
+  pub level : a.level ≡ b.level
+  pub across : (slice_index b.pos axis ≡ slice_index a.pos axis + 1) ⊎ (slice_index a.pos axis ≡ slice_index b.pos axis + 1)
+  pub along : (other : ℕ) → other ≢ axis → slice_index a.pos other ≡ slice_index b.pos other
+
+-- the temporary stack on which a vertex waits while it crosses a face normal to an axis
+abbrev pub stack_of : Place → ℕ → ℕ
+stack_of vertex axis = 2 * axis + slice_index vertex.pos axis % 2
+
+-- the step around a vertex that ends at a cell, from the cell before it
+abbrev pub step_to : ℕ → Way → Place → Place → Option (Place × Place)
+step_to axes way vertex cell = find (λ step. is_same step.1 cell) (steps (around axes way vertex))
+
+-- the step around a vertex that begins at a cell, to the cell after it
+abbrev pub step_from : ℕ → Way → Place → Place → Option (Place × Place)
+step_from axes way vertex cell = find (λ step. is_same step.0 cell) (steps (around axes way vertex))
+
+-- the stack from which a cell takes a vertex; none for the first of the cells around it, which takes it from the stream
+abbrev pub stack_in : ℕ → Way → Place → Place → Option ℕ
+stack_in axes way vertex cell = option_map (λ step. stack_of vertex (axis_of step)) (step_to axes way vertex cell)
+
+-- the stack to which a cell gives a vertex; none for the last of the cells around it, which gives it to the stream
+abbrev pub stack_out : ℕ → Way → Place → Place → Option ℕ
+stack_out axes way vertex cell = option_map (λ step. stack_of vertex (axis_of step)) (step_from axes way vertex cell)
