@@ -1,18 +1,14 @@
 -- What a cell state is of a cell.
-use Rattle.std.specs.Prelude.{◌≡◌, ℕ, zero, suc, ◌+◌, ◌/◌, ◌%◌, List, [], ◌∷◌, map, sum, replicate, Option, Some, None}
+use Rattle.std.specs.Prelude.{◌≡◌, ℕ, zero, suc, ◌+◌, ◌/◌, ◌%◌, List, [], ◌∷◌, map, sum, sum_by, Option, Some, None}
 use Rattle.pe_base.specs.declared.place.Place.{Place}
 use Rattle.pe_base.specs.declared.way.Way.{Way}
-use Rattle.pe_base.specs.declared.way.Way.TheVariants.{Forward, Inverted}
+use Rattle.pe_base.specs.Dim.{IsDim}
+use Rattle.pe_base.specs.Routes.{way_turns}
 use Rattle.pe_access.specs.declared.line.Line.{Line}
 use Rattle.pe_access.specs.declared.state.CellState.{CellState}
 use Rattle.pe_access.specs.declared.route.Route.{Route}
 use Rattle.pe_access.specs.declared.route.Route.TheVariants.{Stream, Temp}
-use Rattle.pe_access.specs.Lines.{root_line, child_line}
-
--- the turns that a way adds to each axis
-abbrev pub way_turns : Way → ℕ
-way_turns Forward = 0
-way_turns Inverted = 1
+use Rattle.pe_access.specs.Lines.{bit_of, root_line, child_line}
 
 -- the position of the parent
 abbrev pub parent_pos : List ℕ → List ℕ
@@ -29,16 +25,29 @@ child_lines level turns (p ∷ ps) (x ∷ xs) (line ∷ lines) =
 
 -- the lines of a cell, by its level and position
 abbrev pub lines_of : Way → ℕ → List ℕ → List Line
-lines_of way zero pos = replicate 4 root_line
+lines_of way zero pos = map (λ x. root_line) pos
 lines_of way (suc level) pos =
     child_lines (suc level) (way_turns way + sum (parent_pos pos)) (parent_pos pos) pos (lines_of way level (parent_pos pos))
 
--- the state stands for a cell in a way
+-- the number of axes of the grid of a state
+abbrev pub axes_of : CellState → ℕ
+axes_of state = state.axes
+
+-- the level of a state
+abbrev pub level_of : CellState → ℕ
+level_of state = state.level
+
+-- the state stands for a cell of a grid in a way
 pub record StandsFor (axes : ℕ) (way : Way) (cell : Place) (state : CellState) : Type 0 where
-  pub dim : state.dim ≡ axes
-  pub way : state.way ≡ way
-  pub level : state.level ≡ cell.level
-  pub lines : state.lines ≡ lines_of way cell.level cell.pos
+  pub grid : IsDim axes
+  pub same_axes : state.axes ≡ axes
+  pub same_way : state.way ≡ way
+  pub same_level : state.level ≡ cell.level
+  pub same_lines : state.lines ≡ lines_of way cell.level cell.pos
+
+-- how many of some lines are odd
+abbrev pub odd_count : List Line → ℕ
+odd_count lines = sum_by (λ line. bit_of line.odd) lines
 
 -- the route of a stack, if there is one
 abbrev pub route_of : Option ℕ → Route

@@ -1,8 +1,11 @@
-ghost use Rattle.std.specs.Prelude.{◌≡◌, ℕ, ◌<◌, ◌≤◌, ◌^◌};
+ghost use Rattle.std.specs.Prelude.{◌≡◌, ℕ, ◌+◌, ◌<◌, ◌≤◌, ◌^◌};
 ghost use Rattle.pe_base.specs.declared.place.Place.{Place as APlace};
+ghost use Rattle.pe_base.specs.declared.way.Way.{Way as AWay};
 ghost use Rattle.pe_base.specs.Places.{IsDigits, IsCellPlace, bits, child_at, root};
 ghost use Rattle.pe_base.specs.Curve.{flips};
-ghost use Rattle.pe_access.specs.States.{StandsFor};
+ghost use Rattle.pe_base.specs.Routes.{way_turns};
+ghost use Rattle.pe_access.specs.Lines.{fastest};
+ghost use Rattle.pe_access.specs.States.{StandsFor, axes_of, level_of, odd_count};
 
 use crate::face::Relation;
 use crate::line::{Line, bit};
@@ -12,7 +15,7 @@ use pe_base::{Digits, Dim, Way};
 /// What the walk knows of a cell besides its record: parities and faces, and no position.
 #[derive(Clone, Copy, Debug, PartialEq, Eq)]
 pub struct CellState {
-    dim: Dim,
+    axes: u8,
     way: Way,
     level: u8,
     lines: [Line; 4],
@@ -24,7 +27,7 @@ impl CellState {
         ensures { StandsFor dim way root result }
     {
         CellState {
-            dim,
+            axes: dim.axes(),
             way,
             level: 0,
             lines: [Line::root(), Line::root(), Line::root(), Line::root()],
@@ -33,9 +36,10 @@ impl CellState {
 
     /// The state of the child at these digits. The cell's level is below 20.
     pub fn descend(&self, k: Digits) -> CellState
-        requires level { self.now.level < 20 }
-        requires digits { IsDigits self.now.dim k }
-        ensures { (cell : APlace) → IsCellPlace self.now.dim cell → StandsFor self.now.dim self.now.way cell self.now → StandsFor self.now.dim self.now.way (child_at cell k) result }
+        requires level { level_of self.now < 20 }
+        requires digits { IsDigits (axes_of self.now) k }
+        ensures { (axes : ℕ) (way : AWay) (cell : APlace) → IsCellPlace axes cell → StandsFor axes way cell self.now
+            → StandsFor axes way (child_at cell k) result }
     {
         let [x, y, z, w] = self.lines;
         let [i, j, k, l] = k.k;
@@ -48,7 +52,7 @@ impl CellState {
             w.child(level, turns + i + j + k + bit(w.odd), l),
         ];
         CellState {
-            dim: self.dim,
+            axes: self.axes,
             way: self.way,
             level,
             lines,
@@ -56,7 +60,10 @@ impl CellState {
     }
 
     // The turns of every axis: one where the walk is inverted, and one for each odd position.
-    fn turns(&self) -> u8 {
+    fn turns(&self) -> u8
+        ensures value { result ≡ way_turns self.now.way + odd_count self.now.lines }
+        ensures small { result < 6 }
+    {
         let [x, y, z, w] = self.lines;
         let inverted = match self.way {
             Way::Forward => 0,
@@ -66,7 +73,10 @@ impl CellState {
     }
 
     /// The flips of the cell, for a cursor over its children: bit i is the flip of axis i.
-    pub fn flips(&self) -> u8 {
+    pub fn flips(&self) -> u8
+        ensures { (axes : ℕ) (way : AWay) (cell : APlace) → IsCellPlace axes cell → StandsFor axes way cell self.now
+            → bits axes result ≡ flips axes cell.pos }
+    {
         let [x, y, z, w] = self.lines;
         let sum = bit(x.odd) + bit(y.odd) + bit(z.odd) + bit(w.odd);
         (sum + bit(x.odd)) % 2
@@ -92,7 +102,9 @@ impl CellState {
     }
 
     // The route across the fastest face at a corner whose neighbour has this relation.
-    fn route(&self, relation: Relation, corner: u8) -> Route {
+    fn route(&self, relation: Relation, corner: u8) -> Route
+        ensures { result ≡ (fastest relation 0 (bits 4 corner) self.now.lines).route }
+    {
         let [x, y, z, w] = self.lines;
         let none = Choice {
             route: Route::Stream,

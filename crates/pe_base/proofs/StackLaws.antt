@@ -80,11 +80,11 @@ Member-kids b (c ∷ cs) =
     pick (c ∷ cs) (λ t. map (λ cs. child t ∷ cs) (kids (b + t) (parents cs))) t (digit-below (c % 3) even (omega arith))
     (subst M here (Member-map (λ cs. child t ∷ cs) cs (kids (b + t) (parents cs)) (Member-kids (b + t) cs)))
 
-Below-parents : (bound : ℕ) (cs : List ℕ) → Below (3 * bound) cs → Below bound (parents cs)
+pub Below-parents : (bound : ℕ) (cs : List ℕ) → Below (3 * bound) cs → Below bound (parents cs)
 Below-parents bound [] h = tt
 Below-parents bound (c ∷ cs) h = (let b = h.0 in omega arith, Below-parents bound cs h.1)
 
-length-parents : (cs : List ℕ) → length (parents cs) ≡ length cs
+pub length-parents : (cs : List ℕ) → length (parents cs) ≡ length cs
 length-parents [] = refl
 length-parents (c ∷ cs) = ap suc (length-parents cs)
 
