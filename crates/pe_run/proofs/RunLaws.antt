@@ -1,5 +1,5 @@
 -- Laws of the run.
-use Rattle.std.proofs.Common.{◌≡◌, ◌≢◌, ◌⊎◌, ℕ, ◌+◌, ◌<◌, ◌≤◌, Bool, true, false, List, [], length, replicate, Option, Some, None, IsSome, Result, Ok, Err, IsErr, refl, sym, ap, subst, ◌∙◌, inl, inr, rules, arith}
+use Rattle.std.proofs.Common.{◌≡◌, ◌≢◌, ◌⊎◌, ℕ, ◌+◌, ◌<◌, ◌≤◌, Bool, true, false, List, [], length, replicate, Option, Some, None, IsSome, Result, Ok, Err, IsErr, OnOk, refl, sym, ap, subst, ◌∙◌, inl, inr, rules, arith}
 use Rattle.std.proofs.lemmas.List.{length-replicate}
 use Rattle.std.proofs.lemmas.Bool.{lt-ltb}
 use Rattle.pe_io.specs.declared.shelf.Got.{Got}
@@ -45,9 +45,14 @@ CountsWalk-stage ran vertices cells (Err Sink) counts end = absurd (omega arith)
 CountsWalk-stage ran vertices cells (Err Memory) counts end = absurd (omega arith)
 
 -- a stage without a walk
-pub Counts-none : {V C : Type 0} (ran : Ran) (vertices : Holdings V) (cells : Holdings C) (result : Result Status Stop) → ran.walked ≡ None → Counts ran vertices cells result
+pub Counts-none : {V C : Type 0} (ran : Ran) (vertices : Holdings V) (cells : Holdings C) (result : Result Status Stop) → OnOk result (ran.walked ≡ None) → Counts ran vertices cells result
 Counts-none ran vertices cells (Ok status) none = subst (λ walked. CountsWalk walked vertices cells) (sym none) tt
 Counts-none ran vertices cells (Err stop) none = tt
+
+-- what holds anyhow holds at the end
+none_walked : (ran : Ran) (result : Result Status Stop) → ran.walked ≡ None → OnOk result (ran.walked ≡ None)
+none_walked ran (Ok status) none = none
+none_walked ran (Err stop) none = tt
 
 -- the contents that are told, or these bytes under every name
 held_with : Option Contents → List ℕ → Contents
@@ -106,12 +111,12 @@ module _ {V C : Type 0} (vertices : Holdings V) (cells : Holdings C) where
   IsRun-longer None name limit before after last old new result same longer stage =
       let bytes = longer_than scenario_limit in
       IsRun-stage (Some name) None before after last old new result (λ _. Some bytes.0) None (run_scene (Err too_long)) (λ _. search rules) tt
-      (ap run_scene (sym (refused_longer bytes.0 bytes.1))) stage (Counts-none (run_scene (Err too_long)) vertices cells result refl)
+      (ap run_scene (sym (refused_longer bytes.0 bytes.1))) stage (Counts-none (run_scene (Err too_long)) vertices cells result (none_walked (run_scene (Err too_long)) result refl))
   IsRun-longer (Some contents) name limit before after last old new result same longer stage =
       elim (contents name) as (λ under. contents name ≡ under → IsLonger under limit → IsRun (Some name) (Some contents) before after last old new vertices cells (ending_of result)) [
         | None ↦ λ is none. absurd none
         | Some bytes ↦ λ is more. IsRun-stage (Some name) (Some contents) before after last old new result contents None (run_scene (Err too_long)) refl tt
-            (ap run_scene (sym (refused_longer bytes (subst (λ n. n < length bytes) same more))) ∙ ap run_held (sym is)) stage (Counts-none (run_scene (Err too_long)) vertices cells result refl)
+            (ap run_scene (sym (refused_longer bytes (subst (λ n. n < length bytes) same more))) ∙ ap run_held (sym is)) stage (Counts-none (run_scene (Err too_long)) vertices cells result (none_walked (run_scene (Err too_long)) result refl))
       ] refl longer
 
   -- the shelf does not hold the name
@@ -121,14 +126,14 @@ module _ {V C : Type 0} (vertices : Holdings V) (cells : Holdings C) where
   IsRun-absent None name limit before after last old new result got absent is untold stage = absurd (untold refl absent)
   IsRun-absent (Some contents) name limit before after last old new result got absent is untold stage =
       let none : contents name ≡ None = subst (λ answer. IsGot (contents name) limit answer) absent is in
-      IsRun-stage (Some name) (Some contents) before after last old new result contents None no_scenario refl tt (ap run_held (sym none)) stage (Counts-none no_scenario vertices cells result refl)
+      IsRun-stage (Some name) (Some contents) before after last old new result contents None no_scenario refl tt (ap run_held (sym none)) stage (Counts-none no_scenario vertices cells result (none_walked no_scenario result refl))
 
   -- the shelf failed
   pub IsRun-failed : (told : Option Contents) (name : List ℕ) (before after : ℕ) (last : Option FailedCall) (old new : Option (List ℕ)) (result : Result Status Stop)
       → FailedAt Get name before after last → RunsTo no_scenario old new result → result ≢ Err Memory → IsRun (Some name) told before after last old new vertices cells (ending_of result)
   IsRun-failed told name before after last old new result at stage other =
       IsRun-stage (Some name) told before after last old new result (held_with told []) (Some scenario_step) no_scenario (Holds-held_with told [])
-      (at.rises, at.last_is, status_of_refusal old new result stage other) refl stage (Counts-none no_scenario vertices cells result refl)
+      (at.rises, at.last_is, status_of_refusal old new result stage other) refl stage (Counts-none no_scenario vertices cells result (none_walked no_scenario result refl))
 
   -- want of memory before anything was written
   pub IsRun-memory : (told : Option Contents) (name : List ℕ) (before after : ℕ) (last : Option FailedCall) (text : Option (List ℕ)) → IsRun (Some name) told before after last text text vertices cells 9
@@ -140,4 +145,4 @@ module _ {V C : Type 0} (vertices : Holdings V) (cells : Holdings C) where
   pub IsRun-no_job : (job : Option (List ℕ)) (told : Option Contents) (before after : ℕ) (last : Option FailedCall) (old new : Option (List ℕ)) (result : Result Status Stop)
       → job ≡ None → RunsTo no_job old new result → IsRun job told before after last old new vertices cells (ending_of result)
   IsRun-no_job job told before after last old new result none stage =
-      IsRun-stage job told before after last old new result (held_with told []) None no_job (Holds-held_with told []) tt (ap (λ j. run_job j (held_with told []) None) (sym none)) stage (Counts-none no_job vertices cells result refl)
+      IsRun-stage job told before after last old new result (held_with told []) None no_job (Holds-held_with told []) tt (ap (λ j. run_job j (held_with told []) None) (sym none)) stage (Counts-none no_job vertices cells result (none_walked no_job result refl))

@@ -1,5 +1,5 @@
 // The run of the program, step by step.
-ghost use Rattle.std.specs.Prelude.{◌≡◌, ◌≢◌, ◌≤◌, ◌+◌, Result as Outcome, Some, Err, Ok, OnOk, OnErr, map, length, string_bytes};
+ghost use Rattle.std.specs.Prelude.{◌≡◌, ◌≢◌, ◌≤◌, ◌+◌, Result as Outcome, None, Some, Err, Ok, OnOk, OnErr, map, length, string_bytes};
 ghost use Rattle.pe_io.specs.Counts.{CountsOne, Rises};
 ghost use Rattle.pe_io.specs.Sink.{Appends, AppendsPrefix};
 ghost use Rattle.pe_base.specs.Traces.{traversals_text};
@@ -87,6 +87,7 @@ fn run_scenario<K: Sink, DV: Depot<Vertex<Fields>>, DC: Depot<CellRec<Fields>>>(
 // A scenario is refused.
 fn refuse_scenario<K: Sink>(fault: &SceneFault, sink: &mut K) -> Result<Status, Stop>
     ensures run { (said : Outcome Scene Cause) → RefusesFor fault.now said → RunsTo (run_scene said) (K.text sink.old) (K.text sink.new) result }
+    ensures no_walk { (said : Outcome Scene Cause) → RefusesFor fault.now said → OnOk result ((run_scene said).walked ≡ None) }
     ensures faults { K.faults sink.old ≤ K.faults sink.new }
     ensures failed { result ≡ Err Stop.Sink → Rises (K.faults sink.old) (K.faults sink.new) }
 {

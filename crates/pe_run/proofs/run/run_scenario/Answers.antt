@@ -1,5 +1,5 @@
 use Rattle.std.proofs.Common.{Ok, codes}
-use Rattle.pe_base.specs.Firings.{traversals_text}
+use Rattle.pe_base.specs.Traces.{traversals_text}
 use Rattle.pe_io.proofs.Appending.{AppendsPrefix-more, AppendsPrefix-then}
 use Rattle.pe_run.specs.Trace.{traces}
 use Rattle.pe_run.specs.Scene.{scene_view}
@@ -7,15 +7,15 @@ use Rattle.pe_run.specs.Run.{run_scene}
 use Rattle.pe_run.proofs.RunLaws.{RunsTo-stopped}
 use Rattle.pe_run.proofs.run.run_scenario.Goals as goal
 
-pub returns-in_err-traverse_all-clause-run : goal.returns-in_err-traverse_all-clause-run
-returns-in_err-traverse_all-clause-run g c =
+pub returns-in_err-walk_scenario-clause-run : goal.returns-in_err-walk_scenario-clause-run
+returns-in_err-walk_scenario-clause-run g c =
     let scenario = c.args.scenario.now in
     RunsTo-stopped (run_scene (Ok (scene_view scenario))) _ _ c.from_residual.result c.from_residual.ensures.0
-    (AppendsPrefix-more _ _ (traversals_text (traces scenario.trace) scenario.dim 1 scenario.traversals) (codes "done\n") c.in_err-traverse_all.ensures.err)
+    (AppendsPrefix-more _ _ (traversals_text (traces scenario.trace) scenario.dim scenario.traversals) (codes "done\n") c.in_err-walk_scenario.ensures.err)
 
 pub returns-in_err-write-clause-run : goal.returns-in_err-write-clause-run
 returns-in_err-write-clause-run g c =
     let scenario = c.args.scenario.now in
     RunsTo-stopped (run_scene (Ok (scene_view scenario))) _ _ c.from_residual-in_err-write.result c.from_residual-in_err-write.ensures.0
-    (AppendsPrefix-then _ (g.K.Sink.text c.traverse_all.new.sink) _ (traversals_text (traces scenario.trace) scenario.dim 1 scenario.traversals) (codes "done\n")
-    c.in_ok-traverse_all.ensures.ok c.in_err-write.ensures.err)
+    (AppendsPrefix-then _ (g.K.Sink.text c.walk_scenario.new.sink) _ (traversals_text (traces scenario.trace) scenario.dim scenario.traversals) (codes "done\n")
+    c.in_ok-walk_scenario.ensures.ok c.in_err-write.ensures.err)
