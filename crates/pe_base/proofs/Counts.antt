@@ -212,7 +212,7 @@ one_corner (suc n) cell (x ∷ pos) (y ∷ q) l m e =
     ]
 
 -- among the touches of a cell's own corners, those of a vertex of its level
-own_touches : (axes : ℕ) (vertex cell : Place) → axes ≤ 4 → OnGrid axes vertex.level vertex → OnGrid axes vertex.level cell → touched_for vertex (reverse (corner_touches axes cell)) ≡ cond (is_corner vertex cell) (cell ∷ []) []
+pub own_touches : (axes : ℕ) (vertex cell : Place) → axes ≤ 4 → OnGrid axes vertex.level vertex → OnGrid axes vertex.level cell → touched_for vertex (reverse (corner_touches axes cell)) ≡ cond (is_corner vertex cell) (cell ∷ []) []
 own_touches axes vertex cell four v c =
     let same = λ (t : Touch). is_same t.vertex vertex in
     let test = λ (bs : List ℕ). pointwise nat_eq (moved cell.pos bs) vertex.pos in
@@ -235,10 +235,10 @@ other_touches axes vertex cell four h =
     ap (map (λ (t : Touch). t.cell)) (filter_none (λ t. is_same t.vertex vertex) (reverse (corner_touches axes cell)) (Each-reverse _ (corner_touches axes cell) (subst (Each _) (sym (corner_touches_are axes cell four))
     (Each-map _ (touch_at cell) (bit_lists axes) (Each-all _ (λ bs. ap (λ b. b && pointwise nat_eq (moved cell.pos bs) vertex.pos) (eq_false cell.level vertex.level h)) (bit_lists axes))))))
 
-touched-append : (vertex : Place) (ts us : List Touch) → touched_for vertex (ts ++ us) ≡ touched_for vertex ts ++ touched_for vertex us
+pub touched-append : (vertex : Place) (ts us : List Touch) → touched_for vertex (ts ++ us) ≡ touched_for vertex ts ++ touched_for vertex us
 touched-append vertex ts us = ap (map (λ t. t.cell)) (filter-append (λ t. is_same t.vertex vertex) ts us) ∙ map-append (λ t. t.cell) (filter (λ t. is_same t.vertex vertex) ts) (filter (λ t. is_same t.vertex vertex) us)
 
-touched-flat_map : {X : Type 0} (vertex : Place) (f : X → List Touch) (xs : List X) → touched_for vertex (flat_map f xs) ≡ flat_map (λ x. touched_for vertex (f x)) xs
+pub touched-flat_map : {X : Type 0} (vertex : Place) (f : X → List Touch) (xs : List X) → touched_for vertex (flat_map f xs) ≡ flat_map (λ x. touched_for vertex (f x)) xs
 touched-flat_map vertex f [] = refl
 touched-flat_map vertex f (x ∷ xs) = touched-append vertex (f x) (flat_map f xs) ∙ ap (λ r. touched_for vertex (f x) ++ r) (touched-flat_map vertex f xs)
 

@@ -1,0 +1,3 @@
+pub mod AroundCounts
+pub mod Eaches
+pub mod LevelOneWalk
