@@ -8,7 +8,7 @@ use Rattle.std.proofs.lemmas.Bool.Decides.{nat_tests}
 use Rattle.pe_base.specs.declared.place.Place.{Place}
 use Rattle.pe_base.specs.declared.way.Way.{Way}
 use Rattle.pe_base.specs.declared.way.Way.TheVariants.{Forward, Inverted}
-use Rattle.pe_base.specs.Places.{at, bits, moved, corner}
+use Rattle.pe_base.specs.Places.{root, at, bits, moved, corner}
 use Rattle.pe_base.specs.Curve.{order}
 use Rattle.pe_base.specs.Around.{is_corner_pos, is_corner, around, steps}
 use Rattle.pe_base.specs.Faces.{steps_to, steps_from}
@@ -163,3 +163,14 @@ length-map_range f a (suc n) = ap suc (length-map_range f (a + 1) n)
 
 pub corner_on_grid : (axes level : ℕ) (cell : Place) (k : ℕ) → OnGrid axes level cell → OnGrid axes level (corner axes cell k)
 corner_on_grid axes level cell k on = (on.0, length-moved cell.pos (bits axes k) ∙ on.1, drop-moved axes cell.pos (bits axes k) (length-map_range _ 0 axes) ∙ on.2)
+
+pub root_on_grid : (axes : ℕ) → axes ≤ 4 → OnGrid axes 0 root
+root_on_grid axes four = (refl, refl, zeros axes four)
+  where
+    zeros : (n : ℕ) → n ≤ 4 → drop {A = ℕ} n (0 ∷ 0 ∷ 0 ∷ 0 ∷ []) ≡ replicate (4 - n) 0
+    zeros zero h = refl
+    zeros (suc zero) h = refl
+    zeros (suc (suc zero)) h = refl
+    zeros (suc (suc (suc zero))) h = refl
+    zeros (suc (suc (suc (suc zero)))) h = refl
+    zeros (suc (suc (suc (suc (suc n))))) h = absurd (omega arith)

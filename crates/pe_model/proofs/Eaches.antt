@@ -19,9 +19,9 @@ use Rattle.pe_base.specs.Kinds.{kind_from}
 use Rattle.pe_base.specs.Payloads.{zeros}
 use Rattle.pe_base.specs.Working.{World, Firing, fires}
 use Rattle.pe_base.specs.Touches.{loaded, fresh_vertex, of_kind, put_vertex, one_read, one_created, one_written, one_hanging, first_touch, load_vertex, store_vertex}
-use Rattle.pe_base.specs.Walk.{counted}
+use Rattle.pe_base.specs.Walk.{counted, no_tally}
 use Rattle.pe_base.specs.Traces.{trace_line, trace_text, prints}
-use Rattle.pe_model.specs.LevelOne.{count_of}
+use Rattle.pe_model.specs.LevelOne.{count_of, tally_of}
 
 -- the levels of the cells that are entered
 abbrev pub entered_levels : List Firing → List ℕ
@@ -76,6 +76,23 @@ raised-append : (first : Bool) (xs ys : List Firing) (a : Tally) → raised firs
 raised-append first xs ys a = tally_same _ _ refl refl (counts-append a.cells EnterCell xs ys) (omega (arith, reads-append first xs ys)) (counts-append a.written TouchVertexLastTime xs ys)
     (counts-append a.created CreateInnerVertex xs ys) refl (counts-append a.hanging CreateHangingVertex xs ys)
     (sym (fold-append max a.deepest (entered_levels xs) (entered_levels ys)) ∙ ap (fold max a.deepest) (sym (levels-append xs ys)))
+
+-- the greatest level, with one more
+fold-max : (d l : ℕ) (xs : List ℕ) → fold max (max d l) xs ≡ max (fold max d xs) l
+fold-max d l [] = refl
+fold-max d l (x ∷ xs) = ap (λ n. fold max n xs) (let e : max (max d l) x ≡ max (max d x) l = omega arith in e) ∙ fold-max (max d x) l xs
+
+-- a cell that is counted before others of its walk, or behind them
+pub raised-swap : (first : Bool) (cell : Place) (xs : List Firing) (a : Tally) → raised first (fires EnterCell cell cell ∷ xs) a ≡ raised first (xs ++ fires EnterCell cell cell ∷ []) a
+raised-swap first cell xs a =
+    sym (raised-append first (fires EnterCell cell cell ∷ []) xs a)
+    ∙ tally_same (raised first xs (raised first (fires EnterCell cell cell ∷ []) a)) (raised first (fires EnterCell cell cell ∷ []) (raised first xs a))
+    refl refl (omega arith) (omega arith) (omega arith) (omega arith) refl (omega arith) (fold-max a.deepest cell.level (entered_levels xs))
+    ∙ raised-append first xs (fires EnterCell cell cell ∷ []) a
+
+-- a fresh tally when these have fired
+pub raised-fresh : (traversal : ℕ) (xs : List Firing) → raised (traversal == 1) xs (no_tally traversal) ≡ tally_of traversal xs
+raised-fresh traversal xs = tally_same _ _ refl refl (omega arith) (omega arith) (omega arith) (omega arith) refl (omega arith) refl
 
 trace_text-append : (traced : Event → Bool) (axes traversal : ℕ) (xs ys : List Firing) → trace_text traced axes traversal (xs ++ ys) ≡ trace_text traced axes traversal xs ++ trace_text traced axes traversal ys
 trace_text-append traced axes traversal xs ys =
