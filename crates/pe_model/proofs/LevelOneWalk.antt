@@ -22,8 +22,8 @@ use Rattle.pe_base.specs.Traces.{prints, trace_text, tally_line, traversed, trav
 use Rattle.pe_base.proofs.Lists.{Each, Each-weaker, Each-append, Each-left, Each-right, flat_map_same, map-reverse}
 use Rattle.pe_base.proofs.Ranks.{is_same-true}
 use Rattle.pe_base.proofs.Counts.{OnGrid, is_same_itself, own_touches, touched-append, touched-flat_map, children_on_grid}
-use Rattle.pe_model.proofs.AroundCounts.{is_first-none, is_last-all, length-around, corner_is_corner, corner_on_grid, root_on_grid}
-use Rattle.pe_model.proofs.Eaches.{raised, raised-swap, raised-fresh, Adds, adds_nothing, adds_then, begins, ends, enters, leaves, counts, birth_adds, birth_loads, load_list, load_adds, load_counts, store_list, store_adds, store_loads}
+use Rattle.pe_model.proofs.InnerVertices.{is_first-none, is_last-all, length-around, corner_is_corner, corner_on_grid, root_on_grid}
+use Rattle.pe_model.proofs.WalkSteps.{raised, raised-swap, raised-fresh, Adds, adds_nothing, adds_then, begins, ends, enters, leaves, counts, birth_adds, birth_loads, load_list, load_adds, load_counts, store_list, store_adds, store_loads}
 use Rattle.pe_model.specs.LevelOne.{is_first, is_last, load_firings, store_firings, birth_firings, cell_firings, traversal_firings, tally_of}
 
 one_filter : {X : Type 0} (p : X → Bool) (xs : List X) → flat_map (λ x. cond (p x) (x ∷ []) []) xs ≡ filter p xs
@@ -73,8 +73,18 @@ abbrev Loaded : ℕ → List Touch → World → Type 0
 Loaded axes done w = (vertex : Place) → is_inside axes vertex ≡ true → w.loads vertex ≡ length (touched_for vertex done)
 
 module _ (traced : Event → Bool) (axes traversal : ℕ) (four : axes ≤ 4) where
+  abbrev does : Firing → World → World
+  does = prints traced axes traversal
+
+  -- a part of the walk prints these firings, and counts them
+  abbrev Fires : List Firing → World → World → Type 0
+  Fires xs w v = Adds traced axes traversal (traversal == 1) xs xs w v
+
+  fires_then : (xs ys : List Firing) (a b c : World) → Fires xs a b → Fires ys b c → Fires (xs ++ ys) a c
+  fires_then xs ys a b c one two = adds_then traced axes traversal (traversal == 1) xs ys xs ys a b c one two
+
   -- one load more
-  Loaded-more : (cell : Place) (k : ℕ) (done : List Touch) (w : World) → Loaded axes done w → Loaded axes (done ++ touch_of axes cell k ∷ []) (load_corner (prints traced axes traversal) axes traversal cell k w)
+  Loaded-more : (cell : Place) (k : ℕ) (done : List Touch) (w : World) → Loaded axes done w → Loaded axes (done ++ touch_of axes cell k ∷ []) (load_corner does axes traversal cell k w)
   Loaded-more cell k done w h other inside =
       load_counts traced axes traversal (is_inside axes (corner axes cell k)) (traversal == 1) (corner axes cell k) cell other w
       ∙ more (is_inside axes (corner axes cell k)) (is_same (corner axes cell k) other) (λ s. inside_same axes (corner axes cell k) other s inside)
@@ -132,24 +142,24 @@ module _ (traced : Event → Bool) (axes traversal : ℕ) (four : axes ≤ 4) wh
         ∙ sym (is_first-none axes (way_of traversal) vertex four (filter (is_corner vertex) before) (filter (is_corner vertex) behind) cell (around_is vertex (corner_on_grid axes 1 cell k on_cell) (corner_is_corner axes cell k)))
 
     load_all : (earlier ks : List ℕ) → reverse (range_with_len 0 (2 ^ axes)) ≡ earlier ++ ks → (w : World) → Loaded axes (touches axes before ++ map (touch_of axes cell) earlier) w
-        → Adds traced axes traversal (traversal == 1) (flat_map (load_firings axes traversal cell) ks) (flat_map (load_firings axes traversal cell) ks) w (each (load_corner (prints traced axes traversal) axes traversal cell) ks w)
-        × Loaded axes (touches axes before ++ map (touch_of axes cell) (earlier ++ ks)) (each (load_corner (prints traced axes traversal) axes traversal cell) ks w)
+        → Fires (flat_map (load_firings axes traversal cell) ks) w (each (load_corner does axes traversal cell) ks w)
+        × Loaded axes (touches axes before ++ map (touch_of axes cell) (earlier ++ ks)) (each (load_corner does axes traversal cell) ks w)
     load_all earlier [] e w h = (adds_nothing traced axes traversal (traversal == 1) w, subst (λ ks. Loaded axes (touches axes before ++ map (touch_of axes cell) ks) w) (sym (append-nil earlier)) h)
     load_all earlier (k ∷ ks) e w h =
         let vertex = corner axes cell k in
         let touch = touch_of axes cell in
-        let v : World = load_corner (prints traced axes traversal) axes traversal cell k w in
-        let one : Adds traced axes traversal (traversal == 1) (load_firings axes traversal cell k) (load_firings axes traversal cell k) w v
-        = subst (λ xs. Adds traced axes traversal (traversal == 1) xs xs w v)
+        let v : World = load_corner does axes traversal cell k w in
+        let one : Fires (load_firings axes traversal cell k) w v
+        = subst (λ xs. Fires xs w v)
         (load_list-same (is_inside axes vertex) (traversal == 1) vertex cell (w.loads vertex == 0) (is_first axes traversal vertex cell) (first_is earlier ks k e w h))
         (load_adds traced axes traversal (is_inside axes vertex) (traversal == 1) vertex cell w) in
         let more : Loaded axes (touches axes before ++ map touch (earlier ++ k ∷ [])) v
         = subst (λ ts. Loaded axes ts v) (append_assoc (touches axes before) (map touch earlier) (touch k ∷ []) ∙ ap (λ r. touches axes before ++ r) (sym (map-append touch earlier (k ∷ []))))
         (Loaded-more cell k (touches axes before ++ map touch earlier) w h) in
         let rest = load_all (earlier ++ k ∷ []) ks (e ∙ sym (append_assoc earlier (k ∷ []) ks)) v more in (
-          adds_then traced axes traversal (traversal == 1) (load_firings axes traversal cell k) (flat_map (load_firings axes traversal cell) ks) (load_firings axes traversal cell k) (flat_map (load_firings axes traversal cell) ks)
-              w v (each (load_corner (prints traced axes traversal) axes traversal cell) ks v) one rest.0,
-          subst (λ js. Loaded axes (touches axes before ++ map touch js) (each (load_corner (prints traced axes traversal) axes traversal cell) ks v)) (append_assoc earlier (k ∷ []) ks) rest.1,
+          fires_then (load_firings axes traversal cell k) (flat_map (load_firings axes traversal cell) ks)
+              w v (each (load_corner does axes traversal cell) ks v) one rest.0,
+          subst (λ js. Loaded axes (touches axes before ++ map touch js) (each (load_corner does axes traversal cell) ks v)) (append_assoc earlier (k ∷ []) ks) rest.1,
         )
 
     -- after its loads
@@ -165,28 +175,27 @@ module _ (traced : Event → Bool) (axes traversal : ℕ) (four : axes ≤ 4) wh
         ∙ sym (is_last-all axes (way_of traversal) vertex four (filter (is_corner vertex) before) (filter (is_corner vertex) behind) cell (around_is vertex v (corner_is_corner axes cell k)))
 
     store_all : (ks : List ℕ) (w : World) → Loaded axes (touches axes (before ++ cell ∷ [])) w
-        → Adds traced axes traversal (traversal == 1) (flat_map (store_firings axes traversal cell) ks) (flat_map (store_firings axes traversal cell) ks) w (each (store_corner (prints traced axes traversal) axes traversal cell) ks w)
-        × Loaded axes (touches axes (before ++ cell ∷ [])) (each (store_corner (prints traced axes traversal) axes traversal cell) ks w)
+        → Fires (flat_map (store_firings axes traversal cell) ks) w (each (store_corner does axes traversal cell) ks w)
+        × Loaded axes (touches axes (before ++ cell ∷ [])) (each (store_corner does axes traversal cell) ks w)
     store_all [] w h = (adds_nothing traced axes traversal (traversal == 1) w, h)
     store_all (k ∷ ks) w h =
         let vertex = corner axes cell k in
-        let v : World = store_corner (prints traced axes traversal) axes traversal cell k w in
-        let one : Adds traced axes traversal (traversal == 1) (store_firings axes traversal cell k) (store_firings axes traversal cell k) w v
-        = subst (λ xs. Adds traced axes traversal (traversal == 1) xs xs w v)
+        let v : World = store_corner does axes traversal cell k w in
+        let one : Fires (store_firings axes traversal cell k) w v
+        = subst (λ xs. Fires xs w v)
         (store_list-same (is_inside axes vertex) vertex cell (w.loads vertex == 2 ^ axes) (is_last axes traversal vertex cell) (last_is k w h))
         (store_adds traced axes traversal (is_inside axes vertex) (traversal == 1) vertex cell w) in
         let rest = store_all ks v (λ other inside. ap (λ f. f other) (store_loads traced axes traversal (is_inside axes vertex) (traversal == 1) vertex cell w) ∙ h other inside) in (
-          adds_then traced axes traversal (traversal == 1) (store_firings axes traversal cell k) (flat_map (store_firings axes traversal cell) ks) (store_firings axes traversal cell k) (flat_map (store_firings axes traversal cell) ks)
-              w v (each (store_corner (prints traced axes traversal) axes traversal cell) ks v) one rest.0,
+          fires_then (store_firings axes traversal cell k) (flat_map (store_firings axes traversal cell) ks)
+              w v (each (store_corner does axes traversal cell) ks v) one rest.0,
           rest.1,
         )
 
     cell_adds : (w : World) → Loaded axes (touches axes before) w
-        → Adds traced axes traversal (traversal == 1) (cell_firings axes traversal cell) (cell_firings axes traversal cell) w (walk_cell (prints traced axes traversal) axes traversal cell w)
-        × Loaded axes (touches axes (before ++ cell ∷ [])) (walk_cell (prints traced axes traversal) axes traversal cell w)
+        → Fires (cell_firings axes traversal cell) w (walk_cell does axes traversal cell w)
+        × Loaded axes (touches axes (before ++ cell ∷ [])) (walk_cell does axes traversal cell w)
     cell_adds w h =
         let first : Bool = traversal == 1 in
-        let does : Firing → World → World = prints traced axes traversal in
         let ks = reverse (range_with_len 0 (2 ^ axes)) in
         let entered = fires EnterCell cell cell in
         let left = fires LeaveCell cell cell in
@@ -217,19 +226,18 @@ module _ (traced : Event → Bool) (axes traversal : ℕ) (four : axes ≤ 4) wh
         )
 
   cells_add : (before behind : List Place) → children axes (way_of traversal) root ≡ before ++ behind → (w : World) → Loaded axes (touches axes before) w
-      → Adds traced axes traversal (traversal == 1) (flat_map (cell_firings axes traversal) behind) (flat_map (cell_firings axes traversal) behind) w (each (walk_cell (prints traced axes traversal) axes traversal) behind w)
+      → Fires (flat_map (cell_firings axes traversal) behind) w (each (walk_cell does axes traversal) behind w)
   cells_add before [] e w h = adds_nothing traced axes traversal (traversal == 1) w
   cells_add before (cell ∷ behind) e w h =
-      let v : World = walk_cell (prints traced axes traversal) axes traversal cell w in
+      let v : World = walk_cell does axes traversal cell w in
       let one = cell_adds before cell behind e w h in
-      adds_then traced axes traversal (traversal == 1) (cell_firings axes traversal cell) (flat_map (cell_firings axes traversal) behind) (cell_firings axes traversal cell) (flat_map (cell_firings axes traversal) behind)
-      w v (each (walk_cell (prints traced axes traversal) axes traversal) behind v) one.0
+      fires_then (cell_firings axes traversal cell) (flat_map (cell_firings axes traversal) behind)
+      w v (each (walk_cell does axes traversal) behind v) one.0
       (cells_add (before ++ cell ∷ []) behind (e ∙ sym (append_assoc before (cell ∷ []) behind)) v one.1)
 
-  pub traverse_adds : (w : World) → Adds traced axes traversal (traversal == 1) (traversal_firings axes traversal) (traversal_firings axes traversal) (begun traversal w) (traverse (prints traced axes traversal) axes traversal w)
+  pub traverse_adds : (w : World) → Fires (traversal_firings axes traversal) (begun traversal w) (traverse does axes traversal w)
   traverse_adds w =
       let first : Bool = traversal == 1 in
-      let does : Firing → World → World = prints traced axes traversal in
       let cells = children axes (way_of traversal) root in
       let opening = fires BeginIteration root root ∷ [] in
       let walking = flat_map (cell_firings axes traversal) cells in

@@ -1,3 +1,3 @@
-pub mod AroundCounts
-pub mod Eaches
+pub mod InnerVertices
+pub mod WalkSteps
 pub mod LevelOneWalk

@@ -1,4 +1,4 @@
--- What a step of the walk by address prints and counts.
+-- What each step of the walk by address prints and counts.
 use Rattle.std.proofs.Common.{◌≡◌, ℕ, zero, suc, ◌+◌, ◌^◌, ◌≤◌, max, Bool, true, false, cond, not, ◌&&◌, ◌==◌, List, [], ◌∷◌, ◌++◌, map, filter, refl, sym, ap, ap₂, ◌∙◌, subst, length, append-nil, append_assoc, length-append, arith}
 use Rattle.std.specs.Prelude.{if◌then◌else◌, fold, count_by}
 use Rattle.std.specs.List.{flat_map}
@@ -12,6 +12,7 @@ use Rattle.pe_base.specs.declared.way.Way.{Way}
 use Rattle.pe_base.specs.declared.tally.Tally.{Tally}
 use Rattle.pe_base.specs.declared.event.Event.{Event}
 use Rattle.pe_base.specs.declared.event.Event.TheVariants.{BeginIteration, EndIteration, TouchVertexFirstTime, TouchVertexLastTime, CreateInnerVertex, CreateHangingVertex, DestroyHangingVertex, CreateCell, EnterCell, LeaveCell}
+use Rattle.pe_base.specs.declared.kind.Kind.{Kind}
 use Rattle.pe_base.specs.declared.kind.Kind.TheVariants.{Kept, Born, Dying, Hanging}
 use Rattle.pe_base.specs.Events.{number_of}
 use Rattle.pe_base.specs.Faces.{is_same}
@@ -162,72 +163,67 @@ abbrev pub store_list : Bool → Bool → Place → Place → List Firing
 store_list inside done vertex cell = if inside then (if done then fires TouchVertexLastTime vertex cell ∷ [] else []) else (fires DestroyHangingVertex vertex cell ∷ [])
 
 module _ (traced : Event → Bool) (axes traversal : ℕ) where
+  -- a load is counted, and prints nothing more
+  loaded_adds : (first : Bool) (xs : List Firing) (vertex : Place) (w v : World) → Adds traced axes traversal first xs xs w v → Adds traced axes traversal first xs xs w (loaded vertex v)
+  loaded_adds first xs vertex w v a = record { text = a.text; tally = a.tally }
+
+  born : (untouched : Bool) (vertex cell : Place) (w : World)
+      → Adds traced axes traversal true (load_list true true untouched vertex cell) (load_list true true untouched vertex cell) w (if untouched then first_touch (prints traced axes traversal) Born vertex cell w else w)
+  born true vertex cell w =
+      let made : World = prints traced axes traversal (fires CreateInnerVertex vertex cell) (put_vertex vertex (fresh_vertex Born) (one_created w)) in
+      let create = fires CreateInnerVertex vertex cell ∷ [] in
+      let touch = fires TouchVertexFirstTime vertex cell ∷ [] in
+      adds_then traced axes traversal true create touch create touch w made (first_touch (prints traced axes traversal) Born vertex cell w)
+      (record { text = refl; tally = sym (ap (λ (b : Tally). record b { created = w.tally.created + 1 }) (raised-none true w.tally)) })
+      (quietly traced axes traversal true (fires TouchVertexFirstTime vertex cell) made (raised-none true made.tally))
+  born false vertex cell w = adds_nothing traced axes traversal true w
+
+  kept : (untouched : Bool) (vertex cell : Place) (w : World)
+      → Adds traced axes traversal false (load_list true false untouched vertex cell) (load_list true false untouched vertex cell) w (if untouched then first_touch (prints traced axes traversal) Kept vertex cell w else w)
+  kept true vertex cell w = record { text = refl; tally = sym (ap (λ (b : Tally). record b { read = w.tally.read + 1 }) (raised-none false w.tally)) }
+  kept false vertex cell w = adds_nothing traced axes traversal false w
+
   pub load_adds : (inside first : Bool) (vertex cell : Place) (w : World)
       → Adds traced axes traversal first (load_list inside first (w.loads vertex == 0) vertex cell) (load_list inside first (w.loads vertex == 0) vertex cell) w
       (load_vertex (prints traced axes traversal) (kind_from (inside && not first) inside) vertex cell w)
   load_adds false first vertex cell w = record { text = refl; tally = sym (ap (λ (b : Tally). record b { hanging = w.tally.hanging + 1 }) (raised-none first w.tally)) }
-  load_adds true true vertex cell w = born (w.loads vertex == 0)
-    where
-      created : Adds traced axes traversal true (fires CreateInnerVertex vertex cell ∷ []) (fires CreateInnerVertex vertex cell ∷ []) w (prints traced axes traversal (fires CreateInnerVertex vertex cell) (put_vertex vertex (fresh_vertex Born) (one_created w)))
-      created = record { text = refl; tally = sym (ap (λ (b : Tally). record b { created = w.tally.created + 1 }) (raised-none true w.tally)) }
+  load_adds true true vertex cell w =
+      loaded_adds true (load_list true true (w.loads vertex == 0) vertex cell) vertex w (if w.loads vertex == 0 then first_touch (prints traced axes traversal) Born vertex cell w else w) (born (w.loads vertex == 0) vertex cell w)
+  load_adds true false vertex cell w =
+      loaded_adds false (load_list true false (w.loads vertex == 0) vertex cell) vertex w (if w.loads vertex == 0 then first_touch (prints traced axes traversal) Kept vertex cell w else w) (kept (w.loads vertex == 0) vertex cell w)
 
-      touched : (v : World) → Adds traced axes traversal true (fires TouchVertexFirstTime vertex cell ∷ []) (fires TouchVertexFirstTime vertex cell ∷ []) v (prints traced axes traversal (fires TouchVertexFirstTime vertex cell) v)
-      touched v = quietly traced axes traversal true (fires TouchVertexFirstTime vertex cell) v (raised-none true v.tally)
-
-      both : Adds traced axes traversal true (fires CreateInnerVertex vertex cell ∷ fires TouchVertexFirstTime vertex cell ∷ []) (fires CreateInnerVertex vertex cell ∷ fires TouchVertexFirstTime vertex cell ∷ []) w
-          (first_touch (prints traced axes traversal) Born vertex cell w)
-      both = adds_then traced axes traversal true (fires CreateInnerVertex vertex cell ∷ []) (fires TouchVertexFirstTime vertex cell ∷ []) (fires CreateInnerVertex vertex cell ∷ []) (fires TouchVertexFirstTime vertex cell ∷ []) w
-          (prints traced axes traversal (fires CreateInnerVertex vertex cell) (put_vertex vertex (fresh_vertex Born) (one_created w)))
-          (first_touch (prints traced axes traversal) Born vertex cell w) created (touched (prints traced axes traversal (fires CreateInnerVertex vertex cell) (put_vertex vertex (fresh_vertex Born) (one_created w))))
-
-      born : (untouched : Bool) → Adds traced axes traversal true (load_list true true untouched vertex cell) (load_list true true untouched vertex cell) w (loaded vertex (if untouched then first_touch (prints traced axes traversal) Born vertex cell w else w))
-      born true = record { text = both.text; tally = both.tally }
-      born false = record { text = (adds_nothing traced axes traversal true w).text; tally = (adds_nothing traced axes traversal true w).tally }
-  load_adds true false vertex cell w = kept (w.loads vertex == 0)
-    where
-      kept : (untouched : Bool) → Adds traced axes traversal false (load_list true false untouched vertex cell) (load_list true false untouched vertex cell) w (loaded vertex (if untouched then first_touch (prints traced axes traversal) Kept vertex cell w else w))
-      kept true = record { text = refl; tally = sym (ap (λ (b : Tally). record b { read = w.tally.read + 1 }) (raised-none false w.tally)) }
-      kept false = record { text = (adds_nothing traced axes traversal false w).text; tally = (adds_nothing traced axes traversal false w).tally }
+  first_loads : (kind : Kind) (untouched : Bool) (vertex cell : Place) (w : World) → (if untouched then first_touch (prints traced axes traversal) kind vertex cell w else w).loads ≡ w.loads
+  first_loads Born true vertex cell w = refl
+  first_loads Kept true vertex cell w = refl
+  first_loads Dying true vertex cell w = refl
+  first_loads Hanging true vertex cell w = refl
+  first_loads kind false vertex cell w = refl
 
   -- a load of a vertex inside the root cube is counted
   pub load_counts : (inside first : Bool) (vertex cell other : Place) (w : World)
       → (load_vertex (prints traced axes traversal) (kind_from (inside && not first) inside) vertex cell w).loads other ≡ (if inside then (if is_same vertex other then w.loads other + 1 else w.loads other) else w.loads other)
   load_counts false first vertex cell other w = refl
-  load_counts true true vertex cell other w = same (w.loads vertex == 0)
-    where
-      same : (untouched : Bool) → (loaded vertex (if untouched then first_touch (prints traced axes traversal) Born vertex cell w else w)).loads other ≡ (if is_same vertex other then w.loads other + 1 else w.loads other)
-      same true = refl
-      same false = refl
-  load_counts true false vertex cell other w = same (w.loads vertex == 0)
-    where
-      same : (untouched : Bool) → (loaded vertex (if untouched then first_touch (prints traced axes traversal) Kept vertex cell w else w)).loads other ≡ (if is_same vertex other then w.loads other + 1 else w.loads other)
-      same true = refl
-      same false = refl
+  load_counts true true vertex cell other w = ap (λ f. if is_same vertex other then f other + 1 else f other) (first_loads Born (w.loads vertex == 0) vertex cell w)
+  load_counts true false vertex cell other w = ap (λ f. if is_same vertex other then f other + 1 else f other) (first_loads Kept (w.loads vertex == 0) vertex cell w)
+
+  written : (first done : Bool) (vertex cell : Place) (w : World)
+      → Adds traced axes traversal first (store_list true done vertex cell) (store_list true done vertex cell) w (if done then one_written (prints traced axes traversal (fires TouchVertexLastTime vertex cell) w) else w)
+  written first true vertex cell w = record { text = refl; tally = sym (ap (λ (b : Tally). record b { written = w.tally.written + 1 }) (raised-none first w.tally)) }
+  written first false vertex cell w = adds_nothing traced axes traversal first w
 
   pub store_adds : (inside first : Bool) (vertex cell : Place) (w : World)
       → Adds traced axes traversal first (store_list inside (w.loads vertex == 2 ^ axes) vertex cell) (store_list inside (w.loads vertex == 2 ^ axes) vertex cell) w
       (store_vertex (prints traced axes traversal) axes (kind_from (inside && not first) inside) vertex cell w)
   store_adds false first vertex cell w = quietly traced axes traversal first (fires DestroyHangingVertex vertex cell) w (raised-none first w.tally)
-  store_adds true true vertex cell w = written true (w.loads vertex == 2 ^ axes)
-    where
-      written : (first done : Bool) → Adds traced axes traversal first (store_list true done vertex cell) (store_list true done vertex cell) w (if done then one_written (prints traced axes traversal (fires TouchVertexLastTime vertex cell) w) else w)
-      written first true = record { text = refl; tally = sym (ap (λ (b : Tally). record b { written = w.tally.written + 1 }) (raised-none first w.tally)) }
-      written first false = adds_nothing traced axes traversal first w
-  store_adds true false vertex cell w = written false (w.loads vertex == 2 ^ axes)
-    where
-      written : (first done : Bool) → Adds traced axes traversal first (store_list true done vertex cell) (store_list true done vertex cell) w (if done then one_written (prints traced axes traversal (fires TouchVertexLastTime vertex cell) w) else w)
-      written first true = record { text = refl; tally = sym (ap (λ (b : Tally). record b { written = w.tally.written + 1 }) (raised-none first w.tally)) }
-      written first false = adds_nothing traced axes traversal first w
+  store_adds true true vertex cell w = written true (w.loads vertex == 2 ^ axes) vertex cell w
+  store_adds true false vertex cell w = written false (w.loads vertex == 2 ^ axes) vertex cell w
 
+  written_loads : (done : Bool) (vertex cell : Place) (w : World) → (if done then one_written (prints traced axes traversal (fires TouchVertexLastTime vertex cell) w) else w).loads ≡ w.loads
+  written_loads true vertex cell w = refl
+  written_loads false vertex cell w = refl
+
+  -- a store changes no count of loads
   pub store_loads : (inside first : Bool) (vertex cell : Place) (w : World) → (store_vertex (prints traced axes traversal) axes (kind_from (inside && not first) inside) vertex cell w).loads ≡ w.loads
   store_loads false first vertex cell w = refl
-  store_loads true true vertex cell w = either (w.loads vertex == 2 ^ axes)
-    where
-      either : (done : Bool) → (if done then one_written (prints traced axes traversal (fires TouchVertexLastTime vertex cell) w) else w).loads ≡ w.loads
-      either true = refl
-      either false = refl
-  store_loads true false vertex cell w = either (w.loads vertex == 2 ^ axes)
-    where
-      either : (done : Bool) → (if done then one_written (prints traced axes traversal (fires TouchVertexLastTime vertex cell) w) else w).loads ≡ w.loads
-      either true = refl
-      either false = refl
+  store_loads true true vertex cell w = written_loads (w.loads vertex == 2 ^ axes) vertex cell w
+  store_loads true false vertex cell w = written_loads (w.loads vertex == 2 ^ axes) vertex cell w
