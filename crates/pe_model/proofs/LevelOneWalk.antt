@@ -21,8 +21,8 @@ use Rattle.pe_base.specs.Walk.{each, begun, no_tally, nothing_stored, counted, l
 use Rattle.pe_base.specs.Traces.{prints, trace_text, tally_line, traversed, traversals_text}
 use Rattle.pe_base.proofs.Lists.{Each, Each-weaker, Each-append, Each-left, Each-right, flat_map_same, map-reverse}
 use Rattle.pe_base.proofs.Ranks.{is_same-true}
-use Rattle.pe_base.proofs.Counts.{OnGrid, is_same_itself, own_touches, touched-append, touched-flat_map, children_on_grid}
-use Rattle.pe_model.proofs.InnerVertices.{is_first-none, is_last-all, length-around, corner_is_corner, corner_on_grid, root_on_grid}
+use Rattle.pe_base.proofs.Counts.{OnGrid, is_same_itself, own_touches, touched-append, touched-flat_map, children_on_grid, root_on_grid}
+use Rattle.pe_base.proofs.InnerVertices.{is_first-none, is_last-all, length-around, corner_is_corner, corner_on_grid}
 use Rattle.pe_model.proofs.WalkSteps.{raised, raised-swap, raised-fresh, Adds, adds_nothing, adds_then, begins, ends, enters, leaves, counts, birth_adds, birth_loads, load_list, load_adds, load_counts, store_list, store_adds, store_loads}
 use Rattle.pe_model.specs.LevelOne.{is_first, is_last, load_firings, store_firings, birth_firings, cell_firings, traversal_firings, tally_of}
 
@@ -34,10 +34,12 @@ one_filter p (x ∷ xs) = go (p x) (one_filter p xs)
     go true e = ap (λ r. x ∷ r) e
     go false e = e
 
+-- the same place is inside the root cube, or not
 inside_same : (axes : ℕ) (a b : Place) → is_same a b ≡ true → is_inside axes b ≡ true → is_inside axes a ≡ true
 inside_same axes a b h i =
     ap₂ (λ (n : ℕ) (p : List ℕ). list_all (λ x. nat_lt 0 x && nat_lt x (3 ^ n)) (take axes p)) (is_same-true a b h).0 (is_same-true a b h).1 ∙ i
 
+-- only a vertex inside the root cube has a first and a last touch
 load_list-same : (inside first : Bool) (vertex cell : Place) (b c : Bool) → (inside ≡ true → b ≡ c) → load_list inside first b vertex cell ≡ load_list inside first c vertex cell
 load_list-same true first vertex cell b c h = ap (λ x. load_list true first x vertex cell) (h refl)
 load_list-same false first vertex cell b c h = refl
@@ -76,12 +78,12 @@ module _ (traced : Event → Bool) (axes traversal : ℕ) (four : axes ≤ 4) wh
   abbrev does : Firing → World → World
   does = prints traced axes traversal
 
-  -- a part of the walk prints these firings, and counts them
-  abbrev Fires : List Firing → World → World → Type 0
-  Fires xs w v = Adds traced axes traversal (traversal == 1) xs xs w v
+  -- a part of the walk fires these: it prints them, and counts them
+  abbrev Runs : List Firing → World → World → Type 0
+  Runs xs w v = Adds traced axes traversal (traversal == 1) xs xs w v
 
-  fires_then : (xs ys : List Firing) (a b c : World) → Fires xs a b → Fires ys b c → Fires (xs ++ ys) a c
-  fires_then xs ys a b c one two = adds_then traced axes traversal (traversal == 1) xs ys xs ys a b c one two
+  runs_then : (xs ys : List Firing) (a b c : World) → Runs xs a b → Runs ys b c → Runs (xs ++ ys) a c
+  runs_then xs ys a b c one two = adds_then traced axes traversal (traversal == 1) xs ys xs ys a b c one two
 
   -- one load more
   Loaded-more : (cell : Place) (k : ℕ) (done : List Touch) (w : World) → Loaded axes done w → Loaded axes (done ++ touch_of axes cell k ∷ []) (load_corner does axes traversal cell k w)
@@ -114,7 +116,7 @@ module _ (traced : Event → Bool) (axes traversal : ℕ) (four : axes ≤ 4) wh
         ∙ filter-append (is_corner vertex) before (cell ∷ behind)
         ∙ ap (λ b. filter (is_corner vertex) before ++ cond b (cell ∷ filter (is_corner vertex) behind) (filter (is_corner vertex) behind)) c
 
-    -- a corner that is loaded was loaded before for the cells before this one
+    -- before its load a corner was touched for the cells before this one, and for no other
     touched_before : (earlier later : List ℕ) (k : ℕ) → reverse (range_with_len 0 (2 ^ axes)) ≡ earlier ++ k ∷ later
         → length (touched_for (corner axes cell k) (touches axes before ++ map (touch_of axes cell) earlier)) ≡ length (filter (is_corner (corner axes cell k)) before)
     touched_before earlier later k e =
@@ -134,6 +136,7 @@ module _ (traced : Event → Bool) (axes traversal : ℕ) (four : axes ≤ 4) wh
         ap length (touched-append vertex (touches axes before) (map touch earlier)) ∙ length-append (touched_for vertex (touches axes before)) (touched_for vertex (map touch earlier))
         ∙ omega (arith, none, ap length (touched_corners axes vertex before four v on_before))
 
+    -- so it was never loaded where the cell is its first
     first_is : (earlier later : List ℕ) (k : ℕ) → reverse (range_with_len 0 (2 ^ axes)) ≡ earlier ++ k ∷ later → (w : World) → Loaded axes (touches axes before ++ map (touch_of axes cell) earlier) w
         → is_inside axes (corner axes cell k) ≡ true → (w.loads (corner axes cell k) == 0) ≡ is_first axes traversal (corner axes cell k) cell
     first_is earlier later k e w h inside =
@@ -141,28 +144,29 @@ module _ (traced : Event → Bool) (axes traversal : ℕ) (four : axes ≤ 4) wh
         ap (λ n. n == 0) (h vertex inside ∙ touched_before earlier later k e)
         ∙ sym (is_first-none axes (way_of traversal) vertex four (filter (is_corner vertex) before) (filter (is_corner vertex) behind) cell (around_is vertex (corner_on_grid axes 1 cell k on_cell) (corner_is_corner axes cell k)))
 
+    -- the loads of its corners, of which some are done
     load_all : (earlier ks : List ℕ) → reverse (range_with_len 0 (2 ^ axes)) ≡ earlier ++ ks → (w : World) → Loaded axes (touches axes before ++ map (touch_of axes cell) earlier) w
-        → Fires (flat_map (load_firings axes traversal cell) ks) w (each (load_corner does axes traversal cell) ks w)
+        → Runs (flat_map (load_firings axes traversal cell) ks) w (each (load_corner does axes traversal cell) ks w)
         × Loaded axes (touches axes before ++ map (touch_of axes cell) (earlier ++ ks)) (each (load_corner does axes traversal cell) ks w)
     load_all earlier [] e w h = (adds_nothing traced axes traversal (traversal == 1) w, subst (λ ks. Loaded axes (touches axes before ++ map (touch_of axes cell) ks) w) (sym (append-nil earlier)) h)
     load_all earlier (k ∷ ks) e w h =
         let vertex = corner axes cell k in
         let touch = touch_of axes cell in
         let v : World = load_corner does axes traversal cell k w in
-        let one : Fires (load_firings axes traversal cell k) w v
-        = subst (λ xs. Fires xs w v)
+        let one : Runs (load_firings axes traversal cell k) w v
+        = subst (λ xs. Runs xs w v)
         (load_list-same (is_inside axes vertex) (traversal == 1) vertex cell (w.loads vertex == 0) (is_first axes traversal vertex cell) (first_is earlier ks k e w h))
         (load_adds traced axes traversal (is_inside axes vertex) (traversal == 1) vertex cell w) in
         let more : Loaded axes (touches axes before ++ map touch (earlier ++ k ∷ [])) v
         = subst (λ ts. Loaded axes ts v) (append_assoc (touches axes before) (map touch earlier) (touch k ∷ []) ∙ ap (λ r. touches axes before ++ r) (sym (map-append touch earlier (k ∷ []))))
         (Loaded-more cell k (touches axes before ++ map touch earlier) w h) in
         let rest = load_all (earlier ++ k ∷ []) ks (e ∙ sym (append_assoc earlier (k ∷ []) ks)) v more in (
-          fires_then (load_firings axes traversal cell k) (flat_map (load_firings axes traversal cell) ks)
+          runs_then (load_firings axes traversal cell k) (flat_map (load_firings axes traversal cell) ks)
               w v (each (load_corner does axes traversal cell) ks v) one rest.0,
           subst (λ js. Loaded axes (touches axes before ++ map touch js) (each (load_corner does axes traversal cell) ks v)) (append_assoc earlier (k ∷ []) ks) rest.1,
         )
 
-    -- after its loads
+    -- after the loads of the cell it was touched for this one too
     last_is : (k : ℕ) (w : World) → Loaded axes (touches axes (before ++ cell ∷ [])) w
         → is_inside axes (corner axes cell k) ≡ true → (w.loads (corner axes cell k) == 2 ^ axes) ≡ is_last axes traversal (corner axes cell k) cell
     last_is k w h inside =
@@ -174,25 +178,27 @@ module _ (traced : Event → Bool) (axes traversal : ℕ) (four : axes ≤ 4) wh
         ap₂ (λ n m. n == m) (h vertex inside ∙ ap length all ∙ length-append (filter (is_corner vertex) before) (cell ∷ [])) (sym (length-around axes (way_of traversal) vertex four v inside))
         ∙ sym (is_last-all axes (way_of traversal) vertex four (filter (is_corner vertex) before) (filter (is_corner vertex) behind) cell (around_is vertex v (corner_is_corner axes cell k)))
 
+    -- the stores of its corners
     store_all : (ks : List ℕ) (w : World) → Loaded axes (touches axes (before ++ cell ∷ [])) w
-        → Fires (flat_map (store_firings axes traversal cell) ks) w (each (store_corner does axes traversal cell) ks w)
+        → Runs (flat_map (store_firings axes traversal cell) ks) w (each (store_corner does axes traversal cell) ks w)
         × Loaded axes (touches axes (before ++ cell ∷ [])) (each (store_corner does axes traversal cell) ks w)
     store_all [] w h = (adds_nothing traced axes traversal (traversal == 1) w, h)
     store_all (k ∷ ks) w h =
         let vertex = corner axes cell k in
         let v : World = store_corner does axes traversal cell k w in
-        let one : Fires (store_firings axes traversal cell k) w v
-        = subst (λ xs. Fires xs w v)
+        let one : Runs (store_firings axes traversal cell k) w v
+        = subst (λ xs. Runs xs w v)
         (store_list-same (is_inside axes vertex) vertex cell (w.loads vertex == 2 ^ axes) (is_last axes traversal vertex cell) (last_is k w h))
         (store_adds traced axes traversal (is_inside axes vertex) (traversal == 1) vertex cell w) in
         let rest = store_all ks v (λ other inside. ap (λ f. f other) (store_loads traced axes traversal (is_inside axes vertex) (traversal == 1) vertex cell w) ∙ h other inside) in (
-          fires_then (store_firings axes traversal cell k) (flat_map (store_firings axes traversal cell) ks)
+          runs_then (store_firings axes traversal cell k) (flat_map (store_firings axes traversal cell) ks)
               w v (each (store_corner does axes traversal cell) ks v) one rest.0,
           rest.1,
         )
 
+    -- The walk of the cell. It is counted before its corners are loaded, and its firing stands behind theirs.
     cell_adds : (w : World) → Loaded axes (touches axes before) w
-        → Fires (cell_firings axes traversal cell) w (walk_cell does axes traversal cell w)
+        → Runs (cell_firings axes traversal cell) w (walk_cell does axes traversal cell w)
         × Loaded axes (touches axes (before ++ cell ∷ [])) (walk_cell does axes traversal cell w)
     cell_adds w h =
         let first : Bool = traversal == 1 in
@@ -225,17 +231,18 @@ module _ (traced : Event → Bool) (axes traversal : ℕ) (four : axes ≤ 4) wh
           stores.1,
         )
 
+  -- the walks of the cells behind some that are walked
   cells_add : (before behind : List Place) → children axes (way_of traversal) root ≡ before ++ behind → (w : World) → Loaded axes (touches axes before) w
-      → Fires (flat_map (cell_firings axes traversal) behind) w (each (walk_cell does axes traversal) behind w)
+      → Runs (flat_map (cell_firings axes traversal) behind) w (each (walk_cell does axes traversal) behind w)
   cells_add before [] e w h = adds_nothing traced axes traversal (traversal == 1) w
   cells_add before (cell ∷ behind) e w h =
       let v : World = walk_cell does axes traversal cell w in
       let one = cell_adds before cell behind e w h in
-      fires_then (cell_firings axes traversal cell) (flat_map (cell_firings axes traversal) behind)
+      runs_then (cell_firings axes traversal cell) (flat_map (cell_firings axes traversal) behind)
       w v (each (walk_cell does axes traversal) behind v) one.0
       (cells_add (before ++ cell ∷ []) behind (e ∙ sym (append_assoc before (cell ∷ []) behind)) v one.1)
 
-  pub traverse_adds : (w : World) → Fires (traversal_firings axes traversal) (begun traversal w) (traverse does axes traversal w)
+  traverse_adds : (w : World) → Runs (traversal_firings axes traversal) (begun traversal w) (traverse does axes traversal w)
   traverse_adds w =
       let first : Bool = traversal == 1 in
       let cells = children axes (way_of traversal) root in
@@ -249,12 +256,15 @@ module _ (traced : Event → Bool) (axes traversal : ℕ) (four : axes ≤ 4) wh
       (adds_then traced axes traversal first opening walking opening walking a b c (begins traced axes traversal first root root a) (cells_add [] cells refl b (λ vertex inside. refl)))
       (ends traced axes traversal first root root c)
 
+  -- what a traversal prints
   pub traverse_text : (w : World) → (traverse (prints traced axes traversal) axes traversal w).text ≡ w.text ++ trace_text traced axes traversal (traversal_firings axes traversal)
   traverse_text w = (traverse_adds w).text
 
+  -- what it counts
   pub traverse_tally : (w : World) → (traverse (prints traced axes traversal) axes traversal w).tally ≡ tally_of traversal (traversal_firings axes traversal)
   traverse_tally w = (traverse_adds w).tally ∙ raised-fresh traversal (traversal_firings axes traversal)
 
+-- what some traversals print
 pub traversals_are : (traced : Event → Bool) (axes : ℕ) → axes ≤ 4 → (count : ℕ) → traversals_text traced axes count ≡ flat_map (λ t. trace_text traced axes t (traversal_firings axes t) ++ tally_line (tally_of t (traversal_firings axes t))) (range_with_len 1 count)
 traversals_are traced axes four count = go (range_with_len 1 count) nothing_stored
   where

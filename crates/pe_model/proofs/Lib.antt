@@ -1,3 +1,2 @@
-pub mod InnerVertices
 pub mod WalkSteps
 pub mod LevelOneWalk

@@ -1,22 +1,23 @@
 -- The cells around a vertex that lies inside the root cube, on level 1: how many there are, and which is the first
 -- and which the last of them.
-use Rattle.std.proofs.Common.{◌≡◌, ℕ, zero, suc, ◌+◌, ◌-◌, ◌^◌, ◌<◌, ◌≤◌, ◌⊎◌, Bool, true, false, cond, ◌&&◌, ◌||◌, ◌==◌, nat_lt, List, [], ◌∷◌, ◌++◌, map, filter, reverse, length, take, drop, replicate, refl, sym, ap, ap₂, ◌∙◌, subst, true≢false, inl, inr, append-nil, length-append, arith}
+use Rattle.std.proofs.Common.{◌≡◌, ℕ, zero, suc, ◌+◌, ◌-◌, ◌^◌, ◌<◌, ◌≤◌, ◌⊎◌, Bool, true, ◌&&◌, ◌||◌, ◌==◌, nat_lt, List, [], ◌∷◌, ◌++◌, filter, length, take, drop, replicate, refl, sym, ap, ap₂, ◌∙◌, subst, inl, inr, append-nil, length-append, arith}
 use Rattle.std.specs.List.{flat_map, range_with_len, list_all}
-use Rattle.std.proofs.lemmas.List.{take-append-drop}
+use Rattle.std.proofs.lemmas.List.{length-take-le, take-append-drop}
 use Rattle.std.proofs.lemmas.List.Concat.{flat_map-append}
 use Rattle.std.proofs.lemmas.Bool.Decides.{nat_tests}
 use Rattle.pe_base.specs.declared.place.Place.{Place}
 use Rattle.pe_base.specs.declared.way.Way.{Way}
 use Rattle.pe_base.specs.declared.way.Way.TheVariants.{Forward, Inverted}
-use Rattle.pe_base.specs.Places.{root, at, bits, moved, corner}
+use Rattle.pe_base.specs.Places.{at, bits, moved, corner}
 use Rattle.pe_base.specs.Curve.{order}
 use Rattle.pe_base.specs.Around.{is_corner_pos, is_corner, around, steps}
 use Rattle.pe_base.specs.Faces.{steps_to, steps_from}
 use Rattle.pe_base.specs.Kinds.{is_inside}
 use Rattle.pe_base.proofs.Lists.{Each, Each-all, Each-map, In, In-flat_map}
+use Rattle.pe_base.proofs.Children.{length-map-range}
 use Rattle.pe_base.proofs.Corners.{same_tests}
 use Rattle.pe_base.proofs.Ranks.{and_left, and_right}
-use Rattle.pe_base.proofs.Counts.{OnGrid, steps_to_cells, steps_from_cells}
+use Rattle.pe_base.proofs.Counts.{OnGrid, same_itself, true_eq, steps_to_cells, steps_from_cells}
 
 length-steps : {X : Type 0} (xs : List X) → length (steps xs) ≡ length xs - 1
 length-steps [] = refl
@@ -51,17 +52,30 @@ module _ (axes : ℕ) (way : Way) (vertex : Place) (four : axes ≤ 4) (before b
   is_first-none = same_tests _ _ _ _ (λ h. omega (arith, all, h)) (λ h. omega (arith, all, h))
     where
       all : length (steps_to axes way vertex cell) ≡ length before - (length before - 1)
-      all = omega (arith, to_cells (length before) 0 (omega arith), ap length (append-nil before), to_cells (length before + 1) 1 refl,
-            ap (λ cs. length (flat_map (steps_to axes way vertex) cs)) (append-nil before), length-flat_map_one (steps_to axes way vertex) before cell, length-append before (cell ∷ []))
+      all = omega (
+        arith,
+        to_cells (length before) 0 (omega arith),
+        ap length (append-nil before),
+        to_cells (length before + 1) 1 refl,
+        ap (λ cs. length (flat_map (steps_to axes way vertex) cs)) (append-nil before),
+        length-flat_map_one (steps_to axes way vertex) before cell,
+        length-append before (cell ∷ []),
+      )
 
   -- and the last where it and those before it are all
   pub is_last-all : (length (steps_from axes way vertex cell) == 0) ≡ (length before + 1 == length (around axes way vertex))
   is_last-all = same_tests _ _ _ _ (λ h. omega (arith, all, h, whole, short behind)) (λ h. omega (arith, all, h, whole, short behind))
     where
       all : length (steps_from axes way vertex cell) ≡ length (take 1 behind)
-      all = omega (arith, from_cells (length before) 0 (omega arith), from_cells (length before + 1) 1 refl,
-            ap (λ cs. length (flat_map (steps_from axes way vertex) cs)) (append-nil before), length-flat_map_one (steps_from axes way vertex) before cell,
-            length-append before (cell ∷ []), length-append before (cell ∷ take 1 behind))
+      all = omega (
+        arith,
+        from_cells (length before) 0 (omega arith),
+        from_cells (length before + 1) 1 refl,
+        ap (λ cs. length (flat_map (steps_from axes way vertex) cs)) (append-nil before),
+        length-flat_map_one (steps_from axes way vertex) before cell,
+        length-append before (cell ∷ []),
+        length-append before (cell ∷ take 1 behind),
+      )
 
       whole : length (around axes way vertex) ≡ length before + suc (length behind)
       whole = ap length is ∙ length-append before (cell ∷ behind)
@@ -107,18 +121,10 @@ list_all-In : {X : Type 0} (p : X → Bool) (x : X) (xs : List X) → list_all p
 list_all-In p x [] h i = absurd (omega arith)
 list_all-In p x (y ∷ xs) h i = elim i [ inl e ↦ ap p e ∙ and_left (p y) _ h | inr k ↦ list_all-In p x xs (and_right (p y) _ h) k ]
 
-true_eq : (x y : ℕ) → (x == y) ≡ true → x ≡ y
-true_eq x y h = grind (arith, nat_tests)
-
-length-take : (n : ℕ) (xs : List ℕ) → n ≤ length xs → length (take n xs) ≡ n
-length-take zero xs h = refl
-length-take (suc n) [] h = absurd (omega arith)
-length-take (suc n) (x ∷ xs) h = ap suc (length-take n xs (omega arith))
-
 pub length-around : (axes : ℕ) (way : Way) (vertex : Place) → axes ≤ 4 → OnGrid axes 1 vertex → is_inside axes vertex ≡ true → length (around axes way vertex) ≡ 2 ^ axes
 length-around axes way vertex four on inside =
     let pos = take axes vertex.pos in
-    let l : length pos ≡ axes = length-take axes vertex.pos (omega (arith, on.1)) in
+    let l : length pos ≡ axes = length-take-le axes vertex.pos (omega (arith, on.1)) in
     let same : at 1 pos ≡ vertex = ap₂ (λ (n : ℕ) (p : List ℕ). record { level = n; pos = p }) (sym on.0)
     (ap (λ n. pos ++ replicate (4 - n) 0) l ∙ ap (λ r. pos ++ r) (sym on.2) ∙ take-append-drop axes vertex.pos) in
     let here : In pos (inner axes) = inside_inner axes pos l (subst (λ n. list_all (λ x. nat_lt 0 x && nat_lt x (3 ^ n)) pos ≡ true) on.0 inside) in
@@ -127,17 +133,14 @@ length-around axes way vertex four on inside =
 
 -- a corner of a cell
 pub corner_is_corner : (axes : ℕ) (cell : Place) (k : ℕ) → is_corner (corner axes cell k) cell ≡ true
-corner_is_corner axes cell k = ap₂ (λ a b. a && b) (itself cell.level) (near cell.pos (bits axes k) (Each-map _ _ (range_with_len 0 axes) (Each-all _ (λ axis. omega arith) (range_with_len 0 axes))))
+corner_is_corner axes cell k = ap₂ (λ a b. a && b) (same_itself cell.level) (near cell.pos (bits axes k) (Each-map _ _ (range_with_len 0 axes) (Each-all _ (λ axis. omega arith) (range_with_len 0 axes))))
   where
-    itself : (x : ℕ) → (x == x) ≡ true
-    itself x = grind (arith, nat_tests)
-
     either : (x d : ℕ) → d < 2 → (x + d == x || x + d == x + 1) ≡ true
     either x d h = grind (arith, nat_tests)
 
     own : (p : List ℕ) → is_corner_pos p p ≡ true
     own [] = refl
-    own (x ∷ p) = ap₂ (λ a b. a && b) (ap (λ b. b || (x == x + 1)) (itself x)) (own p)
+    own (x ∷ p) = ap₂ (λ a b. a && b) (ap (λ b. b || (x == x + 1)) (same_itself x)) (own p)
 
     near : (p ds : List ℕ) → Each (λ d. d < 2) ds → is_corner_pos (moved p ds) p ≡ true
     near [] ds e = refl
@@ -157,20 +160,5 @@ drop-moved (suc n) [] ds l = refl
 drop-moved (suc n) (x ∷ p) [] l = absurd (omega arith)
 drop-moved (suc n) (x ∷ p) (d ∷ ds) l = drop-moved n p ds (omega arith)
 
-length-map_range : (f : ℕ → ℕ) (a n : ℕ) → length (map f (range_with_len a n)) ≡ n
-length-map_range f a zero = refl
-length-map_range f a (suc n) = ap suc (length-map_range f (a + 1) n)
-
 pub corner_on_grid : (axes level : ℕ) (cell : Place) (k : ℕ) → OnGrid axes level cell → OnGrid axes level (corner axes cell k)
-corner_on_grid axes level cell k on = (on.0, length-moved cell.pos (bits axes k) ∙ on.1, drop-moved axes cell.pos (bits axes k) (length-map_range _ 0 axes) ∙ on.2)
-
-pub root_on_grid : (axes : ℕ) → axes ≤ 4 → OnGrid axes 0 root
-root_on_grid axes four = (refl, refl, zeros axes four)
-  where
-    zeros : (n : ℕ) → n ≤ 4 → drop {A = ℕ} n (0 ∷ 0 ∷ 0 ∷ 0 ∷ []) ≡ replicate (4 - n) 0
-    zeros zero h = refl
-    zeros (suc zero) h = refl
-    zeros (suc (suc zero)) h = refl
-    zeros (suc (suc (suc zero))) h = refl
-    zeros (suc (suc (suc (suc zero)))) h = refl
-    zeros (suc (suc (suc (suc (suc n))))) h = absurd (omega arith)
+corner_on_grid axes level cell k on = (on.0, length-moved cell.pos (bits axes k) ∙ on.1, drop-moved axes cell.pos (bits axes k) (length-map-range _ 0 axes) ∙ on.2)
