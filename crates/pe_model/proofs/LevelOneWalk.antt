@@ -1,6 +1,6 @@
 -- The walk by address of level 1 prints and counts its list of firings.
-use Rattle.std.proofs.Common.{◌≡◌, ℕ, zero, suc, ◌+◌, ◌^◌, ◌≤◌, Bool, true, false, cond, not, ◌&&◌, ◌==◌, nat_lt, List, [], ◌∷◌, ◌++◌, map, filter, reverse, length, take, refl, sym, ap, ap₂, ◌∙◌, subst, true≢false, append-nil, append_assoc, length-append, arith}
-use Rattle.std.specs.Prelude.{if◌then◌else◌, max, fold}
+use Rattle.std.proofs.Common.{◌≡◌, ℕ, suc, ◌+◌, ◌^◌, ◌≤◌, Bool, true, false, cond, ◌&&◌, ◌==◌, nat_lt, List, [], ◌∷◌, ◌++◌, map, filter, reverse, length, take, refl, sym, ap, ap₂, ◌∙◌, subst, true≢false, append-nil, append_assoc, length-append, arith}
+use Rattle.std.specs.Prelude.{if◌then◌else◌}
 use Rattle.std.specs.List.{flat_map, range_with_len, list_all}
 use Rattle.std.proofs.lemmas.List.Concat.{flat_map-append}
 use Rattle.std.proofs.lemmas.List.{map-append}
@@ -8,22 +8,20 @@ use Rattle.std.proofs.lemmas.List.Elements.{filter-append}
 use Rattle.pe_base.specs.declared.place.Place.{Place}
 use Rattle.pe_base.specs.declared.event.Event.{Event}
 use Rattle.pe_base.specs.declared.event.Event.TheVariants.{BeginIteration, EndIteration, EnterCell, LeaveCell}
-use Rattle.pe_base.specs.declared.tally.Tally.{Tally}
-use Rattle.pe_base.specs.declared.way.Way.{Way}
 use Rattle.pe_base.specs.Places.{root, corner}
 use Rattle.pe_base.specs.Ways.{way_of}
 use Rattle.pe_base.specs.Curve.{children, order}
 use Rattle.pe_base.specs.Around.{is_corner, around}
-use Rattle.pe_base.specs.Faces.{Touch, is_same, corner_touches, touched_for, steps_to, steps_from}
+use Rattle.pe_base.specs.Faces.{Touch, is_same, corner_touches, touched_for}
 use Rattle.pe_base.specs.Kinds.{is_inside}
 use Rattle.pe_base.specs.Working.{World, Firing, fires}
-use Rattle.pe_base.specs.Walk.{each, begun, no_tally, nothing_stored, counted, load_corner, store_corner, birth, walk_cell, traverse}
+use Rattle.pe_base.specs.Walk.{each, begun, nothing_stored, counted, load_corner, store_corner, birth, walk_cell, traverse}
 use Rattle.pe_base.specs.Traces.{prints, trace_text, tally_line, traversed, traversals_text}
 use Rattle.pe_base.proofs.Lists.{Each, Each-weaker, Each-append, Each-left, Each-right, flat_map_same, map-reverse}
 use Rattle.pe_base.proofs.Ranks.{is_same-true}
 use Rattle.pe_base.proofs.Counts.{OnGrid, is_same_itself, own_touches, touched-append, touched-flat_map, children_on_grid, root_on_grid}
 use Rattle.pe_base.proofs.InnerVertices.{is_first-none, is_last-all, length-around, corner_is_corner, corner_on_grid}
-use Rattle.pe_model.proofs.WalkSteps.{raised, raised-swap, raised-fresh, Adds, adds_nothing, adds_then, begins, ends, enters, leaves, counts, birth_adds, birth_loads, load_list, load_adds, load_counts, store_list, store_adds, store_loads}
+use Rattle.pe_model.proofs.WalkSteps.{raised-swap, raised-fresh, Adds, adds_nothing, adds_then, begins, ends, enters, leaves, counts, birth_adds, birth_loads, load_list, load_adds, load_counts, store_list, store_adds, store_loads}
 use Rattle.pe_model.specs.LevelOne.{is_first, is_last, load_firings, store_firings, birth_firings, cell_firings, traversal_firings, tally_of}
 
 one_filter : {X : Type 0} (p : X → Bool) (xs : List X) → flat_map (λ x. cond (p x) (x ∷ []) []) xs ≡ filter p xs

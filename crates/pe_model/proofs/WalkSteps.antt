@@ -1,5 +1,5 @@
 -- What each step of the walk by address prints and counts.
-use Rattle.std.proofs.Common.{◌≡◌, ℕ, zero, suc, ◌+◌, ◌^◌, ◌≤◌, max, Bool, true, false, cond, not, ◌&&◌, ◌==◌, List, [], ◌∷◌, ◌++◌, map, filter, refl, sym, ap, ap₂, ◌∙◌, subst, length, append-nil, append_assoc, length-append, arith}
+use Rattle.std.proofs.Common.{◌≡◌, ℕ, ◌+◌, ◌^◌, max, Bool, true, false, not, ◌&&◌, ◌==◌, List, [], ◌∷◌, ◌++◌, map, filter, refl, sym, ap, ap₂, ◌∙◌, length, append-nil, append_assoc, length-append, arith}
 use Rattle.std.specs.Prelude.{if◌then◌else◌, fold, count_by}
 use Rattle.std.specs.List.{flat_map}
 use Rattle.std.specs.FinMap as map
@@ -8,7 +8,6 @@ use Rattle.std.proofs.lemmas.List.Concat.{flat_map-append}
 use Rattle.std.proofs.lemmas.List.Elements.{filter-append}
 use Rattle.std.proofs.lemmas.List.Sums.{fold-append, length-filter}
 use Rattle.pe_base.specs.declared.place.Place.{Place}
-use Rattle.pe_base.specs.declared.way.Way.{Way}
 use Rattle.pe_base.specs.declared.tally.Tally.{Tally}
 use Rattle.pe_base.specs.declared.event.Event.{Event}
 use Rattle.pe_base.specs.declared.event.Event.TheVariants.{BeginIteration, EndIteration, TouchVertexFirstTime, TouchVertexLastTime, CreateInnerVertex, CreateHangingVertex, DestroyHangingVertex, CreateCell, EnterCell, LeaveCell}
@@ -19,7 +18,7 @@ use Rattle.pe_base.specs.Faces.{is_same}
 use Rattle.pe_base.specs.Kinds.{kind_from}
 use Rattle.pe_base.specs.Payloads.{zeros}
 use Rattle.pe_base.specs.Working.{World, Firing, fires}
-use Rattle.pe_base.specs.Touches.{loaded, fresh_vertex, of_kind, put_vertex, one_read, one_created, one_written, one_hanging, first_touch, load_vertex, store_vertex}
+use Rattle.pe_base.specs.Touches.{loaded, fresh_vertex, put_vertex, one_created, one_written, first_touch, load_vertex, store_vertex}
 use Rattle.pe_base.specs.Walk.{counted, no_tally}
 use Rattle.pe_base.specs.Traces.{trace_line, trace_text, prints}
 use Rattle.pe_model.specs.LevelOne.{count_of, tally_of}
