@@ -82,7 +82,7 @@ fold-max : (d l : ℕ) (xs : List ℕ) → fold max (max d l) xs ≡ max (fold m
 fold-max d l [] = refl
 fold-max d l (x ∷ xs) = ap (λ n. fold max n xs) (let e : max (max d l) x ≡ max (max d x) l = omega arith in e) ∙ fold-max (max d x) l xs
 
--- a cell that is counted before others of its walk, or behind them
+-- a cell may be counted before other firings, or behind them
 pub raised-swap : (first : Bool) (cell : Place) (xs : List Firing) (a : Tally) → raised first (fires EnterCell cell cell ∷ xs) a ≡ raised first (xs ++ fires EnterCell cell cell ∷ []) a
 raised-swap first cell xs a =
     sym (raised-append first (fires EnterCell cell cell ∷ []) xs a)
@@ -94,15 +94,16 @@ raised-swap first cell xs a =
 pub raised-fresh : (traversal : ℕ) (xs : List Firing) → raised (traversal == 1) xs (no_tally traversal) ≡ tally_of traversal xs
 raised-fresh traversal xs = tally_same _ _ refl refl (omega arith) (omega arith) (omega arith) (omega arith) refl (omega arith) refl
 
-trace_text-append : (traced : Event → Bool) (axes traversal : ℕ) (xs ys : List Firing) → trace_text traced axes traversal (xs ++ ys) ≡ trace_text traced axes traversal xs ++ trace_text traced axes traversal ys
+-- the text of some firings and of more
+pub trace_text-append : (traced : Event → Bool) (axes traversal : ℕ) (xs ys : List Firing) → trace_text traced axes traversal (xs ++ ys) ≡ trace_text traced axes traversal xs ++ trace_text traced axes traversal ys
 trace_text-append traced axes traversal xs ys =
     ap (flat_map (trace_line axes traversal)) (filter-append (λ firing. traced firing.event) xs ys)
     ∙ flat_map-append (trace_line axes traversal) (filter (λ firing. traced firing.event) xs) (filter (λ firing. traced firing.event) ys)
 
--- A step prints some firings and counts some. The first traversal counts no vertex as read.
-pub record Adds (traced : Event → Bool) (axes traversal : ℕ) (first : Bool) (printed told : List Firing) (before after : World) : Type 0 where
+-- A step prints some firings and tallies some. The first traversal counts no vertex as read.
+pub record Adds (traced : Event → Bool) (axes traversal : ℕ) (first : Bool) (printed tallied : List Firing) (before after : World) : Type 0 where
   pub text : after.text ≡ before.text ++ trace_text traced axes traversal printed
-  pub tally : after.tally ≡ raised first told before.tally
+  pub tally : after.tally ≡ raised first tallied before.tally
 
 module _ (traced : Event → Bool) (axes traversal : ℕ) where
   pub adds_nothing : (first : Bool) (w : World) → Adds traced axes traversal first [] [] w w
