@@ -21,7 +21,7 @@ use Rattle.pe_base.specs.Working.{World, Firing, fires}
 use Rattle.pe_base.specs.Touches.{loaded, fresh_vertex, put_vertex, one_created, one_written, first_touch, load_vertex, store_vertex}
 use Rattle.pe_base.specs.Walk.{counted, no_tally}
 use Rattle.pe_base.specs.Traces.{trace_line, trace_text, prints}
-use Rattle.pe_model.specs.LevelOne.{count_of, tally_of}
+use Rattle.pe_run.specs.LevelOne.{count_of, tally_of}
 
 -- the levels of the cells that are entered
 abbrev pub entered_levels : List Firing → List ℕ
