@@ -1,6 +1,6 @@
 -- The loads and stores of one vertex, and its steps.
-use Rattle.std.proofs.Common.{◌≡◌, ◌≢◌, ℕ, zero, suc, ◌+◌, ◌-◌, ◌*◌, ◌<◌, ◌≤◌, ◌⊎◌, Bool, true, false, cond, ◌&&◌, ◌||◌, ◌==◌, nat_eq, List, [], ◌∷◌, ◌++◌, map, filter, reverse, length, take, drop, replicate, refl, sym, ap, ap₂, ◌∙◌, subst, true≢false, inl, inr, append-nil, arith}
-use Rattle.std.specs.List.{flat_map, list_any}
+use Rattle.std.proofs.Common.{◌≡◌, ◌≢◌, ℕ, zero, suc, ◌+◌, ◌-◌, ◌<◌, ◌≤◌, ◌⊎◌, Bool, true, false, cond, ◌&&◌, ◌||◌, ◌==◌, nat_eq, List, [], ◌∷◌, ◌++◌, map, filter, reverse, length, take, drop, replicate, refl, sym, ap, ap₂, ◌∙◌, subst, inl, inr, append-nil, arith}
+use Rattle.std.specs.List.{flat_map}
 use Rattle.std.specs.Cmp.Lexicographic.{pointwise}
 use Rattle.std.proofs.lemmas.List.{map-append, reverse-reverse}
 use Rattle.std.proofs.lemmas.List.Elements.{filter-append}
@@ -12,12 +12,12 @@ use Rattle.pe_base.specs.Places.{root, finer, moved}
 use Rattle.pe_base.specs.Curve.{digit_lists, children, order}
 use Rattle.pe_base.specs.Around.{is_corner_pos, is_corner, around, steps}
 use Rattle.pe_base.specs.Faces.{Touch, is_same, corner_touches, loads, stores, touched_for, steps_to, steps_from}
-use Rattle.pe_base.proofs.Lists.{Each, Each-all, Each-weaker, Each-append, Each-map, Each-flat_map, Each-reverse, map-map, flat_map_same, flat_map_none, map-flat_map, flat_map-flat_map, filter-flat_map, filter-map, filter_none, filter_same, map-reverse, filter-reverse, reverse-flat_map}
+use Rattle.pe_base.proofs.Lists.{Each, Each-all, Each-weaker, Each-map, Each-reverse, map-map, flat_map_same, flat_map_none, map-flat_map, flat_map-flat_map, filter-flat_map, filter-map, filter_none, filter_same, map-reverse, filter-reverse, reverse-flat_map}
 use Rattle.pe_base.proofs.Mirrors.{Digits3, digit_lists_below}
 use Rattle.pe_base.proofs.Children.{opposite, reverse-children, child_of, child_ks, child_ks-below, children_are, length-digits}
-use Rattle.pe_base.proofs.Corners.{IsBits, bit_lists, bit_lists_below, touch_at, corner_touches_are}
+use Rattle.pe_base.proofs.Corners.{bit_lists, touch_at, corner_touches_are}
 use Rattle.pe_base.proofs.FaceLists.{reverse-stores}
-use Rattle.pe_base.proofs.Ranks.{Rising, Rising-above, rank, rank_of, OnLevel, children_on_level, child_four, is_same-true, around_rises, top}
+use Rattle.pe_base.proofs.Ranks.{Rising, Rising-above, rank, rank_of, child_four, is_same-true, around_rises, top}
 use Rattle.pe_base.proofs.Quiet.{false_unless}
 use Rattle.pe_base.proofs.Waits.{deeper, deeper_is, deeper-suc}
 
@@ -84,7 +84,7 @@ module _ {X : Type 0} (same : X → X → Bool) (r : X → ℕ) (itself : (x : X
       ap₂ (λ a b. a ++ b) one (tail ∙ steps_from_first n (suc (r x)) high (y ∷ xs) s.1)
 
 -- a place is the same as itself
-same_itself : (x : ℕ) → (x == x) ≡ true
+pub same_itself : (x : ℕ) → (x == x) ≡ true
 same_itself x = grind (arith, nat_tests)
 
 pos_itself : (xs : List ℕ) → pointwise nat_eq xs xs ≡ true
@@ -149,7 +149,7 @@ eq_true x y h = grind (arith, nat_tests)
 eq_false : (x y : ℕ) → x ≢ y → (x == y) ≡ false
 eq_false x y h = grind (arith, nat_tests)
 
-true_eq : (x y : ℕ) → (x == y) ≡ true → x ≡ y
+pub true_eq : (x y : ℕ) → (x == y) ≡ true → x ≡ y
 true_eq x y h = grind (arith, nat_tests)
 
 false_ne : (x y : ℕ) → (x == y) ≡ false → x ≢ y
@@ -212,7 +212,7 @@ one_corner (suc n) cell (x ∷ pos) (y ∷ q) l m e =
     ]
 
 -- among the touches of a cell's own corners, those of a vertex of its level
-own_touches : (axes : ℕ) (vertex cell : Place) → axes ≤ 4 → OnGrid axes vertex.level vertex → OnGrid axes vertex.level cell → touched_for vertex (reverse (corner_touches axes cell)) ≡ cond (is_corner vertex cell) (cell ∷ []) []
+pub own_touches : (axes : ℕ) (vertex cell : Place) → axes ≤ 4 → OnGrid axes vertex.level vertex → OnGrid axes vertex.level cell → touched_for vertex (reverse (corner_touches axes cell)) ≡ cond (is_corner vertex cell) (cell ∷ []) []
 own_touches axes vertex cell four v c =
     let same = λ (t : Touch). is_same t.vertex vertex in
     let test = λ (bs : List ℕ). pointwise nat_eq (moved cell.pos bs) vertex.pos in
@@ -235,10 +235,10 @@ other_touches axes vertex cell four h =
     ap (map (λ (t : Touch). t.cell)) (filter_none (λ t. is_same t.vertex vertex) (reverse (corner_touches axes cell)) (Each-reverse _ (corner_touches axes cell) (subst (Each _) (sym (corner_touches_are axes cell four))
     (Each-map _ (touch_at cell) (bit_lists axes) (Each-all _ (λ bs. ap (λ b. b && pointwise nat_eq (moved cell.pos bs) vertex.pos) (eq_false cell.level vertex.level h)) (bit_lists axes))))))
 
-touched-append : (vertex : Place) (ts us : List Touch) → touched_for vertex (ts ++ us) ≡ touched_for vertex ts ++ touched_for vertex us
+pub touched-append : (vertex : Place) (ts us : List Touch) → touched_for vertex (ts ++ us) ≡ touched_for vertex ts ++ touched_for vertex us
 touched-append vertex ts us = ap (map (λ t. t.cell)) (filter-append (λ t. is_same t.vertex vertex) ts us) ∙ map-append (λ t. t.cell) (filter (λ t. is_same t.vertex vertex) ts) (filter (λ t. is_same t.vertex vertex) us)
 
-touched-flat_map : {X : Type 0} (vertex : Place) (f : X → List Touch) (xs : List X) → touched_for vertex (flat_map f xs) ≡ flat_map (λ x. touched_for vertex (f x)) xs
+pub touched-flat_map : {X : Type 0} (vertex : Place) (f : X → List Touch) (xs : List X) → touched_for vertex (flat_map f xs) ≡ flat_map (λ x. touched_for vertex (f x)) xs
 touched-flat_map vertex f [] = refl
 touched-flat_map vertex f (x ∷ xs) = touched-append vertex (f x) (flat_map f xs) ∙ ap (λ r. touched_for vertex (f x) ++ r) (touched-flat_map vertex f xs)
 
@@ -271,20 +271,23 @@ loads_below axes way (suc m) more level vertex cell four v c h =
     (Each-weaker (OnGrid axes (suc level)) _ (λ d on. loads_below axes way m more (suc level) vertex d four v on (h ∙ sym (deeper-suc m level))) (children axes way cell) (children_on_grid axes way level cell four c)))
     ∙ sym (filter-flat_map (is_corner vertex) (below axes way m) (children axes way cell))
 
+pub root_on_grid : (axes : ℕ) → axes ≤ 4 → OnGrid axes 0 root
+root_on_grid axes four = (refl, refl, zeros axes four)
+  where
+    zeros : (n : ℕ) → n ≤ 4 → drop {A = ℕ} n (0 ∷ 0 ∷ 0 ∷ 0 ∷ []) ≡ replicate (4 - n) 0
+    zeros zero h = refl
+    zeros (suc zero) h = refl
+    zeros (suc (suc zero)) h = refl
+    zeros (suc (suc (suc zero))) h = refl
+    zeros (suc (suc (suc (suc zero)))) h = refl
+    zeros (suc (suc (suc (suc (suc n))))) h = absurd (omega arith)
+
 pub loaded_for_around : (axes : ℕ) (way : Way) (levels : ℕ) (vertex : Place) → axes ≤ 4 → OnGrid axes vertex.level vertex → vertex.level ≤ levels → touched_for vertex (loads axes way levels root) ≡ around axes way vertex
 loaded_for_around axes way levels vertex four v h =
     let more = levels - vertex.level in
     ap (λ n. touched_for vertex (loads axes way n root)) (let e : levels ≡ vertex.level + more = omega arith in e)
-    ∙ loads_below axes way vertex.level more 0 vertex root four v (refl, refl, root_zeros axes four) (omega (arith, deeper_is vertex.level 0))
+    ∙ loads_below axes way vertex.level more 0 vertex root four v (root_on_grid axes four) (omega (arith, deeper_is vertex.level 0))
     ∙ ap (filter (is_corner vertex)) (sym (append-nil (below axes way vertex.level root)) ∙ below_order axes way vertex.level 0 ∙ ap (order axes way) (let e : deeper vertex.level 0 ≡ vertex.level = omega (arith, deeper_is vertex.level 0) in e))
-  where
-    root_zeros : (n : ℕ) → n ≤ 4 → drop {A = ℕ} n (0 ∷ 0 ∷ 0 ∷ 0 ∷ []) ≡ replicate (4 - n) 0
-    root_zeros zero h = refl
-    root_zeros (suc zero) h = refl
-    root_zeros (suc (suc zero)) h = refl
-    root_zeros (suc (suc (suc zero))) h = refl
-    root_zeros (suc (suc (suc (suc zero)))) h = refl
-    root_zeros (suc (suc (suc (suc (suc n))))) h = absurd (omega arith)
 
 -- the order in the other way is the order backwards
 reverse-order : (axes : ℕ) (way : Way) (level : ℕ) → order axes (opposite way) level ≡ reverse (order axes way level)

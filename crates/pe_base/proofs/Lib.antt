@@ -20,3 +20,4 @@ pub mod Levels
 pub mod Rounds
 pub mod RouteLaws
 pub mod StackLaws
+pub mod InnerVertices

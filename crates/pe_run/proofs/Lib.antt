@@ -1,2 +1,4 @@
 pub mod RunLaws
 pub mod ScenarioLemmas
+pub mod WalkSteps
+pub mod LevelOneWalk
