@@ -1,6 +1,6 @@
 -- The loads and stores of one vertex, and its steps.
-use Rattle.std.proofs.Common.{◌≡◌, ◌≢◌, ℕ, zero, suc, ◌+◌, ◌-◌, ◌*◌, ◌<◌, ◌≤◌, ◌⊎◌, Bool, true, false, cond, ◌&&◌, ◌||◌, ◌==◌, nat_eq, List, [], ◌∷◌, ◌++◌, map, filter, reverse, length, take, drop, replicate, refl, sym, ap, ap₂, ◌∙◌, subst, true≢false, inl, inr, append-nil, arith}
-use Rattle.std.specs.List.{flat_map, list_any}
+use Rattle.std.proofs.Common.{◌≡◌, ◌≢◌, ℕ, zero, suc, ◌+◌, ◌-◌, ◌<◌, ◌≤◌, ◌⊎◌, Bool, true, false, cond, ◌&&◌, ◌||◌, ◌==◌, nat_eq, List, [], ◌∷◌, ◌++◌, map, filter, reverse, length, take, drop, replicate, refl, sym, ap, ap₂, ◌∙◌, subst, inl, inr, append-nil, arith}
+use Rattle.std.specs.List.{flat_map}
 use Rattle.std.specs.Cmp.Lexicographic.{pointwise}
 use Rattle.std.proofs.lemmas.List.{map-append, reverse-reverse}
 use Rattle.std.proofs.lemmas.List.Elements.{filter-append}
@@ -12,12 +12,12 @@ use Rattle.pe_base.specs.Places.{root, finer, moved}
 use Rattle.pe_base.specs.Curve.{digit_lists, children, order}
 use Rattle.pe_base.specs.Around.{is_corner_pos, is_corner, around, steps}
 use Rattle.pe_base.specs.Faces.{Touch, is_same, corner_touches, loads, stores, touched_for, steps_to, steps_from}
-use Rattle.pe_base.proofs.Lists.{Each, Each-all, Each-weaker, Each-append, Each-map, Each-flat_map, Each-reverse, map-map, flat_map_same, flat_map_none, map-flat_map, flat_map-flat_map, filter-flat_map, filter-map, filter_none, filter_same, map-reverse, filter-reverse, reverse-flat_map}
+use Rattle.pe_base.proofs.Lists.{Each, Each-all, Each-weaker, Each-map, Each-reverse, map-map, flat_map_same, flat_map_none, map-flat_map, flat_map-flat_map, filter-flat_map, filter-map, filter_none, filter_same, map-reverse, filter-reverse, reverse-flat_map}
 use Rattle.pe_base.proofs.Mirrors.{Digits3, digit_lists_below}
 use Rattle.pe_base.proofs.Children.{opposite, reverse-children, child_of, child_ks, child_ks-below, children_are, length-digits}
-use Rattle.pe_base.proofs.Corners.{IsBits, bit_lists, bit_lists_below, touch_at, corner_touches_are}
+use Rattle.pe_base.proofs.Corners.{bit_lists, touch_at, corner_touches_are}
 use Rattle.pe_base.proofs.FaceLists.{reverse-stores}
-use Rattle.pe_base.proofs.Ranks.{Rising, Rising-above, rank, rank_of, OnLevel, children_on_level, child_four, is_same-true, around_rises, top}
+use Rattle.pe_base.proofs.Ranks.{Rising, Rising-above, rank, rank_of, child_four, is_same-true, around_rises, top}
 use Rattle.pe_base.proofs.Quiet.{false_unless}
 use Rattle.pe_base.proofs.Waits.{deeper, deeper_is, deeper-suc}
 

@@ -105,7 +105,7 @@ still_same (suc axis) zero (x ∷ pos) s h = ap (λ ps. x ∷ ps) (still_same ax
 still_same axis (suc side) pos s h = absurd (omega arith)
 
 -- a list of a face is empty where no cell that is reached from the cell can pass the test
-at_face_none : (axes : ℕ) (walk : Way) (test : Touch → Bool) (face : Face) (Quiet : ℕ → Place → Type 0)
+pub at_face_none : (axes : ℕ) (walk : Way) (test : Touch → Bool) (face : Face) (Quiet : ℕ → Place → Type 0)
     → ((level : ℕ) (cell vertex : Place) → vertex.level ≡ level → Quiet level cell → test (record { vertex = vertex; cell = cell }) ≡ false)
     → ((level : ℕ) (cell : Place) (ts : List ℕ) → length cell.pos ≡ 4 → Digits3 axes ts → is_child_at axes walk cell face ts ≡ true → Quiet level cell → Quiet (suc level) (child_of axes walk cell ts))
     → axes ≤ 4 → face.axis < axes → face.side < 2 → (finest levels level : ℕ) (cell : Place) → cell.level ≡ level → length cell.pos ≡ 4 → finest ≡ cell.level + levels → Quiet level cell

@@ -1,0 +1,2 @@
+pub mod Unwalked
+pub mod Derived

@@ -1,0 +1,84 @@
+-- The laws of the walk, over the lists of faces that `pe_base` defines.
+--
+-- They hold for each number of axes from two to four, each way, each number of levels below a cell, and each choice of
+-- the vertices that count. In a walk the vertices that are not hanging count.
+use Rattle.std.specs.Prelude.{◌≡◌, ℕ, suc, ◌+◌, ◌-◌, ◌*◌, ◌<◌, ◌≤◌, Bool, true, false, List, [], ◌++◌, take, length}
+use Rattle.std.specs.List.{flat_map, list_any, All, Contains}
+use Rattle.pe_base.specs.declared.place.Place.{Place}
+use Rattle.pe_base.specs.declared.way.Way.{Way}
+use Rattle.pe_base.specs.Dim.{IsDim}
+use Rattle.pe_base.specs.Places.{root, IsInside}
+use Rattle.pe_base.specs.Curve.{children, order}
+use Rattle.pe_base.specs.Around.{around, steps}
+use Rattle.pe_base.specs.Faces.{Face, across, stack_of, face_on, loads, stores, arriving, leaving, in_corners, out_corners, is_touched, Turns, TurnsApart, cell_turns, touched_for, steps_to, steps_from}
+
+-- a cell of the tree
+abbrev pub IsCell : ℕ → Way → Place → Type 0
+IsCell axes way cell = Contains (order axes way cell.level) cell
+
+abbrev pub IsFace : ℕ → Face → Type 0
+IsFace axes face = (face.axis < axes) × (face.side < 2)
+
+-- the same face, as the neighbour across it sees it
+abbrev pub facing : Face → Face
+facing face = record { axis = face.axis; side = 1 - face.side }
+
+-- two cells of one level share a face: each lies across it from the other
+abbrev pub ShareFace : Face → Place → Place → Type 0
+ShareFace face a b = (across face a ≡ b) × (across (facing face) b ≡ a)
+
+-- Neighbours agree. What a cell leaves at a face is what arrives in its neighbour there, in one order. It holds
+-- whichever of the two comes first in the walk; where the neighbour does, both lists are empty.
+abbrev pub NeighboursAgree : Type 0
+NeighboursAgree = (axes : ℕ) (way : Way) (counts : Place → Bool) (levels : ℕ) (face : Face) (cell neighbour : Place) → IsDim axes → IsFace axes face → IsCell axes way cell → ShareFace face cell neighbour
+    → leaving axes way counts levels face cell ≡ arriving axes way counts levels (facing face) neighbour
+
+-- A cell has one face on each stack of its axes.
+abbrev pub OneFaceOnEach : Type 0
+OneFaceOnEach = (axis parity : ℕ) (cell : Place) → parity < 2 → stack_of (face_on axis parity cell) cell ≡ 2 * axis + parity
+
+-- Composition. On each stack that has a cell's arriving list on top, the walk of the cell takes off its own corners, lets
+-- each child replace its arriving list on top by its leaving list, and puts its own corners on. Each list is on top
+-- when it is wanted, and the cell's leaving list is left on what was beneath.
+abbrev pub Composition : Type 0
+Composition = (axes : ℕ) (way : Way) (counts : Place → Bool) (levels axis parity : ℕ) (cell : Place) → IsDim axes → axis < axes → IsCell axes way cell → (beneath : List Place)
+    → Turns (cell_turns axes way counts levels axis parity cell)
+        (arriving axes way counts levels (face_on axis parity cell) cell ++ beneath)
+        (leaving axes way counts levels (face_on axis parity cell) cell ++ beneath)
+
+-- What lies beneath is not touched. Where the walk of a cell touches nothing of what lies beneath its lists, no child
+-- touches anything of what lies beneath its own, nor do the loads and stores of the cell's corners.
+abbrev pub BeneathUntouched : Type 0
+BeneathUntouched = (axes : ℕ) (way : Way) (counts : Place → Bool) (levels axis parity : ℕ) (cell : Place) → IsDim axes → axis < axes → IsCell axes way cell
+    → (beneath : List Place) → list_any (is_touched axes way levels cell) beneath ≡ false
+    → TurnsApart (cell_turns axes way counts levels axis parity cell)
+        (arriving axes way counts levels (face_on axis parity cell) cell ++ beneath)
+        (leaving axes way counts levels (face_on axis parity cell) cell ++ beneath)
+
+-- The loads of a vertex and its stores: each is for the cells around it, in the order of the walk; after n loads the pops
+-- are the steps among the first n cells, and after n stores the pushes are the steps among the first n + 1.
+pub record Counted (axes : ℕ) (way : Way) (levels : ℕ) (vertex : Place) (n : ℕ) : Type 0 where
+  pub loaded : touched_for vertex (loads axes way levels root) ≡ around axes way vertex
+  pub popped : flat_map (steps_to axes way vertex) (take n (touched_for vertex (loads axes way levels root))) ≡ steps (take n (around axes way vertex))
+  pub stored : touched_for vertex (stores axes way levels root) ≡ around axes way vertex
+  pub pushed : flat_map (steps_from axes way vertex) (take n (touched_for vertex (stores axes way levels root))) ≡ steps (take (suc n) (around axes way vertex))
+
+abbrev pub Counts : Type 0
+Counts = (axes : ℕ) (way : Way) (levels : ℕ) (vertex : Place) (n : ℕ) → IsDim axes → IsInside axes vertex → vertex.level ≤ levels → Counted axes way levels vertex n
+
+-- Which cells of an adaptive grid are walked, and which vertices count there: a cell is walked only if its parent is,
+-- and all cells around a vertex that counts are.
+pub record IsWalk (axes : ℕ) (way : Way) (walked counts : Place → Bool) : Type 0 where
+  pub parents : (either : Way) (cell child : Place) → Contains (children axes either cell) child → walked child ≡ true → walked cell ≡ true
+  pub all_around : (vertex : Place) → counts vertex ≡ true → All (λ cell. walked cell ≡ true) (around axes way vertex)
+
+-- Nothing arrives in a cell that is not walked, and nothing is left there.
+abbrev pub UnwalkedIsEmpty : Type 0
+UnwalkedIsEmpty = (axes : ℕ) (way : Way) (walked counts : Place → Bool) (levels : ℕ) (face : Face) (cell : Place) → IsDim axes → IsWalk axes way walked counts → IsFace axes face → IsCell axes way cell → walked cell ≡ false
+    → (arriving axes way counts levels face cell ≡ []) × (leaving axes way counts levels face cell ≡ [])
+
+-- So a cell whose children are not walked is loads and stores alone: its own corners are its lists.
+abbrev pub LeafIsCorners : Type 0
+LeafIsCorners = (axes : ℕ) (way : Way) (walked counts : Place → Bool) (levels : ℕ) (face : Face) (cell : Place) → IsDim axes → IsWalk axes way walked counts → IsFace axes face → IsCell axes way cell
+    → ((child : Place) → Contains (children axes way cell) child → walked child ≡ false)
+    → (arriving axes way counts levels face cell ≡ in_corners axes way counts face cell) × (leaving axes way counts levels face cell ≡ out_corners axes way counts face cell)

@@ -1,0 +1,42 @@
+//! The laws on which the walk over stacks rests. Each function has a law for its contract, and no body: the law holds
+//! of the definitions alone.
+//!
+//! The walk of a cell will cite them so. It loads the cell's corners, walks each child, and stores the corners. On each
+//! stack `composition` says that the list that a load or a child wants is on top, and what the stack holds afterwards;
+//! `neighbours_agree` is why, and says besides what one cell finds of another. `beneath_untouched` carries the values of
+//! all that waits beneath over each part of the walk, since no part touches what waits beneath its own lists.
+//! `counts` turns loads and stores into pops and pushes, vertex by vertex. On an adaptive grid the same lists hold:
+//! `unwalked_is_empty` leaves out the cells that are not walked, and `leaf_is_corners` is the walk of a cell that has
+//! no walked children.
+ghost use Rattle.pe_walk.specs.Laws.{NeighboursAgree, OneFaceOnEach, Composition, BeneathUntouched, Counts, UnwalkedIsEmpty, LeafIsCorners};
+
+/// What a cell leaves at a face is what arrives in its neighbour there.
+pub fn neighbours_agree()
+    ensures agree { NeighboursAgree }
+{}
+
+/// The lists of a cell's own corners and of its children compose to those of the cell, on each stack.
+pub fn composition()
+    ensures stacks { OneFaceOnEach }
+    ensures turns { Composition }
+{}
+
+/// No part of the walk of a cell touches what waits beneath its lists.
+pub fn beneath_untouched()
+    ensures untouched { BeneathUntouched }
+{}
+
+/// The loads and stores of a vertex are its steps.
+pub fn counts()
+    ensures counted { Counts }
+{}
+
+/// A cell that is not walked has empty lists.
+pub fn unwalked_is_empty()
+    ensures empty { UnwalkedIsEmpty }
+{}
+
+/// A cell without walked children has its own corners for its lists.
+pub fn leaf_is_corners()
+    ensures corners { LeafIsCorners }
+{}

@@ -1,0 +1,4 @@
+//! The walk of the cells of a grid.
+#![tactic(auto)]
+
+pub mod laws;
