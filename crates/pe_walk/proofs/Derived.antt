@@ -1,15 +1,19 @@
 -- The laws, from the lemmas on lists of faces.
-use Rattle.std.proofs.Common.{◌≡◌, ℕ, zero, suc, ◌+◌, ◌-◌, ◌*◌, ◌%◌, ◌<◌, ◌≤◌, Bool, List, [], ◌∷◌, take, drop, replicate, length, slice_index, refl, sym, ap, ap₂, ◌∙◌, subst, length-set, arith}
+use Rattle.std.proofs.Common.{◌≡◌, ℕ, zero, suc, ◌+◌, ◌-◌, ◌*◌, ◌%◌, ◌<◌, ◌≤◌, Bool, List, [], ◌∷◌, take, drop, replicate, length, slice_index, refl, sym, ap, ap₂, ◌∙◌, subst, length-set, ◌⊎◌, inl, inr, slice_set, arith}
 use Rattle.std.specs.List.{flat_map}
 use Rattle.pe_base.specs.declared.place.Place.{Place}
 use Rattle.pe_base.specs.declared.way.Way.{Way}
 use Rattle.pe_base.specs.Places.{IsPosition, IsInside}
 use Rattle.pe_base.specs.Faces.{Face, across, arriving, leaving, steps_to, steps_from}
-use Rattle.pe_base.proofs.FaceLists.{face_of, leaving-up, leaving-down, leaving_is}
+use Rattle.pe_base.proofs.FaceLists.{face_of, across-up, leaving-up, leaving-down, leaving_is}
 use Rattle.pe_base.proofs.Composition.{composes, composes_any}
 use Rattle.pe_base.proofs.Counts.{OnGrid, steps_to_cells, steps_from_cells, loaded_for_around, stored_for_around}
-use Rattle.pe_walk.specs.Laws.{IsCell, facing, ShareFace, NeighboursAgree, OneFaceOnEach, Composition, BeneathUntouched, Counts, UnwalkedIsEmpty, LeafIsCorners}
-use Rattle.pe_walk.proofs.Unwalked.{contains_in, cell_four, unwalked_arriving, unwalked_leaving, leaf_arriving, leaf_leaving}
+use Rattle.pe_base.specs.Curve.{order}
+use Rattle.pe_base.proofs.Ranks.{rank_of, top, order_rises}
+use Rattle.pe_base.proofs.Quiet.{Still, arriving_none, leaving_none}
+use Rattle.pe_walk.proofs.Outside.{before_rises, NoneAcross, outside_arriving, outside_leaving}
+use Rattle.pe_walk.specs.Laws.{IsCell, facing, ShareFace, NeighboursAgree, FacesAreOneWay, OneFaceOnEach, Composition, BeneathUntouched, Counts, UnwalkedIsEmpty, LeafIsCorners}
+use Rattle.pe_walk.proofs.Unwalked.{contains_in, in_contains, cell_four, unwalked_arriving, unwalked_leaving, leaf_arriving, leaf_leaving}
 
 neighbours_at : (axes : ℕ) (way : Way) (counts : Place → Bool) (levels axis side : ℕ) (cell neighbour : Place) → axes ≤ 4 → axis < axes → side < 2 → length cell.pos ≡ 4 → ShareFace (face_of axis side) cell neighbour
     → leaving axes way counts levels (face_of axis side) cell ≡ arriving axes way counts levels (facing (face_of axis side)) neighbour
@@ -23,6 +27,39 @@ neighbours_at axes way counts levels axis (suc (suc side)) cell neighbour four a
 pub neighbours_agree : NeighboursAgree
 neighbours_agree axes way counts levels face cell neighbour dim is_face is_cell share =
     neighbours_at axes way counts levels face.axis face.side cell neighbour dim.1 is_face.0 is_face.1 (cell_four axes way cell dim.1 is_cell) share
+
+down_up : (axis : ℕ) (pos : List ℕ) → 0 < slice_index pos axis → slice_set (slice_set pos axis (slice_index pos axis - 1)) axis (slice_index (slice_set pos axis (slice_index pos axis - 1)) axis + 1) ≡ pos
+down_up axis [] h = refl
+down_up zero (x ∷ pos) h = ap (λ y. y ∷ pos) (omega arith)
+down_up (suc axis) (x ∷ pos) h = ap (λ ys. x ∷ ys) (down_up axis pos h)
+
+-- a face shares its plane with the cell across it, save on the near side of the root
+shares_or_still : (axis side : ℕ) (cell : Place) → side < 2 → (ShareFace (face_of axis side) cell (across (face_of axis side) cell)) ⊎ (Still (face_of axis side) cell)
+shares_or_still axis (suc zero) cell b = inl (refl, across-up axis cell)
+shares_or_still axis (suc (suc side)) cell b = absurd (omega arith)
+shares_or_still axis zero cell b = go (slice_index cell.pos axis) refl
+  where
+    go : (x : ℕ) → slice_index cell.pos axis ≡ x → (ShareFace (face_of axis 0) cell (across (face_of axis 0) cell)) ⊎ (Still (face_of axis 0) cell)
+    go zero e = inr (refl, e)
+    go (suc x) e = inl (refl, ap (λ p. let c : Place = record { level = cell.level; pos = p } in c) (down_up axis cell.pos (omega arith)))
+
+pub faces_are_one_way : FacesAreOneWay
+faces_are_one_way axes way counts levels face cell dim is_face is_cell =
+    let four = dim.1 in
+    let l = cell_four axes way cell dim.1 is_cell in
+    let rises = order_rises axes way cell.level dim.1 in
+    let r = rank_of axes way cell.level in
+    record {
+        earlier = λ n share before. leaving_none axes way counts levels cell.level face cell four is_face.0 is_face.1 refl l
+            (inl (subst (λ p. r p < r cell) (sym share.0) (before_rises r 0 (top axes cell.level) (order axes way cell.level) n cell rises before)));
+        later = λ n share before. arriving_none axes way counts levels cell.level face cell four is_face.0 is_face.1 refl l
+            (inl (subst (λ p. r cell < r p) (sym share.0) (before_rises r 0 (top axes cell.level) (order axes way cell.level) cell n rises before)));
+        outside = λ none. elim (shares_or_still face.axis face.side cell is_face.1) [
+            inl share ↦
+                (let no_cell : NoneAcross axes way face cell.level cell = λ i. absurd (none (across face cell) (in_contains (order axes way cell.level) (across face cell) i) share) in
+                (outside_arriving axes way counts levels face cell four is_face.0 is_face.1 l no_cell, outside_leaving axes way counts levels face cell four is_face.0 is_face.1 l no_cell))
+          | inr still ↦
+                (arriving_none axes way counts levels cell.level face cell four is_face.0 is_face.1 refl l (inr still), leaving_none axes way counts levels cell.level face cell four is_face.0 is_face.1 refl l (inr still)) ] }
 
 pub one_face_on_each : OneFaceOnEach
 one_face_on_each axis parity cell h = omega arith

@@ -1,2 +1,3 @@
 pub mod Unwalked
+pub mod Outside
 pub mod Derived

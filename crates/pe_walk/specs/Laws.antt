@@ -2,7 +2,7 @@
 --
 -- They hold for each number of axes from two to four, each way, each number of levels below a cell, and each choice of
 -- the vertices that count. In a walk the vertices that are not hanging count.
-use Rattle.std.specs.Prelude.{◌≡◌, ℕ, suc, ◌+◌, ◌-◌, ◌*◌, ◌<◌, ◌≤◌, Bool, true, false, List, [], ◌++◌, take, length}
+use Rattle.std.specs.Prelude.{◌≡◌, ℕ, suc, ◌+◌, ◌-◌, ◌*◌, ◌<◌, ◌≤◌, Bool, true, false, List, [], ◌++◌, take, length, slice_index_or}
 use Rattle.std.specs.List.{flat_map, list_any, All, Contains}
 use Rattle.pe_base.specs.declared.place.Place.{Place}
 use Rattle.pe_base.specs.declared.way.Way.{Way}
@@ -28,10 +28,24 @@ abbrev pub ShareFace : Face → Place → Place → Type 0
 ShareFace face a b = (across face a ≡ b) × (across (facing face) b ≡ a)
 
 -- Neighbours agree. What a cell leaves at a face is what arrives in its neighbour there, in one order. It holds
--- whichever of the two comes first in the walk; where the neighbour does, both lists are empty.
+-- whichever of the two comes first in the walk; where the neighbour does, both lists are empty, by the next law.
 abbrev pub NeighboursAgree : Type 0
 NeighboursAgree = (axes : ℕ) (way : Way) (counts : Place → Bool) (levels : ℕ) (face : Face) (cell neighbour : Place) → IsDim axes → IsFace axes face → IsCell axes way cell → ShareFace face cell neighbour
     → leaving axes way counts levels face cell ≡ arriving axes way counts levels (facing face) neighbour
+
+-- an item of a list comes before another
+abbrev pub ComesBefore : {X : Type 0} → List X → X → X → Type 0
+ComesBefore xs a b = (i : ℕ) × (j : ℕ) × (i < j) × (j < length xs) × (slice_index_or xs i a ≡ a) × (slice_index_or xs j b ≡ b)
+
+-- Each face is used one way. At a face to an earlier neighbour nothing is left, at one to a later neighbour nothing
+-- arrives, and at one with no neighbour in the root neither.
+pub record UsedOneWay (axes : ℕ) (way : Way) (counts : Place → Bool) (levels : ℕ) (face : Face) (cell : Place) : Type 0 where
+  pub earlier : (neighbour : Place) → ShareFace face cell neighbour → ComesBefore (order axes way cell.level) neighbour cell → leaving axes way counts levels face cell ≡ []
+  pub later : (neighbour : Place) → ShareFace face cell neighbour → ComesBefore (order axes way cell.level) cell neighbour → arriving axes way counts levels face cell ≡ []
+  pub outside : ((neighbour : Place) → IsCell axes way neighbour → ShareFace face cell neighbour → ⊥) → (arriving axes way counts levels face cell ≡ []) × (leaving axes way counts levels face cell ≡ [])
+
+abbrev pub FacesAreOneWay : Type 0
+FacesAreOneWay = (axes : ℕ) (way : Way) (counts : Place → Bool) (levels : ℕ) (face : Face) (cell : Place) → IsDim axes → IsFace axes face → IsCell axes way cell → UsedOneWay axes way counts levels face cell
 
 -- A cell has one face on each stack of its axes.
 abbrev pub OneFaceOnEach : Type 0

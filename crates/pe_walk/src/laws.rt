@@ -8,11 +8,17 @@
 //! `counts` turns loads and stores into pops and pushes, vertex by vertex. On an adaptive grid the same lists hold:
 //! `unwalked_is_empty` leaves out the cells that are not walked, and `leaf_is_corners` is the walk of a cell that has
 //! no walked children.
-ghost use Rattle.pe_walk.specs.Laws.{NeighboursAgree, OneFaceOnEach, Composition, BeneathUntouched, Counts, UnwalkedIsEmpty, LeafIsCorners};
+ghost use Rattle.pe_walk.specs.Laws.{NeighboursAgree, FacesAreOneWay, OneFaceOnEach, Composition, BeneathUntouched, Counts, UnwalkedIsEmpty, LeafIsCorners};
 
 /// What a cell leaves at a face is what arrives in its neighbour there.
 pub fn neighbours_agree()
     ensures agree { NeighboursAgree }
+{}
+
+/// Nothing is left at a face to an earlier cell, nothing arrives at a face to a later one, and neither on the root's
+/// boundary.
+pub fn faces_are_one_way()
+    ensures one_way { FacesAreOneWay }
 {}
 
 /// The lists of a cell's own corners and of its children compose to those of the cell, on each stack.
