@@ -1,10 +1,10 @@
 -- The laws, from the lemmas on lists of faces.
-use Rattle.std.proofs.Common.{◌≡◌, ℕ, zero, suc, ◌+◌, ◌-◌, ◌*◌, ◌%◌, ◌<◌, ◌≤◌, Bool, List, [], ◌∷◌, take, drop, replicate, length, slice_index, refl, sym, ap, ap₂, ◌∙◌, subst, length-set, ◌⊎◌, inl, inr, slice_set, arith}
+use Rattle.std.proofs.Common.{◌≡◌, ℕ, zero, suc, ◌+◌, ◌-◌, ◌<◌, ◌≤◌, Bool, List, [], ◌∷◌, take, drop, replicate, length, slice_index, refl, sym, ap, ap₂, ◌∙◌, subst, length-set, ◌⊎◌, inl, inr, slice_set, arith}
 use Rattle.std.specs.List.{flat_map}
 use Rattle.pe_base.specs.declared.place.Place.{Place}
 use Rattle.pe_base.specs.declared.way.Way.{Way}
-use Rattle.pe_base.specs.Places.{IsPosition, IsInside}
-use Rattle.pe_base.specs.Faces.{Face, across, arriving, leaving, steps_to, steps_from}
+use Rattle.pe_base.specs.Places.{IsInside}
+use Rattle.pe_base.specs.Faces.{across, arriving, leaving, steps_to, steps_from}
 use Rattle.pe_base.proofs.FaceLists.{face_of, across-up, leaving-up, leaving-down, leaving_is}
 use Rattle.pe_base.proofs.Composition.{composes, composes_any}
 use Rattle.pe_base.proofs.Counts.{OnGrid, steps_to_cells, steps_from_cells, loaded_for_around, stored_for_around}
@@ -12,7 +12,7 @@ use Rattle.pe_base.specs.Curve.{order}
 use Rattle.pe_base.proofs.Ranks.{rank_of, top, order_rises}
 use Rattle.pe_base.proofs.Quiet.{Still, arriving_none, leaving_none}
 use Rattle.pe_walk.proofs.Outside.{before_rises, NoneAcross, outside_arriving, outside_leaving}
-use Rattle.pe_walk.specs.Laws.{IsCell, facing, ShareFace, NeighboursAgree, FacesAreOneWay, OneFaceOnEach, Composition, BeneathUntouched, Counts, UnwalkedIsEmpty, LeafIsCorners}
+use Rattle.pe_walk.specs.Laws.{facing, ShareFace, NeighboursAgree, FacesAreOneWay, OneFaceOnEach, Composition, BeneathUntouched, Counts, UnwalkedIsEmpty, LeafIsCorners}
 use Rattle.pe_walk.proofs.Unwalked.{contains_in, in_contains, cell_four, unwalked_arriving, unwalked_leaving, leaf_arriving, leaf_leaving}
 
 neighbours_at : (axes : ℕ) (way : Way) (counts : Place → Bool) (levels axis side : ℕ) (cell neighbour : Place) → axes ≤ 4 → axis < axes → side < 2 → length cell.pos ≡ 4 → ShareFace (face_of axis side) cell neighbour
@@ -50,16 +50,18 @@ faces_are_one_way axes way counts levels face cell dim is_face is_cell =
     let rises = order_rises axes way cell.level dim.1 in
     let r = rank_of axes way cell.level in
     record {
-        earlier = λ n share before. leaving_none axes way counts levels cell.level face cell four is_face.0 is_face.1 refl l
-            (inl (subst (λ p. r p < r cell) (sym share.0) (before_rises r 0 (top axes cell.level) (order axes way cell.level) n cell rises before)));
-        later = λ n share before. arriving_none axes way counts levels cell.level face cell four is_face.0 is_face.1 refl l
-            (inl (subst (λ p. r cell < r p) (sym share.0) (before_rises r 0 (top axes cell.level) (order axes way cell.level) cell n rises before)));
-        outside = λ none. elim (shares_or_still face.axis face.side cell is_face.1) [
-            inl share ↦
-                (let no_cell : NoneAcross axes way face cell.level cell = λ i. absurd (none (across face cell) (in_contains (order axes way cell.level) (across face cell) i) share) in
-                (outside_arriving axes way counts levels face cell four is_face.0 is_face.1 l no_cell, outside_leaving axes way counts levels face cell four is_face.0 is_face.1 l no_cell))
-          | inr still ↦
-                (arriving_none axes way counts levels cell.level face cell four is_face.0 is_face.1 refl l (inr still), leaving_none axes way counts levels cell.level face cell four is_face.0 is_face.1 refl l (inr still)) ] }
+      earlier = λ n share before. leaving_none axes way counts levels cell.level face cell four is_face.0 is_face.1 refl l
+          (inl (subst (λ p. r p < r cell) (sym share.0) (before_rises r 0 (top axes cell.level) (order axes way cell.level) n cell rises before)));
+      later = λ n share before. arriving_none axes way counts levels cell.level face cell four is_face.0 is_face.1 refl l
+          (inl (subst (λ p. r cell < r p) (sym share.0) (before_rises r 0 (top axes cell.level) (order axes way cell.level) cell n rises before)));
+      outside = λ none. elim (shares_or_still face.axis face.side cell is_face.1) [
+        | inl share ↦
+            (let no_cell : NoneAcross axes way face cell.level cell = λ i. absurd (none (across face cell) (in_contains (order axes way cell.level) (across face cell) i) share) in
+            (outside_arriving axes way counts levels face cell four is_face.0 is_face.1 l no_cell, outside_leaving axes way counts levels face cell four is_face.0 is_face.1 l no_cell))
+        | inr still ↦
+            (arriving_none axes way counts levels cell.level face cell four is_face.0 is_face.1 refl l (inr still), leaving_none axes way counts levels cell.level face cell four is_face.0 is_face.1 refl l (inr still))
+      ];
+    }
 
 pub one_face_on_each : OneFaceOnEach
 one_face_on_each axis parity cell h = omega arith
@@ -88,16 +90,18 @@ counts axes way levels vertex n dim inside deep =
     let loaded = loaded_for_around axes way levels vertex dim.1 on deep in
     let stored = stored_for_around axes way levels vertex dim.1 on deep in
     record {
-        loaded = loaded;
-        popped = ap (λ cells. flat_map (steps_to axes way vertex) (take n cells)) loaded ∙ steps_to_cells axes way vertex n dim.1;
-        stored = stored;
-        pushed = ap (λ cells. flat_map (steps_from axes way vertex) (take n cells)) stored ∙ steps_from_cells axes way vertex n dim.1 }
+      loaded = loaded;
+      popped = ap (λ cells. flat_map (steps_to axes way vertex) (take n cells)) loaded ∙ steps_to_cells axes way vertex n dim.1;
+      stored = stored;
+      pushed = ap (λ cells. flat_map (steps_from axes way vertex) (take n cells)) stored ∙ steps_from_cells axes way vertex n dim.1;
+    }
 
 pub unwalked_is_empty : UnwalkedIsEmpty
 unwalked_is_empty axes way walked counts levels face cell dim walk is_face is_cell none =
-    let four = cell_four axes way cell dim.1 is_cell in
-    (unwalked_arriving axes way walked counts walk dim.1 (cell.level + levels) levels face cell is_face.0 is_face.1 four refl none,
-     leaving_is axes way counts levels face cell ∙ unwalked_leaving axes way walked counts walk dim.1 (cell.level + levels) levels face cell is_face.0 is_face.1 four refl none)
+    let four = cell_four axes way cell dim.1 is_cell in (
+      unwalked_arriving axes way walked counts walk dim.1 (cell.level + levels) levels face cell is_face.0 is_face.1 four refl none,
+      leaving_is axes way counts levels face cell ∙ unwalked_leaving axes way walked counts walk dim.1 (cell.level + levels) levels face cell is_face.0 is_face.1 four refl none,
+    )
 
 pub leaf_is_corners : LeafIsCorners
 leaf_is_corners axes way walked counts levels face cell dim walk is_face is_cell none =

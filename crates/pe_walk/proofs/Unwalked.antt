@@ -1,11 +1,11 @@
 -- Cells that are not walked.
-use Rattle.std.proofs.Common.{◌≡◌, ℕ, zero, suc, ◌+◌, ◌<◌, ◌≤◌, Bool, true, false, ◌&&◌, List, [], ◌∷◌, ◌++◌, filter, reverse, length, get_or, refl, sym, ap, ap₂, ◌∙◌, subst, true≢false, inl, inr, ⊎_elim, append-nil, arith}
-use Rattle.std.specs.List.{flat_map, All, Contains}
+use Rattle.std.proofs.Common.{◌≡◌, ℕ, zero, suc, ◌+◌, ◌<◌, ◌≤◌, Bool, true, false, List, [], ◌∷◌, ◌++◌, filter, length, get_or, refl, sym, ap, ap₂, ◌∙◌, subst, true≢false, inl, inr, append-nil, arith}
+use Rattle.std.specs.List.{All, Contains}
 use Rattle.pe_base.specs.declared.place.Place.{Place}
 use Rattle.pe_base.specs.declared.way.Way.{Way}
 use Rattle.pe_base.specs.Curve.{digit_lists, children, order}
 use Rattle.pe_base.specs.Around.{around, steps}
-use Rattle.pe_base.specs.Faces.{Face, Touch, across, is_same, is_step, corner_touches, loads, comes_across, goes_across, at_face, arriving, leaving, in_corners, out_corners}
+use Rattle.pe_base.specs.Faces.{Face, Touch, across, is_same, is_step, loads, comes_across, goes_across, at_face, arriving, leaving, in_corners, out_corners}
 use Rattle.pe_base.proofs.Lists.{Each, Each-weaker, Each-filter, In, In-map, In-reverse, Each-In, flat_map_none}
 use Rattle.pe_base.proofs.Mirrors.{Digits3, digit_lists_below}
 use Rattle.pe_base.proofs.Children.{opposite, child_of, children_are, reverse-children}
@@ -27,8 +27,9 @@ contains_in {X = X} xs x c = go xs c.0 c.1 c.2
 pub in_contains : {X : Type 0} (xs : List X) (x : X) → In x xs → Contains xs x
 in_contains [] x i = absurd (omega arith)
 in_contains (y ∷ ys) x i = elim i [
-    inl e ↦ (0, omega arith, sym e)
-  | inr j ↦ let c = in_contains ys x j in (suc c.0, omega (arith, c.1), c.2) ]
+  | inl e ↦ (0, omega arith, sym e)
+  | inr j ↦ let c = in_contains ys x j in (suc c.0, omega (arith, c.1), c.2)
+]
 
 pub all_each : {X : Type 0} (P : X → Type 0) (xs : List X) → All P xs → Each P xs
 all_each P [] a = tt
@@ -49,8 +50,8 @@ module _ (axes : ℕ) (way : Way) (walked counts : Place → Bool) (walk : IsWal
   step_walked : (vertex a b : Place) → counts vertex ≡ true → is_step axes way vertex a b ≡ true → (walked a ≡ true) × (walked b ≡ true)
   step_walked vertex a b c t =
       list_any-Each _ (λ s. (walked s.0 ≡ true) × (walked s.1 ≡ true)) ((walked a ≡ true) × (walked b ≡ true))
-          (λ s e w. (subst (λ p. walked p ≡ true) (same s.0 a (and_left (is_same s.0 a) (is_same s.1 b) e)) w.0, subst (λ p. walked p ≡ true) (same s.1 b (and_right (is_same s.0 a) (is_same s.1 b) e)) w.1))
-          (steps (around axes way vertex)) t (steps_within (λ p. walked p ≡ true) (around axes way vertex) (all_each (λ p. walked p ≡ true) (around axes way vertex) (walk.all_around vertex c)))
+      (λ s e w. (subst (λ p. walked p ≡ true) (same s.0 a (and_left (is_same s.0 a) (is_same s.1 b) e)) w.0, subst (λ p. walked p ≡ true) (same s.1 b (and_right (is_same s.0 a) (is_same s.1 b) e)) w.1))
+      (steps (around axes way vertex)) t (steps_within (λ p. walked p ≡ true) (around axes way vertex) (all_each (λ p. walked p ≡ true) (around axes way vertex) (walk.all_around vertex c)))
     where
       same : (x y : Place) → is_same x y ≡ true → x ≡ y
       same x y e = let k = is_same-true x y e in ap₂ (λ l p. let v : Place = record { level = l; pos = p } in v) k.0 k.1
@@ -78,11 +79,11 @@ module _ (axes : ℕ) (way : Way) (walked counts : Place → Bool) (walk : IsWal
   leaf either test (suc levels) face cell a b l none =
       at_face_parts axes either test face.axis face.side (cell.level + suc levels) levels cell four a b (omega arith) refl
       ∙ ap₂ (λ x y. x ++ y)
-          (own_corners axes test (cell.level + suc levels) face.axis face.side cell four a (omega arith) ∙ sym (own_corners axes test (cell.level + 0) face.axis face.side cell four a (omega arith)))
-          (flat_map_none _ (filter (is_child_at axes either cell face) (digit_lists axes)) (Each-weaker _ _ (λ ts d.
-              ap (λ n. at_face test n face (child_of axes either cell ts) (loads axes either levels (child_of axes either cell ts))) (let e : cell.level + suc levels ≡ (cell.level + 1) + levels = omega arith in e)
-              ∙ none levels (child_of axes either cell ts) (child_contained axes either cell ts d.0) (child_four axes either cell ts four l d.0))
-              (filter (is_child_at axes either cell face) (digit_lists axes)) (Each-filter (Digits3 axes) (is_child_at axes either cell face) (digit_lists axes) (digit_lists_below axes))))
+      (own_corners axes test (cell.level + suc levels) face.axis face.side cell four a (omega arith) ∙ sym (own_corners axes test (cell.level + 0) face.axis face.side cell four a (omega arith)))
+      (flat_map_none _ (filter (is_child_at axes either cell face) (digit_lists axes)) (Each-weaker _ _ (λ ts d.
+      ap (λ n. at_face test n face (child_of axes either cell ts) (loads axes either levels (child_of axes either cell ts))) (let e : cell.level + suc levels ≡ (cell.level + 1) + levels = omega arith in e)
+      ∙ none levels (child_of axes either cell ts) (child_contained axes either cell ts d.0) (child_four axes either cell ts four l d.0))
+      (filter (is_child_at axes either cell face) (digit_lists axes)) (Each-filter (Digits3 axes) (is_child_at axes either cell face) (digit_lists axes) (digit_lists_below axes))))
       ∙ append-nil _
 
   pub leaf_arriving : (levels : ℕ) (face : Face) (cell : Place) → face.axis < axes → face.side < 2 → length cell.pos ≡ 4 → ((child : Place) → Contains (children axes way cell) child → walked child ≡ false)

@@ -57,8 +57,8 @@ OneFaceOnEach = (axis parity : ℕ) (cell : Place) → parity < 2 → stack_of (
 abbrev pub Composition : Type 0
 Composition = (axes : ℕ) (way : Way) (counts : Place → Bool) (levels axis parity : ℕ) (cell : Place) → IsDim axes → axis < axes → IsCell axes way cell → (beneath : List Place)
     → Turns (cell_turns axes way counts levels axis parity cell)
-        (arriving axes way counts levels (face_on axis parity cell) cell ++ beneath)
-        (leaving axes way counts levels (face_on axis parity cell) cell ++ beneath)
+    (arriving axes way counts levels (face_on axis parity cell) cell ++ beneath)
+    (leaving axes way counts levels (face_on axis parity cell) cell ++ beneath)
 
 -- What lies beneath is not touched. Where the walk of a cell touches nothing of what lies beneath its lists, no child
 -- touches anything of what lies beneath its own, nor do the loads and stores of the cell's corners.
@@ -66,8 +66,8 @@ abbrev pub BeneathUntouched : Type 0
 BeneathUntouched = (axes : ℕ) (way : Way) (counts : Place → Bool) (levels axis parity : ℕ) (cell : Place) → IsDim axes → axis < axes → IsCell axes way cell
     → (beneath : List Place) → list_any (is_touched axes way levels cell) beneath ≡ false
     → TurnsApart (cell_turns axes way counts levels axis parity cell)
-        (arriving axes way counts levels (face_on axis parity cell) cell ++ beneath)
-        (leaving axes way counts levels (face_on axis parity cell) cell ++ beneath)
+    (arriving axes way counts levels (face_on axis parity cell) cell ++ beneath)
+    (leaving axes way counts levels (face_on axis parity cell) cell ++ beneath)
 
 -- The loads of a vertex and its stores: each is for the cells around it, in the order of the walk; after n loads the pops
 -- are the steps among the first n cells, and after n stores the pushes are the steps among the first n + 1.

@@ -27,7 +27,6 @@ fn refined_grid_inverted()
     ensures leaving_3 { on_stack leaving Inverted refined_once 1 1 ≡ [] ∷ (mark 1 2 1 ∷ []) ∷ [] ∷ (mark 1 2 1 ∷ mark 1 1 1 ∷ mark 2 4 3 ∷ mark 2 3 3 ∷ mark 2 5 3 ∷ []) ∷ [] ∷ [] ∷ [] ∷ (mark 1 1 1 ∷ mark 2 3 3 ∷ mark 2 2 3 ∷ mark 2 1 3 ∷ []) ∷ [] ∷ [] }
 {}
 
-
 #[test]
 fn the_definitions_give_the_rows() {
     whole_grid_forward();
