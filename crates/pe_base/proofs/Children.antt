@@ -51,35 +51,47 @@ Pairs-range_from P f g a (suc n) h = (h a (omega arith) (omega arith), Pairs-ran
 AgreeBut-range : (axis a n : ℕ) (f g : ℕ → ℕ) → axis < n → (f (a + axis) + g (a + axis)) % 2 ≡ 1 → ((k : ℕ) → k < a + n → k ≢ a + axis → (f k + g k) % 2 ≡ 0)
     → AgreeBut axis (map f (range_with_len a n)) (map g (range_with_len a n))
 AgreeBut-range axis a zero f g b h o = absurd (omega arith)
-AgreeBut-range zero a (suc n) f g b h o =
-    (subst (λ k. (f k + g k) % 2 ≡ 1) (let e : a + 0 ≡ a = omega arith in e) h,
-     Pairs-range_from _ f g (a + 1) n (λ k l m. o k (omega arith) (omega arith)),
-     length-map-range f (a + 1) n ∙ sym (length-map-range g (a + 1) n))
+AgreeBut-range zero a (suc n) f g b h o = (
+  subst (λ k. (f k + g k) % 2 ≡ 1) (let e : a + 0 ≡ a = omega arith in e) h,
+  Pairs-range_from _ f g (a + 1) n (λ k l m. o k (omega arith) (omega arith)),
+  length-map-range f (a + 1) n ∙ sym (length-map-range g (a + 1) n),
+)
 AgreeBut-range (suc axis) a (suc n) f g b h o =
-    let e : a + suc axis ≡ (a + 1) + axis = omega arith in
-    (o a (omega arith) (omega arith),
-     AgreeBut-range axis (a + 1) n f g (omega arith) (subst (λ k. (f k + g k) % 2 ≡ 1) e h) (λ k m l. o k (omega arith) (λ s. l (s ∙ e))))
+    let e : a + suc axis ≡ (a + 1) + axis = omega arith in (
+      o a (omega arith) (omega arith),
+      AgreeBut-range axis (a + 1) n f g (omega arith) (subst (λ k. (f k + g k) % 2 ≡ 1) e h) (λ k m l. o k (omega arith) (λ s. l (s ∙ e))),
+    )
 
 -- the flips of the next cell on an axis: the same on that axis, and others on the other axes
 flip-up : (axis : ℕ) (pos : List ℕ) → axis < length pos → (k : ℕ) → k < length pos → k ≢ axis → (flip pos k + flip (up axis pos) k) % 2 ≡ 1
 flip-up axis pos a k b h =
     let y = slice_index pos axis + 1 in
-    omega (arith, sum_by-remove (λ (x : ℕ). x) pos k 0 b, sum_by-remove (λ (x : ℕ). x) (up axis pos) k 0 (omega (arith, length-set pos axis y)),
-        sum_by-set (λ (x : ℕ). x) pos axis y 0 a, get_or-set_other pos axis k y 0 h)
+    omega (
+      arith,
+      sum_by-remove (λ (x : ℕ). x) pos k 0 b,
+      sum_by-remove (λ (x : ℕ). x) (up axis pos) k 0 (omega (arith, length-set pos axis y)),
+      sum_by-set (λ (x : ℕ). x) pos axis y 0 a,
+      get_or-set_other pos axis k y 0 h,
+    )
 
 flip-up_same : (axis : ℕ) (pos : List ℕ) → axis < length pos → (flip pos axis + flip (up axis pos) axis) % 2 ≡ 0
 flip-up_same axis pos a =
     let y = slice_index pos axis + 1 in
-    omega (arith, sum_by-remove (λ (x : ℕ). x) pos axis 0 a, sum_by-remove (λ (x : ℕ). x) (up axis pos) axis 0 (omega (arith, length-set pos axis y)),
-        sum_by-set (λ (x : ℕ). x) pos axis y 0 a, get_or-set_same pos axis y 0 a)
+    omega (
+      arith,
+      sum_by-remove (λ (x : ℕ). x) pos axis 0 a,
+      sum_by-remove (λ (x : ℕ). x) (up axis pos) axis 0 (omega (arith, length-set pos axis y)),
+      sum_by-set (λ (x : ℕ). x) pos axis y 0 a,
+      get_or-set_same pos axis y 0 a,
+    )
 
 -- the flips of a cell in a way, and of the next cell on an axis in the other way
 pub flips_agree : (axes : ℕ) (way : Way) (axis : ℕ) (pos : List ℕ) → axes ≤ length pos → axis < axes → AgreeBut axis (flips_in axes way pos) (flips_in axes (opposite way) (up axis pos))
 flips_agree axes way axis pos l b =
     let turns : turn_of way + turn_of (opposite way) ≡ 1 = both way in
     AgreeBut-range axis 0 axes _ _ b
-        (subst (λ k. ((flip pos k + turn_of way) + (flip (up axis pos) k + turn_of (opposite way))) % 2 ≡ 1) (let e : axis ≡ 0 + axis = omega arith in e) (omega (arith, flip-up_same axis pos (omega arith))))
-        (λ k m o. omega (arith, flip-up axis pos (omega arith) k (omega arith) (λ e. o (e ∙ let z : axis ≡ 0 + axis = omega arith in z))))
+    (subst (λ k. ((flip pos k + turn_of way) + (flip (up axis pos) k + turn_of (opposite way))) % 2 ≡ 1) (let e : axis ≡ 0 + axis = omega arith in e) (omega (arith, flip-up_same axis pos (omega arith))))
+    (λ k m o. omega (arith, flip-up axis pos (omega arith) k (omega arith) (λ e. o (e ∙ let z : axis ≡ 0 + axis = omega arith in z))))
   where
     both : (w : Way) → turn_of w + turn_of (opposite w) ≡ 1
     both Forward = refl
@@ -94,22 +106,22 @@ children_are axes Forward cell =
     let es = flips axes cell.pos in
     map-map (child_at cell) (λ ts. digits_of (turned es 0 ts)) (digit_lists axes)
     ∙ map_same _ _ (digit_lists axes) (Each-weaker (Digits3 axes) _ (λ ts d. ap (λ ks. record { level = cell.level + 1; pos = finer cell.pos ks })
-        (ap (λ n. turned es 0 ts ++ replicate (4 - n) 0) (length-digits axes _ (turned_below es 0 axes ts (length-map-range (flip cell.pos) 0 axes) d))
-         ∙ ap (λ ks. ks ++ replicate (4 - axes) 0) (turned_same es (flips_in axes Forward cell.pos) 0 0 ts
-            (Pairs-range (λ x y. (x + y) % 2 ≡ 0) (flip cell.pos) (λ axis. flip cell.pos axis + 0) (λ k. omega arith) 0 axes)
-            (length-map-range (flip cell.pos) 0 axes ∙ sym (length-flips axes Forward cell.pos)) refl)))
-        (digit_lists axes) (digit_lists_below axes))
+    (ap (λ n. turned es 0 ts ++ replicate (4 - n) 0) (length-digits axes _ (turned_below es 0 axes ts (length-map-range (flip cell.pos) 0 axes) d))
+    ∙ ap (λ ks. ks ++ replicate (4 - axes) 0) (turned_same es (flips_in axes Forward cell.pos) 0 0 ts
+    (Pairs-range (λ x y. (x + y) % 2 ≡ 0) (flip cell.pos) (λ axis. flip cell.pos axis + 0) (λ k. omega arith) 0 axes)
+    (length-map-range (flip cell.pos) 0 axes ∙ sym (length-flips axes Forward cell.pos)) refl)))
+    (digit_lists axes) (digit_lists_below axes))
 children_are axes Inverted cell =
     let es = flips axes cell.pos in
     let g = λ (ts : List ℕ). digits_of (turned es 0 ts) in
     ap (map (child_at cell)) (sym (map-reverse g (digit_lists axes)) ∙ ap (map g) (reverse-digit_lists axes) ∙ map-map g complement (digit_lists axes))
     ∙ map-map (child_at cell) (λ ts. g (complement ts)) (digit_lists axes)
     ∙ map_same _ _ (digit_lists axes) (Each-weaker (Digits3 axes) _ (λ ts d. ap (λ ks. record { level = cell.level + 1; pos = finer cell.pos ks })
-        (ap (λ n. turned es 0 (complement ts) ++ replicate (4 - n) 0) (length-digits axes _ (turned_below es 0 axes (complement ts) (length-map-range (flip cell.pos) 0 axes) (complement_below axes ts d)))
-         ∙ ap (λ ks. ks ++ replicate (4 - axes) 0) (sym (turned_complement 0 (flips_in axes Inverted cell.pos) es 0 0 axes ts
-            (Pairs-range (λ x y. (x + y + 0) % 2 ≡ 1) (λ axis. flip cell.pos axis + 1) (flip cell.pos) (λ k. omega arith) 0 axes)
-            (length-flips axes Inverted cell.pos ∙ sym (length-map-range (flip cell.pos) 0 axes)) refl d))))
-        (digit_lists axes) (digit_lists_below axes))
+    (ap (λ n. turned es 0 (complement ts) ++ replicate (4 - n) 0) (length-digits axes _ (turned_below es 0 axes (complement ts) (length-map-range (flip cell.pos) 0 axes) (complement_below axes ts d)))
+    ∙ ap (λ ks. ks ++ replicate (4 - axes) 0) (sym (turned_complement 0 (flips_in axes Inverted cell.pos) es 0 0 axes ts
+    (Pairs-range (λ x y. (x + y + 0) % 2 ≡ 1) (λ axis. flip cell.pos axis + 1) (flip cell.pos) (λ k. omega arith) 0 axes)
+    (length-flips axes Inverted cell.pos ∙ sym (length-map-range (flip cell.pos) 0 axes)) refl d))))
+    (digit_lists axes) (digit_lists_below axes))
 
 -- backwards, the children in the other way
 pub reverse-children : (axes : ℕ) (way : Way) (cell : Place) → reverse (children axes way cell) ≡ children axes (opposite way) cell

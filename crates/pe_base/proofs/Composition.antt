@@ -35,10 +35,13 @@ child_opposite axes way cell ts d = ap (λ ks. record { level = cell.level + 1; 
 module _ (axes : ℕ) (way : Way) (counts : Place → Bool) (levels axis parity : ℕ) (cell : Place) (four : axes ≤ 4) (a : axis < axes) (l : length cell.pos ≡ 4) (tree : InTree axes way cell) where
   abbrev face : Face
   face = face_on axis parity cell
+
   abbrev below : List ℕ → Place
   below ts = child_of axes way cell ts
+
   abbrev turn : List ℕ → Turn
   turn ts = child_turn axes way counts levels axis parity (below ts)
+
   abbrev at : List ℕ → Bool
   at ts = is_child_at axes way cell face ts
 
@@ -51,13 +54,15 @@ module _ (axes : ℕ) (way : Way) (counts : Place → Bool) (levels axis parity 
 
   one_way : OneWay axes (λ ts. (turn ts).takes) (λ ts. (turn ts).gives) at
   one_way = elim (later_or_earlier axes way face cell.level cell a (omega arith) (omega arith)) [
-      inl later ↦ inl (λ ts d o. ap (λ f. arriving axes way counts levels f (below ts)) (same_face ts d o)
-          ∙ arriving_none axes way counts levels (suc cell.level) face (below ts) four a (omega arith) (omega arith) (child_four axes way cell ts four l d) (inl (later_child axes way way face cell.level cell ts four a (omega arith) l d o later)))
+    | inl later ↦ inl (λ ts d o. ap (λ f. arriving axes way counts levels f (below ts)) (same_face ts d o)
+        ∙ arriving_none axes way counts levels (suc cell.level) face (below ts) four a (omega arith) (omega arith) (child_four axes way cell ts four l d) (inl (later_child axes way way face cell.level cell ts four a (omega arith) l d o later)))
     | inr other ↦ elim other [
-        inl earlier ↦ inr (λ ts d o. ap (λ f. leaving axes way counts levels f (below ts)) (same_face ts d o)
+      | inl earlier ↦ inr (λ ts d o. ap (λ f. leaving axes way counts levels f (below ts)) (same_face ts d o)
           ∙ leaving_none axes way counts levels (suc cell.level) face (below ts) four a (omega arith) (omega arith) (child_four axes way cell ts four l d) (inl (earlier_child axes way way face cell.level cell ts four a (omega arith) l d o earlier)))
       | inr still ↦ inl (λ ts d o. ap (λ f. arriving axes way counts levels f (below ts)) (same_face ts d o)
-          ∙ arriving_none axes way counts levels (suc cell.level) face (below ts) four a (omega arith) (omega arith) (child_four axes way cell ts four l d) (inr (still_child axes way face cell ts a l four d o still))) ] ]
+          ∙ arriving_none axes way counts levels (suc cell.level) face (below ts) four a (omega arith) (omega arith) (child_four axes way cell ts four l d) (inr (still_child axes way face cell ts a l four d o still)))
+    ]
+  ]
 
   -- the ranks of the children, and of the neighbours of those at the face
   ranks : (ts : List ℕ) → Digits3 axes ts → rank_of axes way (below ts).level (below ts) ≡ rank_of axes way cell.level cell * 3 ^ axes + value axes ts
@@ -73,35 +78,41 @@ module _ (axes : ℕ) (way : Way) (counts : Place → Bool) (levels axis parity 
 
   apart : Apart axes (λ ts. (turn ts).takes) (λ ts. (turn ts).gives) touches at
   apart = record {
-      later = λ xs ys d e r o. ap (λ f. list_any (touches xs) (arriving axes way counts levels f (below ys))) (same_face ys e o) ∙ later xs ys d e r o;
-      earlier = λ xs ys d e r o. ap (λ f. list_any (touches ys) (leaving axes way counts levels f (below xs))) (same_face xs d o) ∙ earlier xs ys d e r o }
+    later = λ xs ys d e r o. ap (λ f. list_any (touches xs) (arriving axes way counts levels f (below ys))) (same_face ys e o) ∙ later xs ys d e r o;
+    earlier = λ xs ys d e r o. ap (λ f. list_any (touches ys) (leaving axes way counts levels f (below xs))) (same_face xs d o) ∙ earlier xs ys d e r o;
+  }
     where
       later : (xs ys : List ℕ) → Digits3 axes xs → Digits3 axes ys → value axes xs < value axes ys → at ys ≡ true → list_any (touches xs) (arriving axes way counts levels face (below ys)) ≡ false
       later xs ys d e r o = elim (later_or_earlier axes way face cell.level cell a (omega arith) (omega arith)) [
-          inl h ↦ ap (list_any (touches xs)) (arriving_none axes way counts levels (suc cell.level) face (below ys) four a (omega arith) (omega arith) (child_four axes way cell ys four l e) (inl (later_child axes way way face cell.level cell ys four a (omega arith) l e o h)))
+        | inl h ↦ ap (list_any (touches xs)) (arriving_none axes way counts levels (suc cell.level) face (below ys) four a (omega arith) (omega arith) (child_four axes way cell ys four l e) (inl (later_child axes way way face cell.level cell ys four a (omega arith) l e o h)))
         | inr other ↦ elim other [
-            inl h ↦ arriving_apart axes way counts levels levels face (below ys) (below xs) four a (omega arith) (child_four axes way cell ys four l e) (child_four axes way cell xs four l d) (child_in_tree axes way cell xs tree d) refl
-                (less_below (rank_of axes way cell.level (across face cell)) (rank_of axes way cell.level cell) (3 ^ axes) (rank_of axes way (below ys).level (across face (below ys))) (rank_of axes way (below xs).level (below xs)) h (across_low ys e o) (omega (arith, ranks xs d)))
-                (omega (arith, ranks xs d, ranks ys e))
-          | inr still ↦ ap (list_any (touches xs)) (arriving_none axes way counts levels (suc cell.level) face (below ys) four a (omega arith) (omega arith) (child_four axes way cell ys four l e) (inr (still_child axes way face cell ys a l four e o still))) ] ]
+          | inl h ↦ arriving_apart axes way counts levels levels face (below ys) (below xs) four a (omega arith) (child_four axes way cell ys four l e) (child_four axes way cell xs four l d) (child_in_tree axes way cell xs tree d) refl
+              (less_below (rank_of axes way cell.level (across face cell)) (rank_of axes way cell.level cell) (3 ^ axes) (rank_of axes way (below ys).level (across face (below ys))) (rank_of axes way (below xs).level (below xs)) h (across_low ys e o) (omega (arith, ranks xs d)))
+              (omega (arith, ranks xs d, ranks ys e))
+          | inr still ↦ ap (list_any (touches xs)) (arriving_none axes way counts levels (suc cell.level) face (below ys) four a (omega arith) (omega arith) (child_four axes way cell ys four l e) (inr (still_child axes way face cell ys a l four e o still)))
+        ]
+      ]
+
       earlier : (xs ys : List ℕ) → Digits3 axes xs → Digits3 axes ys → value axes xs < value axes ys → at xs ≡ true → list_any (touches ys) (leaving axes way counts levels face (below xs)) ≡ false
       earlier xs ys d e r o = elim (later_or_earlier axes way face cell.level cell a (omega arith) (omega arith)) [
-          inl h ↦ leaving_apart axes way counts levels levels face (below xs) (below ys) four a (omega arith) (child_four axes way cell xs four l d) (child_four axes way cell ys four l e) (child_in_tree axes way cell ys tree e) refl
-                (omega (arith, ranks xs d, ranks ys e))
-                (less_below (rank_of axes way cell.level cell) (rank_of axes way cell.level (across face cell)) (3 ^ axes) (rank_of axes way (below ys).level (below ys)) (rank_of axes way (below xs).level (across face (below xs))) h
-                    (omega (arith, ranks ys e, value-below axes ys (Each-digits axes ys e))) (across_high xs d o))
+        | inl h ↦ leaving_apart axes way counts levels levels face (below xs) (below ys) four a (omega arith) (child_four axes way cell xs four l d) (child_four axes way cell ys four l e) (child_in_tree axes way cell ys tree e) refl
+            (omega (arith, ranks xs d, ranks ys e))
+            (less_below (rank_of axes way cell.level cell) (rank_of axes way cell.level (across face cell)) (3 ^ axes) (rank_of axes way (below ys).level (below ys)) (rank_of axes way (below xs).level (across face (below xs))) h
+            (omega (arith, ranks ys e, value-below axes ys (Each-digits axes ys e))) (across_high xs d o))
         | inr other ↦ elim other [
-            inl h ↦ ap (list_any (touches ys)) (leaving_none axes way counts levels (suc cell.level) face (below xs) four a (omega arith) (omega arith) (child_four axes way cell xs four l d) (inl (earlier_child axes way way face cell.level cell xs four a (omega arith) l d o h)))
-          | inr still ↦ ap (list_any (touches ys)) (leaving_none axes way counts levels (suc cell.level) face (below xs) four a (omega arith) (omega arith) (child_four axes way cell xs four l d) (inr (still_child axes way face cell xs a l four d o still))) ] ]
+          | inl h ↦ ap (list_any (touches ys)) (leaving_none axes way counts levels (suc cell.level) face (below xs) four a (omega arith) (omega arith) (child_four axes way cell xs four l d) (inl (earlier_child axes way way face cell.level cell xs four a (omega arith) l d o h)))
+          | inr still ↦ ap (list_any (touches ys)) (leaving_none axes way counts levels (suc cell.level) face (below xs) four a (omega arith) (omega arith) (child_four axes way cell xs four l d) (inr (still_child axes way face cell xs a l four d o still)))
+        ]
+      ]
 
   -- what the cell does not touch, no child touches, nor is it a corner of the cell
   free_children : (beneath : List Place) → list_any (is_touched axes way (suc levels) cell) beneath ≡ false → Free axes touches beneath
   free_children beneath h ts d = list_any_none (touches ts) beneath (Each-weaker (λ v. is_touched axes way (suc levels) cell v ≡ false) _ (λ v u.
       list_any_none (λ t. is_same t.vertex v) (loads axes way levels (below ts))
-          (Each-In (λ c. Each (λ t. is_same t.vertex v ≡ false) (loads axes way levels c)) (below ts) (children axes way cell)
-              (Each-parts (λ t. is_same t.vertex v ≡ false) (loads axes way levels) (children axes way cell)
-                  (Each-right (λ t. is_same t.vertex v ≡ false) (reverse (corner_touches axes cell)) (flat_map (loads axes way levels) (children axes way cell)) (none_Each (λ t. is_same t.vertex v) (loads axes way (suc levels) cell) u)))
-              (subst (In (below ts)) (sym (children_are axes way cell)) (In-map below ts (digit_lists axes) (digits_in axes ts d)))))
+      (Each-In (λ c. Each (λ t. is_same t.vertex v ≡ false) (loads axes way levels c)) (below ts) (children axes way cell)
+      (Each-parts (λ t. is_same t.vertex v ≡ false) (loads axes way levels) (children axes way cell)
+      (Each-right (λ t. is_same t.vertex v ≡ false) (reverse (corner_touches axes cell)) (flat_map (loads axes way levels) (children axes way cell)) (none_Each (λ t. is_same t.vertex v) (loads axes way (suc levels) cell) u)))
+      (subst (In (below ts)) (sym (children_are axes way cell)) (In-map below ts (digit_lists axes) (digits_in axes ts d)))))
       beneath (none_Each (is_touched axes way (suc levels) cell) beneath h))
 
   free_corners : (beneath : List Place) → list_any (is_touched axes way (suc levels) cell) beneath ≡ false → list_any (is_touched axes way 0 cell) beneath ≡ false
@@ -121,12 +132,12 @@ module _ (axes : ℕ) (way : Way) (counts : Place → Bool) (levels axis parity 
       (outer_takes axes (λ ts. (turn ts).takes) at ++ beneath) (outer_gives axes (λ ts. (turn ts).gives) at ++ beneath)
   children_compose beneath free =
       subst (λ z. TurnsApart z (outer_takes axes (λ ts. (turn ts).takes) at ++ beneath) (outer_gives axes (λ ts. (turn ts).gives) at ++ beneath))
-          (sym (ap (map (child_turn axes way counts levels axis parity)) (children_are axes way cell) ∙ map-map (child_turn axes way counts levels axis parity) below (digit_lists axes)))
-          (blocks axis axes (λ ts. (turn ts).takes) (λ ts. (turn ts).gives) touches at
-              (meet_behind axis axes (λ ts. (turn ts).takes) (λ ts. (turn ts).gives) touches at
-                  (λ us m is within digits. subst (λ x. Meet m (λ ts. (child_turn axes way counts levels x parity (below (us ++ ts))).takes) (λ ts. (child_turn axes way counts levels x parity (below (us ++ ts))).gives) (λ ts. is_touched axes way levels (below (us ++ ts))) (λ ts. is_child_at axes way cell (face_on x parity cell) (us ++ ts)))
-                      is (meet_at axes way counts levels parity cell.level cell four refl l tree us m within digits)) a)
-              one_way apart beneath (free_children beneath free))
+      (sym (ap (map (child_turn axes way counts levels axis parity)) (children_are axes way cell) ∙ map-map (child_turn axes way counts levels axis parity) below (digit_lists axes)))
+      (blocks axis axes (λ ts. (turn ts).takes) (λ ts. (turn ts).gives) touches at
+      (meet_behind axis axes (λ ts. (turn ts).takes) (λ ts. (turn ts).gives) touches at
+      (λ us m is within digits. subst (λ x. Meet m (λ ts. (child_turn axes way counts levels x parity (below (us ++ ts))).takes) (λ ts. (child_turn axes way counts levels x parity (below (us ++ ts))).gives) (λ ts. is_touched axes way levels (below (us ++ ts))) (λ ts. is_child_at axes way cell (face_on x parity cell) (us ++ ts)))
+      is (meet_at axes way counts levels parity cell.level cell four refl l tree us m within digits)) a)
+      one_way apart beneath (free_children beneath free))
 
   -- the lists of the cell's face, split
   arriving_parts : arriving axes way counts (suc levels) face cell ≡ in_corners axes way counts face cell ++ outer_takes axes (λ ts. (turn ts).takes) at
@@ -134,11 +145,11 @@ module _ (axes : ℕ) (way : Way) (counts : Place → Bool) (levels axis parity 
       let finest = cell.level + suc levels in
       at_face_parts axes way (comes_across axes way counts face) axis face.side finest levels cell four a (omega arith) (omega arith) refl
       ∙ ap₂ (λ x y. x ++ y)
-          (own_corners axes (comes_across axes way counts face) finest axis face.side cell four a (omega arith) ∙ sym (own_corners axes (comes_across axes way counts face) (cell.level + 0) axis face.side cell four a (omega arith)))
-          (flat_map_same _ (λ ts. (turn ts).takes) (filter at (digit_lists axes)) (Each-weaker _ _ (λ ts d.
-              ap (λ n. at_face (comes_across axes way counts face) n face (below ts) (loads axes way levels (below ts))) (let e : finest ≡ (cell.level + 1) + levels = omega arith in e)
-              ∙ ap (λ f. arriving axes way counts levels f (below ts)) (sym (same_face ts d.0 d.1)))
-              (filter at (digit_lists axes)) (Each-filter (Digits3 axes) at (digit_lists axes) (digit_lists_below axes))))
+      (own_corners axes (comes_across axes way counts face) finest axis face.side cell four a (omega arith) ∙ sym (own_corners axes (comes_across axes way counts face) (cell.level + 0) axis face.side cell four a (omega arith)))
+      (flat_map_same _ (λ ts. (turn ts).takes) (filter at (digit_lists axes)) (Each-weaker _ _ (λ ts d.
+      ap (λ n. at_face (comes_across axes way counts face) n face (below ts) (loads axes way levels (below ts))) (let e : finest ≡ (cell.level + 1) + levels = omega arith in e)
+      ∙ ap (λ f. arriving axes way counts levels f (below ts)) (sym (same_face ts d.0 d.1)))
+      (filter at (digit_lists axes)) (Each-filter (Digits3 axes) at (digit_lists axes) (digit_lists_below axes))))
 
   leaving_parts : leaving axes way counts (suc levels) face cell ≡ out_corners axes way counts face cell ++ outer_gives axes (λ ts. (turn ts).gives) at
   leaving_parts =
@@ -150,19 +161,19 @@ module _ (axes : ℕ) (way : Way) (counts : Place → Bool) (levels axis parity 
       leaving_is axes way counts (suc levels) face cell
       ∙ at_face_parts axes back (goes_across axes way counts face) axis face.side finest levels cell four a (omega arith) (omega arith) refl
       ∙ ap₂ (λ x y. x ++ y)
-          (own_corners axes (goes_across axes way counts face) finest axis face.side cell four a (omega arith)
-              ∙ sym (own_corners axes (goes_across axes way counts face) (cell.level + 0) axis face.side cell four a (omega arith)) ∙ sym (leaving_is axes way counts 0 face cell))
-          (flat_map_same _ (λ ts. list (complement ts)) (filter at_other (digit_lists axes)) (Each-weaker _ _ (λ ts d.
-              ap (λ c. at_face (goes_across axes way counts face) finest face c (loads axes back levels c)) (other ts d.0)) (filter at_other (digit_lists axes)) (Each-filter (Digits3 axes) at_other (digit_lists axes) (digit_lists_below axes)))
-          ∙ sym (flat_map-map list complement (filter at_other (digit_lists axes)))
-          ∙ ap (flat_map list) (ap (map complement) (filter_same at_other (λ ts. at (complement ts)) (digit_lists axes) (Each-weaker (Digits3 axes) _ (λ ts d.
-                ap (λ ks. slice_index ks axis == 2 * face.side) (turned_opposite axes way cell ts d)) (digit_lists axes) (digit_lists_below axes)))
-              ∙ sym (filter-map at complement (digit_lists axes)) ∙ ap (filter at) (sym (reverse-digit_lists axes)) ∙ filter-reverse at (digit_lists axes))
-          ∙ flat_map_same list (λ ts. (turn ts).gives) (reverse (filter at (digit_lists axes))) (Each-reverse _ (filter at (digit_lists axes)) (Each-weaker _ _ (λ ts d.
-              ap (λ n. at_face (goes_across axes way counts face) n face (below ts) (loads axes back levels (below ts))) (let e : finest ≡ (cell.level + 1) + levels = omega arith in e)
-              ∙ sym (leaving_is axes way counts levels face (below ts))
-              ∙ ap (λ f. leaving axes way counts levels f (below ts)) (sym (same_face ts d.0 d.1)))
-              (filter at (digit_lists axes)) (Each-filter (Digits3 axes) at (digit_lists axes) (digit_lists_below axes)))))
+      (own_corners axes (goes_across axes way counts face) finest axis face.side cell four a (omega arith)
+      ∙ sym (own_corners axes (goes_across axes way counts face) (cell.level + 0) axis face.side cell four a (omega arith)) ∙ sym (leaving_is axes way counts 0 face cell))
+      (flat_map_same _ (λ ts. list (complement ts)) (filter at_other (digit_lists axes)) (Each-weaker _ _ (λ ts d.
+      ap (λ c. at_face (goes_across axes way counts face) finest face c (loads axes back levels c)) (other ts d.0)) (filter at_other (digit_lists axes)) (Each-filter (Digits3 axes) at_other (digit_lists axes) (digit_lists_below axes)))
+      ∙ sym (flat_map-map list complement (filter at_other (digit_lists axes)))
+      ∙ ap (flat_map list) (ap (map complement) (filter_same at_other (λ ts. at (complement ts)) (digit_lists axes) (Each-weaker (Digits3 axes) _ (λ ts d.
+      ap (λ ks. slice_index ks axis == 2 * face.side) (turned_opposite axes way cell ts d)) (digit_lists axes) (digit_lists_below axes)))
+      ∙ sym (filter-map at complement (digit_lists axes)) ∙ ap (filter at) (sym (reverse-digit_lists axes)) ∙ filter-reverse at (digit_lists axes))
+      ∙ flat_map_same list (λ ts. (turn ts).gives) (reverse (filter at (digit_lists axes))) (Each-reverse _ (filter at (digit_lists axes)) (Each-weaker _ _ (λ ts d.
+      ap (λ n. at_face (goes_across axes way counts face) n face (below ts) (loads axes back levels (below ts))) (let e : finest ≡ (cell.level + 1) + levels = omega arith in e)
+      ∙ sym (leaving_is axes way counts levels face (below ts))
+      ∙ ap (λ f. leaving axes way counts levels f (below ts)) (sym (same_face ts d.0 d.1)))
+      (filter at (digit_lists axes)) (Each-filter (Digits3 axes) at (digit_lists axes) (digit_lists_below axes)))))
 
 -- the law of composition, on one stack
 pub composes : (axes : ℕ) (way : Way) (counts : Place → Bool) (levels axis parity : ℕ) (cell : Place) → axes ≤ 4 → axis < axes → length cell.pos ≡ 4 → InTree axes way cell
@@ -173,21 +184,27 @@ composes axes way counts (suc levels) axis parity cell four a l tree beneath fre
     let takes = outer_takes axes (λ ts. (turn axes way counts levels axis parity cell four a l tree ts).takes) (at axes way counts levels axis parity cell four a l tree) in
     let gives = outer_gives axes (λ ts. (turn axes way counts levels axis parity cell four a l tree ts).gives) (at axes way counts levels axis parity cell four a l tree) in
     let out = out_corners axes way counts (face_on axis parity cell) cell in
-    let own = free_corners axes way counts levels axis parity cell four a l tree beneath free in
-    (takes ++ beneath,
-     ap (λ x. x ++ beneath) (arriving_parts axes way counts levels axis parity cell four a l tree) ∙ append_assoc (in_corners axes way counts (face_on axis parity cell) cell) takes beneath,
-     Untouched-append (is_touched axes way 0 cell) takes beneath (deep_takes axes way counts levels axis parity cell four a l tree) own,
-     TurnsApart-append (map (child_turn axes way counts levels axis parity) (children axes way cell)) (corner_turn axes way cell [] out ∷ []) (takes ++ beneath) (gives ++ beneath) (leaving axes way counts (suc levels) (face_on axis parity cell) cell ++ beneath)
-        (children_compose axes way counts levels axis parity cell four a l tree beneath free)
-        (gives ++ beneath, refl, Untouched-append (is_touched axes way 0 cell) gives beneath (deep_gives axes way counts levels axis parity cell four a l tree) own,
-         sym (append_assoc out gives beneath) ∙ ap (λ x. x ++ beneath) (sym (leaving_parts axes way counts levels axis parity cell four a l tree))))
+    let own = free_corners axes way counts levels axis parity cell four a l tree beneath free in (
+      takes ++ beneath,
+      ap (λ x. x ++ beneath) (arriving_parts axes way counts levels axis parity cell four a l tree) ∙ append_assoc (in_corners axes way counts (face_on axis parity cell) cell) takes beneath,
+      Untouched-append (is_touched axes way 0 cell) takes beneath (deep_takes axes way counts levels axis parity cell four a l tree) own,
+      TurnsApart-append (map (child_turn axes way counts levels axis parity) (children axes way cell)) (corner_turn axes way cell [] out ∷ []) (takes ++ beneath) (gives ++ beneath) (leaving axes way counts (suc levels) (face_on axis parity cell) cell ++ beneath)
+          (children_compose axes way counts levels axis parity cell four a l tree beneath free) (
+            gives ++ beneath,
+            refl,
+            Untouched-append (is_touched axes way 0 cell) gives beneath (deep_gives axes way counts levels axis parity cell four a l tree) own,
+            sym (append_assoc out gives beneath) ∙ ap (λ x. x ++ beneath) (sym (leaving_parts axes way counts levels axis parity cell four a l tree)),
+          ),
+    )
 
 -- turns on a stack of which nothing need be known
 plain : (turns : List Turn) (before after rest : List Place) → TurnsApart turns before after → Turns turns (before ++ rest) (after ++ rest)
 plain [] before after rest s = ap (λ x. x ++ rest) s
-plain (turn ∷ turns) before after rest s =
-    (s.0 ++ rest, ap (λ x. x ++ rest) s.1 ∙ append_assoc turn.takes s.0 rest,
-     subst (λ x. Turns turns x (after ++ rest)) (append_assoc turn.gives s.0 rest) (plain turns (turn.gives ++ s.0) after rest s.3))
+plain (turn ∷ turns) before after rest s = (
+  s.0 ++ rest,
+  ap (λ x. x ++ rest) s.1 ∙ append_assoc turn.takes s.0 rest,
+  subst (λ x. Turns turns x (after ++ rest)) (append_assoc turn.gives s.0 rest) (plain turns (turn.gives ++ s.0) after rest s.3),
+)
 
 pub composes_any : (axes : ℕ) (way : Way) (counts : Place → Bool) (levels axis parity : ℕ) (cell : Place) → axes ≤ 4 → axis < axes → length cell.pos ≡ 4 → InTree axes way cell → (beneath : List Place)
     → Turns (cell_turns axes way counts levels axis parity cell) (arriving axes way counts levels (face_on axis parity cell) cell ++ beneath) (leaving axes way counts levels (face_on axis parity cell) cell ++ beneath)
@@ -195,4 +212,4 @@ composes_any axes way counts levels axis parity cell four a l tree beneath =
     let takes = arriving axes way counts levels (face_on axis parity cell) cell in
     let gives = leaving axes way counts levels (face_on axis parity cell) cell in
     subst₂ (Turns (cell_turns axes way counts levels axis parity cell)) (ap (λ x. x ++ beneath) (append-nil takes)) (ap (λ x. x ++ beneath) (append-nil gives))
-        (plain (cell_turns axes way counts levels axis parity cell) (takes ++ []) (gives ++ []) beneath (composes axes way counts levels axis parity cell four a l tree [] refl))
+    (plain (cell_turns axes way counts levels axis parity cell) (takes ++ []) (gives ++ []) beneath (composes axes way counts levels axis parity cell four a l tree [] refl))

@@ -52,9 +52,9 @@ shared_corners axis (suc n) [] a l = absurd (omega arith)
 shared_corners zero (suc n) (x ∷ pos) a l =
     let both = λ (bs : List ℕ). (0 ∷ bs) ∷ (1 ∷ bs) ∷ [] in
     let one : (b : ℕ) → b < 2 → filter (λ bs. slice_index bs 0 == b) (flat_map both (bit_lists n)) ≡ map (λ bs. b ∷ bs) (bit_lists n) =
-        λ b h. filter-flat_map (λ bs. slice_index bs 0 == b) both (bit_lists n)
-            ∙ flat_map_same _ (λ bs. (b ∷ bs) ∷ []) (bit_lists n) (Each-weaker (IsBits n) _ (λ bs d. first b h bs) (bit_lists n) (bit_lists_below n))
-            ∙ flat_map_single (λ bs. b ∷ bs) (bit_lists n) in
+    λ b h. filter-flat_map (λ bs. slice_index bs 0 == b) both (bit_lists n)
+    ∙ flat_map_same _ (λ bs. (b ∷ bs) ∷ []) (bit_lists n) (Each-weaker (IsBits n) _ (λ bs d. first b h bs) (bit_lists n) (bit_lists_below n))
+    ∙ flat_map_single (λ bs. b ∷ bs) (bit_lists n) in
     ap (map (moved (x ∷ pos))) (one 1 (omega arith)) ∙ map-map (moved (x ∷ pos)) (λ bs. 1 ∷ bs) (bit_lists n)
     ∙ map_same _ _ (bit_lists n) (Each-weaker (IsBits n) _ (λ bs d. ap (λ y. y ∷ moved pos bs) (omega arith)) (bit_lists n) (bit_lists_below n))
     ∙ sym (map-map (moved ((x + 1) ∷ pos)) (λ bs. 0 ∷ bs) (bit_lists n)) ∙ ap (map (moved ((x + 1) ∷ pos))) (sym (one 0 (omega arith)))
@@ -67,9 +67,9 @@ shared_corners (suc axis) (suc n) (x ∷ pos) a l =
     let both = λ (bs : List ℕ). (0 ∷ bs) ∷ (1 ∷ bs) ∷ [] in
     let wide = λ (q : List ℕ). ((x + 0) ∷ q) ∷ ((x + 1) ∷ q) ∷ [] in
     let side : (b : ℕ) (p : List ℕ) → map (moved (x ∷ p)) (filter (λ bs. slice_index bs (suc axis) == b) (flat_map both (bit_lists n))) ≡ flat_map wide (map (moved p) (filter (λ bs. slice_index bs axis == b) (bit_lists n))) =
-        λ b p. ap (map (moved (x ∷ p))) (filter_parts (λ bs. slice_index bs (suc axis) == b) (λ bs. slice_index bs axis == b) both (bit_lists n) (λ bs. alike (slice_index bs axis == b) bs))
-            ∙ map-flat_map (moved (x ∷ p)) both (filter (λ bs. slice_index bs axis == b) (bit_lists n))
-            ∙ sym (flat_map-map wide (moved p) (filter (λ bs. slice_index bs axis == b) (bit_lists n))) in
+    λ b p. ap (map (moved (x ∷ p))) (filter_parts (λ bs. slice_index bs (suc axis) == b) (λ bs. slice_index bs axis == b) both (bit_lists n) (λ bs. alike (slice_index bs axis == b) bs))
+    ∙ map-flat_map (moved (x ∷ p)) both (filter (λ bs. slice_index bs axis == b) (bit_lists n))
+    ∙ sym (flat_map-map wide (moved p) (filter (λ bs. slice_index bs axis == b) (bit_lists n))) in
     side 1 pos ∙ ap (flat_map wide) (shared_corners axis n pos (omega arith) (omega arith)) ∙ sym (side 0 (up axis pos))
   where
     alike : (t : Bool) (bs : List ℕ) → cond t ((0 ∷ bs) ∷ cond t ((1 ∷ bs) ∷ []) []) (cond t ((1 ∷ bs) ∷ []) []) ≡ cond t ((0 ∷ bs) ∷ (1 ∷ bs) ∷ []) []
@@ -112,7 +112,7 @@ slice_index-bits (suc axis) (suc n) (b ∷ bs) a d = slice_index-bits axis n bs 
 pub own_corners : (axes : ℕ) (test : Touch → Bool) (finest axis side : ℕ) (cell : Place) → axes ≤ 4 → axis < axes → axes ≤ length cell.pos
     → at_face test finest (record { axis = axis; side = side }) cell (reverse (corner_touches axes cell))
     ≡ reverse (filter (λ vertex. test (record { vertex = vertex; cell = cell }))
-        (map (λ pos. record { level = cell.level; pos = pos }) (map (moved cell.pos) (filter (λ bs. slice_index bs axis == side) (bit_lists axes)))))
+    (map (λ pos. record { level = cell.level; pos = pos }) (map (moved cell.pos) (filter (λ bs. slice_index bs axis == side) (bit_lists axes)))))
 own_corners axes test finest axis side cell four a l =
     let face : Face = record { axis = axis; side = side } in
     let place = λ (pos : List ℕ). let v : Place = record { level = cell.level; pos = pos } in v in
@@ -122,16 +122,16 @@ own_corners axes test finest axis side cell four a l =
     let full = λ (t : Touch). is_on finest face cell t.vertex && test t in
     let found = λ (bs : List ℕ). slice_index bs axis == side in
     let corners : corner_touches axes cell ≡ map of_bits (bit_lists axes) =
-        sym (map-map of_bits (bits axes) (range_with_len 0 (2 ^ axes))) ∙ ap (map of_bits) (bits_are axes four) in
+    sym (map-map of_bits (bits axes) (range_with_len 0 (2 ^ axes))) ∙ ap (map of_bits) (bits_are axes four) in
     let tests : filter (λ bs. full (of_bits bs)) (bit_lists axes) ≡ filter (λ bs. test (of_bits bs)) (filter found (bit_lists axes)) =
-        filter_same _ (λ bs. found bs && test (of_bits bs)) (bit_lists axes) (Each-weaker (IsBits axes) _ (λ bs d.
-            ap (λ b. b && test (of_bits bs)) (ap (λ y. y * 3 ^ (finest - cell.level) == (slice_index cell.pos axis + side) * 3 ^ (finest - cell.level)) (slice_index-moved axis axes cell.pos bs a l d)
-                ∙ same_scaled (slice_index cell.pos axis) (slice_index bs axis) side (3 ^ (finest - cell.level)) (pow_three (finest - cell.level))))
-            (bit_lists axes) (bit_lists_below axes))
-        ∙ filter-filter (λ bs. test (of_bits bs)) found (bit_lists axes) in
+    filter_same _ (λ bs. found bs && test (of_bits bs)) (bit_lists axes) (Each-weaker (IsBits axes) _ (λ bs d.
+    ap (λ b. b && test (of_bits bs)) (ap (λ y. y * 3 ^ (finest - cell.level) == (slice_index cell.pos axis + side) * 3 ^ (finest - cell.level)) (slice_index-moved axis axes cell.pos bs a l d)
+    ∙ same_scaled (slice_index cell.pos axis) (slice_index bs axis) side (3 ^ (finest - cell.level)) (pow_three (finest - cell.level))))
+    (bit_lists axes) (bit_lists_below axes))
+    ∙ filter-filter (λ bs. test (of_bits bs)) found (bit_lists axes) in
     ap (λ ts. map (λ t. t.vertex) (filter full (reverse ts))) corners
     ∙ ap (map (λ t. t.vertex)) (filter-reverse full (map of_bits (bit_lists axes)) ∙ ap reverse (filter-map full of_bits (bit_lists axes) ∙ ap (map of_bits) tests))
     ∙ map-reverse (λ t. t.vertex) (map of_bits (filter (λ bs. test (of_bits bs)) (filter found (bit_lists axes))))
     ∙ ap reverse (map-map (λ t. t.vertex) of_bits (filter (λ bs. test (of_bits bs)) (filter found (bit_lists axes)))
-        ∙ sym (filter-map (λ v. test (touch v)) (λ bs. place (moved cell.pos bs)) (filter found (bit_lists axes)))
-        ∙ ap (filter (λ v. test (touch v))) (sym (map-map place (moved cell.pos) (filter found (bit_lists axes)))))
+    ∙ sym (filter-map (λ v. test (touch v)) (λ bs. place (moved cell.pos bs)) (filter found (bit_lists axes)))
+    ∙ ap (filter (λ v. test (touch v))) (sym (map-map place (moved cell.pos) (filter found (bit_lists axes)))))

@@ -63,7 +63,7 @@ module _ {X : Type 0} (same : X → X → Bool) (r : X → ℕ) (itself : (x : X
   steps_to_first (suc (suc n)) low high (x ∷ y ∷ xs) s =
       let two : to (x ∷ y ∷ xs) y ≡ (x, y) ∷ [] = ap₂ (λ b t. cond b ((x, y) ∷ t) t) (itself y) (to_first (suc (r x)) high y xs s.1) in
       let tail : flat_map (to (x ∷ y ∷ xs)) (take n xs) ≡ flat_map (to (y ∷ xs)) (take n xs) =
-          flat_map_same _ _ (take n xs) (Each-take _ n xs (Each-weaker _ _ (λ c h. skip (λ e. same e.1 c) (x, y) (steps (y ∷ xs)) (other y c h)) xs (Rising-above r (suc (r y)) high xs s.1.1))) in
+      flat_map_same _ _ (take n xs) (Each-take _ n xs (Each-weaker _ _ (λ c h. skip (λ e. same e.1 c) (x, y) (steps (y ∷ xs)) (other y c h)) xs (Rising-above r (suc (r y)) high xs s.1.1))) in
       let ih : flat_map (to (y ∷ xs)) (take n xs) ≡ steps (y ∷ take n xs) = sym (ap (λ t. t ++ flat_map (to (y ∷ xs)) (take n xs)) (to_first (suc (r x)) high y xs s.1)) ∙ steps_to_first (suc n) (suc (r x)) high (y ∷ xs) s.1 in
       ap₂ (λ a b. a ++ b) (to_first low high x (y ∷ xs) s) (ap₂ (λ a b. a ++ b) two (tail ∙ ih))
 
@@ -78,9 +78,9 @@ module _ {X : Type 0} (same : X → X → Bool) (r : X → ℕ) (itself : (x : X
       none (suc m) = refl
   steps_from_first (suc n) low high (x ∷ y ∷ xs) s =
       let one : from (x ∷ y ∷ xs) x ≡ (x, y) ∷ [] = ap₂ (λ b t. cond b ((x, y) ∷ t) t) (itself x)
-          (filter_none (λ e. same e.0 x) (steps (y ∷ xs)) (Each-weaker _ _ (λ e h. other_back x e.0 h.0) (steps (y ∷ xs)) (later_steps (suc (r x)) high (y ∷ xs) s.1))) in
+      (filter_none (λ e. same e.0 x) (steps (y ∷ xs)) (Each-weaker _ _ (λ e h. other_back x e.0 h.0) (steps (y ∷ xs)) (later_steps (suc (r x)) high (y ∷ xs) s.1))) in
       let tail : flat_map (from (x ∷ y ∷ xs)) (take n (y ∷ xs)) ≡ flat_map (from (y ∷ xs)) (take n (y ∷ xs)) =
-          flat_map_same _ _ (take n (y ∷ xs)) (Each-take _ n (y ∷ xs) (Each-weaker _ _ (λ c h. skip (λ e. same e.0 c) (x, y) (steps (y ∷ xs)) (other x c h)) (y ∷ xs) (Rising-above r (suc (r x)) high (y ∷ xs) s.1))) in
+      flat_map_same _ _ (take n (y ∷ xs)) (Each-take _ n (y ∷ xs) (Each-weaker _ _ (λ c h. skip (λ e. same e.0 c) (x, y) (steps (y ∷ xs)) (other x c h)) (y ∷ xs) (Rising-above r (suc (r x)) high (y ∷ xs) s.1))) in
       ap₂ (λ a b. a ++ b) one (tail ∙ steps_from_first n (suc (r x)) high (y ∷ xs) s.1)
 
 -- a place is the same as itself
@@ -132,10 +132,12 @@ finer-zeros zero = refl
 finer-zeros (suc n) = ap (λ ys. 0 ∷ ys) (finer-zeros n)
 
 child_on_grid : (axes : ℕ) (way : Way) (level : ℕ) (cell : Place) (ts : List ℕ) → axes ≤ 4 → OnGrid axes level cell → Digits3 axes ts → OnGrid axes (suc level) (child_of axes way cell ts)
-child_on_grid axes way level cell ts four on d =
-    (omega (arith, on.0), child_four axes way cell ts four on.1 d,
-     drop-finer axes cell.pos (child_ks axes way cell ts) (replicate (4 - axes) 0) (length-digits axes (child_ks axes way cell ts) (child_ks-below axes way cell ts d)) (omega (arith, on.1))
-     ∙ ap (λ p. finer p (replicate (4 - axes) 0)) on.2 ∙ finer-zeros (4 - axes))
+child_on_grid axes way level cell ts four on d = (
+  omega (arith, on.0),
+  child_four axes way cell ts four on.1 d,
+  drop-finer axes cell.pos (child_ks axes way cell ts) (replicate (4 - axes) 0) (length-digits axes (child_ks axes way cell ts) (child_ks-below axes way cell ts d)) (omega (arith, on.1))
+      ∙ ap (λ p. finer p (replicate (4 - axes) 0)) on.2 ∙ finer-zeros (4 - axes),
+)
 
 pub children_on_grid : (axes : ℕ) (way : Way) (level : ℕ) (cell : Place) → axes ≤ 4 → OnGrid axes level cell → Each (OnGrid axes (suc level)) (children axes way cell)
 children_on_grid axes way level cell four on = subst (Each (OnGrid axes (suc level))) (sym (children_are axes way cell))
@@ -181,9 +183,11 @@ one_corner zero cell pos q l m e =
     plain : (p : List ℕ) → moved p [] ≡ p
     plain [] = refl
     plain (x ∷ p) = refl
+
     own : (p : List ℕ) → is_corner_pos p p ≡ true
     own [] = refl
     own (x ∷ p) = ap₂ (λ a b. a && b) (ap (λ b. b || (x == x + 1)) (same_itself x)) (own p)
+
     alone : (p : List ℕ) → map (λ (bs : List ℕ). cell) (filter (λ bs. pointwise nat_eq (moved p bs) p) ([] ∷ [])) ≡ cond (is_corner_pos p p) (cell ∷ []) []
     alone p = ap (λ b. map (λ (bs : List ℕ). cell) (cond b ([] ∷ []) [])) (ap (λ z. pointwise nat_eq z p) (plain p) ∙ pos_itself p) ∙ ap (λ b. cond b (cell ∷ []) []) (sym (own p))
 one_corner (suc n) cell [] q l m e = absurd (omega arith)
@@ -198,12 +202,14 @@ one_corner (suc n) cell (x ∷ pos) (y ∷ q) l m e =
     go : (s t u : Bool) → ((s ≡ true) × (t ≡ false) × (u ≡ true)) ⊎ (((s ≡ false) × (t ≡ true) × (u ≡ true)) ⊎ ((s ≡ false) × (t ≡ false) × (u ≡ false)))
         → map (λ (bs : List ℕ). cell) (filter (λ bs. pointwise nat_eq (moved pos bs) q) (bit_lists n)) ≡ cond (is_corner_pos q pos) (cell ∷ []) []
         → flat_map (λ bs. map (λ (cs : List ℕ). cell) (cond (s && pointwise nat_eq (moved pos bs) q) ((0 ∷ bs) ∷ cond (t && pointwise nat_eq (moved pos bs) q) ((1 ∷ bs) ∷ []) []) (cond (t && pointwise nat_eq (moved pos bs) q) ((1 ∷ bs) ∷ []) []))) (bit_lists n)
-          ≡ cond (u && is_corner_pos q pos) (cell ∷ []) []
+        ≡ cond (u && is_corner_pos q pos) (cell ∷ []) []
     go s t u h ih = elim h [
-        inl k ↦ rw (k.0, k.1, k.2) (one_each cell (λ bs. pointwise nat_eq (moved pos bs) q) (λ bs. 0 ∷ bs) (bit_lists n) ∙ ih)
+      | inl k ↦ rw (k.0, k.1, k.2) (one_each cell (λ bs. pointwise nat_eq (moved pos bs) q) (λ bs. 0 ∷ bs) (bit_lists n) ∙ ih)
       | inr i ↦ elim i [
-          inl k ↦ rw (k.0, k.1, k.2) (one_each cell (λ bs. pointwise nat_eq (moved pos bs) q) (λ bs. 1 ∷ bs) (bit_lists n) ∙ ih)
-        | inr k ↦ rw (k.0, k.1, k.2) (flat_map_none _ (bit_lists n) (Each-all _ (λ bs. refl) (bit_lists n))) ] ]
+        | inl k ↦ rw (k.0, k.1, k.2) (one_each cell (λ bs. pointwise nat_eq (moved pos bs) q) (λ bs. 1 ∷ bs) (bit_lists n) ∙ ih)
+        | inr k ↦ rw (k.0, k.1, k.2) (flat_map_none _ (bit_lists n) (Each-all _ (λ bs. refl) (bit_lists n)))
+      ]
+    ]
 
 -- among the touches of a cell's own corners, those of a vertex of its level
 own_touches : (axes : ℕ) (vertex cell : Place) → axes ≤ 4 → OnGrid axes vertex.level vertex → OnGrid axes vertex.level cell → touched_for vertex (reverse (corner_touches axes cell)) ≡ cond (is_corner vertex cell) (cell ∷ []) []
@@ -213,10 +219,10 @@ own_touches axes vertex cell four v c =
     let level : (cell.level == vertex.level) ≡ true = eq_true cell.level vertex.level c.0 in
     ap (λ ts. map (λ (t : Touch). t.cell) (filter same (reverse ts))) (corner_touches_are axes cell four)
     ∙ ap (map (λ t. t.cell)) (filter-reverse same (map (touch_at cell) (bit_lists axes)) ∙ ap reverse (filter-map same (touch_at cell) (bit_lists axes)
-        ∙ ap (map (touch_at cell)) (filter_same (λ bs. same (touch_at cell bs)) test (bit_lists axes) (Each-all _ (λ bs. ap (λ b. b && test bs) level) (bit_lists axes)))))
+    ∙ ap (map (touch_at cell)) (filter_same (λ bs. same (touch_at cell bs)) test (bit_lists axes) (Each-all _ (λ bs. ap (λ b. b && test bs) level) (bit_lists axes)))))
     ∙ map-reverse (λ t. t.cell) (map (touch_at cell) (filter test (bit_lists axes)))
     ∙ ap reverse (map-map (λ t. t.cell) (touch_at cell) (filter test (bit_lists axes))
-        ∙ one_corner axes cell cell.pos vertex.pos (omega (arith, c.1)) (v.1 ∙ sym c.1) (v.2 ∙ sym c.2))
+    ∙ one_corner axes cell cell.pos vertex.pos (omega (arith, c.1)) (v.1 ∙ sym c.1) (v.2 ∙ sym c.2))
     ∙ one (is_corner_pos vertex.pos cell.pos) ∙ ap (λ b. cond (b && is_corner_pos vertex.pos cell.pos) (cell ∷ []) []) (sym (eq_true vertex.level cell.level (sym c.0)))
   where
     one : (b : Bool) → reverse (cond b (cell ∷ []) []) ≡ cond b (cell ∷ []) []
@@ -227,7 +233,7 @@ own_touches axes vertex cell four v c =
 other_touches : (axes : ℕ) (vertex cell : Place) → axes ≤ 4 → cell.level ≢ vertex.level → touched_for vertex (reverse (corner_touches axes cell)) ≡ []
 other_touches axes vertex cell four h =
     ap (map (λ (t : Touch). t.cell)) (filter_none (λ t. is_same t.vertex vertex) (reverse (corner_touches axes cell)) (Each-reverse _ (corner_touches axes cell) (subst (Each _) (sym (corner_touches_are axes cell four))
-        (Each-map _ (touch_at cell) (bit_lists axes) (Each-all _ (λ bs. ap (λ b. b && pointwise nat_eq (moved cell.pos bs) vertex.pos) (eq_false cell.level vertex.level h)) (bit_lists axes))))))
+    (Each-map _ (touch_at cell) (bit_lists axes) (Each-all _ (λ bs. ap (λ b. b && pointwise nat_eq (moved cell.pos bs) vertex.pos) (eq_false cell.level vertex.level h)) (bit_lists axes))))))
 
 touched-append : (vertex : Place) (ts us : List Touch) → touched_for vertex (ts ++ us) ≡ touched_for vertex ts ++ touched_for vertex us
 touched-append vertex ts us = ap (map (λ t. t.cell)) (filter-append (λ t. is_same t.vertex vertex) ts us) ∙ map-append (λ t. t.cell) (filter (λ t. is_same t.vertex vertex) ts) (filter (λ t. is_same t.vertex vertex) us)
@@ -242,8 +248,8 @@ deeper_touches axes way zero level vertex cell four c h = other_touches axes ver
 deeper_touches axes way (suc levels) level vertex cell four c h =
     touched-append vertex (reverse (corner_touches axes cell)) (flat_map (loads axes way levels) (children axes way cell))
     ∙ ap₂ (λ x y. x ++ y) (other_touches axes vertex cell four (omega (arith, c.0)))
-        (touched-flat_map vertex (loads axes way levels) (children axes way cell)
-        ∙ flat_map_none _ (children axes way cell) (Each-weaker (OnGrid axes (suc level)) _ (λ d on. deeper_touches axes way levels (suc level) vertex d four on (omega arith)) (children axes way cell) (children_on_grid axes way level cell four c)))
+    (touched-flat_map vertex (loads axes way levels) (children axes way cell)
+    ∙ flat_map_none _ (children axes way cell) (Each-weaker (OnGrid axes (suc level)) _ (λ d on. deeper_touches axes way levels (suc level) vertex d four on (omega arith)) (children axes way cell) (children_on_grid axes way level cell four c)))
 
 -- the loads of a vertex within a cell are for the cells around it, in the order of the walk
 loads_below : (axes : ℕ) (way : Way) (m more level : ℕ) (vertex cell : Place) → axes ≤ 4 → OnGrid axes vertex.level vertex → OnGrid axes level cell → vertex.level ≡ deeper m level
@@ -253,16 +259,16 @@ loads_below axes way zero (suc more) level vertex cell four v c h =
     ap (λ n. touched_for vertex (loads axes way n cell)) (let e : 0 + suc more ≡ suc more = omega arith in e)
     ∙ touched-append vertex (reverse (corner_touches axes cell)) (flat_map (loads axes way more) (children axes way cell))
     ∙ ap₂ (λ x y. x ++ y) (own_touches axes vertex cell four v (c.0 ∙ sym h, c.1, c.2))
-        (touched-flat_map vertex (loads axes way more) (children axes way cell)
-        ∙ flat_map_none _ (children axes way cell) (Each-weaker (OnGrid axes (suc level)) _ (λ d on. deeper_touches axes way more (suc level) vertex d four on (omega (arith, h))) (children axes way cell) (children_on_grid axes way level cell four c)))
+    (touched-flat_map vertex (loads axes way more) (children axes way cell)
+    ∙ flat_map_none _ (children axes way cell) (Each-weaker (OnGrid axes (suc level)) _ (λ d on. deeper_touches axes way more (suc level) vertex d four on (omega (arith, h))) (children axes way cell) (children_on_grid axes way level cell four c)))
     ∙ append-nil _
 loads_below axes way (suc m) more level vertex cell four v c h =
     ap (λ n. touched_for vertex (loads axes way n cell)) (let e : suc m + more ≡ suc (m + more) = omega arith in e)
     ∙ touched-append vertex (reverse (corner_touches axes cell)) (flat_map (loads axes way (m + more)) (children axes way cell))
     ∙ ap₂ (λ x y. x ++ y) (other_touches axes vertex cell four (omega (arith, c.0, h, deeper_is m level)))
-        (touched-flat_map vertex (loads axes way (m + more)) (children axes way cell)
-        ∙ flat_map_same _ (λ d. filter (is_corner vertex) (below axes way m d)) (children axes way cell)
-            (Each-weaker (OnGrid axes (suc level)) _ (λ d on. loads_below axes way m more (suc level) vertex d four v on (h ∙ sym (deeper-suc m level))) (children axes way cell) (children_on_grid axes way level cell four c)))
+    (touched-flat_map vertex (loads axes way (m + more)) (children axes way cell)
+    ∙ flat_map_same _ (λ d. filter (is_corner vertex) (below axes way m d)) (children axes way cell)
+    (Each-weaker (OnGrid axes (suc level)) _ (λ d on. loads_below axes way m more (suc level) vertex d four v on (h ∙ sym (deeper-suc m level))) (children axes way cell) (children_on_grid axes way level cell four c)))
     ∙ sym (filter-flat_map (is_corner vertex) (below axes way m) (children axes way cell))
 
 pub loaded_for_around : (axes : ℕ) (way : Way) (levels : ℕ) (vertex : Place) → axes ≤ 4 → OnGrid axes vertex.level vertex → vertex.level ≤ levels → touched_for vertex (loads axes way levels root) ≡ around axes way vertex

@@ -53,12 +53,12 @@ own_within : (axes : ℕ) (axis finest levels : ℕ) (cell : Place) → axes ≤
 own_within axes axis finest levels cell four a l is =
     let W = Within finest axis (slice_index cell.pos axis * 3 ^ levels) ((slice_index cell.pos axis + 1) * 3 ^ levels) in
     Each-reverse W (corner_touches axes cell) (subst (Each W) (sym (corner_touches_are axes cell four))
-        (Each-map W (touch_at cell) (bit_lists axes) (Each-weaker (IsBits axes) (λ bs. W (touch_at cell bs)) (λ bs d.
-            let b = own_bounds (slice_index cell.pos axis) (slice_index bs axis) (3 ^ levels) (slice_index-bits axis axes bs a d) in
-            let e : in_finest finest cell.level (slice_index (moved cell.pos bs) axis) ≡ (slice_index cell.pos axis + slice_index bs axis) * 3 ^ levels =
-                ap₂ (λ y k. y * 3 ^ k) (slice_index-moved axis axes cell.pos bs a l d) (omega arith) in
-            (subst (λ y. slice_index cell.pos axis * 3 ^ levels ≤ y) (sym e) b.0, subst (λ y. y ≤ (slice_index cell.pos axis + 1) * 3 ^ levels) (sym e) b.1))
-            (bit_lists axes) (bit_lists_below axes))))
+    (Each-map W (touch_at cell) (bit_lists axes) (Each-weaker (IsBits axes) (λ bs. W (touch_at cell bs)) (λ bs d.
+    let b = own_bounds (slice_index cell.pos axis) (slice_index bs axis) (3 ^ levels) (slice_index-bits axis axes bs a d) in
+    let e : in_finest finest cell.level (slice_index (moved cell.pos bs) axis) ≡ (slice_index cell.pos axis + slice_index bs axis) * 3 ^ levels =
+    ap₂ (λ y k. y * 3 ^ k) (slice_index-moved axis axes cell.pos bs a l d) (omega arith) in
+    (subst (λ y. slice_index cell.pos axis * 3 ^ levels ≤ y) (sym e) b.0, subst (λ y. y ≤ (slice_index cell.pos axis + 1) * 3 ^ levels) (sym e) b.1))
+    (bit_lists axes) (bit_lists_below axes))))
 
 child_bounds : (p q k w v low high : ℕ) → q ≡ 3 * p + k → k < 3 → v ≡ w * 3 → low ≡ p * v → high ≡ (p + 1) * v → (low ≤ q * w) × ((q + 1) * w ≤ high)
 child_bounds p q k w v low high is h vw lo hi =
@@ -72,18 +72,18 @@ loads_within axes way axis finest zero cell four a l is = own_within axes axis f
 loads_within axes way axis finest (suc levels) cell four a l is =
     let W = Within finest axis (slice_index cell.pos axis * 3 ^ suc levels) ((slice_index cell.pos axis + 1) * 3 ^ suc levels) in
     Each-append W (reverse (corner_touches axes cell)) (flat_map (loads axes way levels) (children axes way cell))
-        (own_within axes axis finest (suc levels) cell four a l is)
-        (Each-flat_map W (loads axes way levels) (children axes way cell) (subst (Each (λ c. Each W (loads axes way levels c))) (sym (children_are axes way cell))
-            (Each-map (λ c. Each W (loads axes way levels c)) (child_of axes way cell) (digit_lists axes)
-                (Each-weaker (Digits3 axes) (λ ts. Each W (loads axes way levels (child_of axes way cell ts))) (λ ts d.
-                    let child = child_of axes way cell ts in
-                    let q = slice_index child.pos axis in
-                    let b = child_bounds (slice_index cell.pos axis) q (slice_index (child_ks axes way cell ts) axis) (3 ^ levels) (3 ^ suc levels)
-                        (slice_index cell.pos axis * 3 ^ suc levels) ((slice_index cell.pos axis + 1) * 3 ^ suc levels)
-                        (child_index axes way cell ts axis a l d) (slice_index-below axis axes (child_ks axes way cell ts) a (child_ks-below axes way cell ts d)) (pow-suc 3 levels) refl refl in
-                    Each-weaker (Within finest axis (q * 3 ^ levels) ((q + 1) * 3 ^ levels)) W (λ t w. (le_trans b.0 w.0, le_trans w.1 b.1)) (loads axes way levels child)
-                        (loads_within axes way axis finest levels child four a (child_length axes way cell ts l d) (omega arith)))
-                    (digit_lists axes) (digit_lists_below axes)))))
+    (own_within axes axis finest (suc levels) cell four a l is)
+    (Each-flat_map W (loads axes way levels) (children axes way cell) (subst (Each (λ c. Each W (loads axes way levels c))) (sym (children_are axes way cell))
+    (Each-map (λ c. Each W (loads axes way levels c)) (child_of axes way cell) (digit_lists axes)
+    (Each-weaker (Digits3 axes) (λ ts. Each W (loads axes way levels (child_of axes way cell ts))) (λ ts d.
+    let child = child_of axes way cell ts in
+    let q = slice_index child.pos axis in
+    let b = child_bounds (slice_index cell.pos axis) q (slice_index (child_ks axes way cell ts) axis) (3 ^ levels) (3 ^ suc levels)
+    (slice_index cell.pos axis * 3 ^ suc levels) ((slice_index cell.pos axis + 1) * 3 ^ suc levels)
+    (child_index axes way cell ts axis a l d) (slice_index-below axis axes (child_ks axes way cell ts) a (child_ks-below axes way cell ts d)) (pow-suc 3 levels) refl refl in
+    Each-weaker (Within finest axis (q * 3 ^ levels) ((q + 1) * 3 ^ levels)) W (λ t w. (le_trans b.0 w.0, le_trans w.1 b.1)) (loads axes way levels child)
+    (loads_within axes way axis finest levels child four a (child_length axes way cell ts l d) (omega arith)))
+    (digit_lists axes) (digit_lists_below axes)))))
 
 -- the children of a cell at a face
 abbrev pub is_child_at : ℕ → Way → Place → Face → List ℕ → Bool
@@ -99,6 +99,7 @@ off_plane p q k s levels is h side other = rw (is, pow-suc 3 levels) (go s side 
   where
     w : ℕ
     w = 3 ^ levels
+
     go : (s : ℕ) → s < 2 → (k == 2 * s) ≡ false → ((p + s) * (w * 3) < (3 * p + k) * w) ⊎ ((3 * p + k + 1) * w < (p + s) * (w * 3))
     go zero b n =
         let z : 0 < k = grind (arith, nat_tests) in
@@ -114,8 +115,8 @@ off_plane p q k s levels is h side other = rw (is, pow-suc 3 levels) (go s side 
 pub at_face_parts : (axes : ℕ) (way : Way) (test : Touch → Bool) (axis side finest levels : ℕ) (cell : Place) → axes ≤ 4 → axis < axes → side < 2 → axes ≤ length cell.pos → finest ≡ cell.level + suc levels
     → at_face test finest (face_of axis side) cell (loads axes way (suc levels) cell)
     ≡ at_face test finest (face_of axis side) cell (reverse (corner_touches axes cell))
-      ++ flat_map (λ ts. at_face test finest (face_of axis side) (child_of axes way cell ts) (loads axes way levels (child_of axes way cell ts)))
-           (filter (is_child_at axes way cell (face_of axis side)) (digit_lists axes))
+    ++ flat_map (λ ts. at_face test finest (face_of axis side) (child_of axes way cell ts) (loads axes way levels (child_of axes way cell ts)))
+    (filter (is_child_at axes way cell (face_of axis side)) (digit_lists axes))
 at_face_parts axes way test axis side finest levels cell four a b l is =
     let x = in_finest finest cell.level (slice_index cell.pos axis + side) in
     let child = child_of axes way cell in
@@ -125,24 +126,24 @@ at_face_parts axes way test axis side finest levels cell four a b l is =
     let fl : finest - cell.level ≡ suc levels = omega arith in
     at_plane-append test finest axis x (reverse (corner_touches axes cell)) (flat_map (loads axes way levels) (children axes way cell))
     ∙ ap (λ r. at_face test finest (face_of axis side) cell (reverse (corner_touches axes cell)) ++ r)
-        (at_plane-flat_map test finest axis x (loads axes way levels) (children axes way cell)
-        ∙ ap (flat_map (λ c. at_plane test finest axis x (loads axes way levels c))) (children_are axes way cell)
-        ∙ flat_map-map (λ c. at_plane test finest axis x (loads axes way levels c)) child (digit_lists axes)
-        ∙ flat_map-filter part at (digit_lists axes) (Each-weaker (Digits3 axes) _ (λ ts d other.
-            let q = slice_index (child ts).pos axis in
-            at_plane_none test finest axis x (q * 3 ^ levels) ((q + 1) * 3 ^ levels) (loads axes way levels (child ts))
-                (loads_within axes way axis finest levels (child ts) four a (child_length axes way cell ts l d) (omega arith))
-                (subst (λ k. ((slice_index cell.pos axis + side) * 3 ^ k < q * 3 ^ levels) ⊎ ((q + 1) * 3 ^ levels < (slice_index cell.pos axis + side) * 3 ^ k)) (sym fl)
-                    (off_plane (slice_index cell.pos axis) q (slice_index (child_ks axes way cell ts) axis) side levels (child_index axes way cell ts axis a l d)
-                        (slice_index-below axis axes (child_ks axes way cell ts) a (child_ks-below axes way cell ts d)) b other)))
-            (digit_lists axes) (digit_lists_below axes))
-        ∙ flat_map_same part list (filter at (digit_lists axes)) (Each-weaker _ _ (λ ts d.
-            ap (λ y. at_plane test finest axis y (loads axes way levels (child ts)))
-                (ap (λ k. (slice_index cell.pos axis + side) * 3 ^ k) fl
-                ∙ same_plane (slice_index cell.pos axis) (slice_index (child ts).pos axis) side levels
-                    (child_index axes way cell ts axis a l d.0 ∙ ap (λ k. 3 * slice_index cell.pos axis + k) (when_same (slice_index (child_ks axes way cell ts) axis) (2 * side) d.1))
-                ∙ ap (λ k. (slice_index (child ts).pos axis + side) * 3 ^ k) (let e : levels ≡ finest - (cell.level + 1) = omega arith in e)))
-            (filter at (digit_lists axes)) (Each-filter (Digits3 axes) at (digit_lists axes) (digit_lists_below axes))))
+    (at_plane-flat_map test finest axis x (loads axes way levels) (children axes way cell)
+    ∙ ap (flat_map (λ c. at_plane test finest axis x (loads axes way levels c))) (children_are axes way cell)
+    ∙ flat_map-map (λ c. at_plane test finest axis x (loads axes way levels c)) child (digit_lists axes)
+    ∙ flat_map-filter part at (digit_lists axes) (Each-weaker (Digits3 axes) _ (λ ts d other.
+    let q = slice_index (child ts).pos axis in
+    at_plane_none test finest axis x (q * 3 ^ levels) ((q + 1) * 3 ^ levels) (loads axes way levels (child ts))
+    (loads_within axes way axis finest levels (child ts) four a (child_length axes way cell ts l d) (omega arith))
+    (subst (λ k. ((slice_index cell.pos axis + side) * 3 ^ k < q * 3 ^ levels) ⊎ ((q + 1) * 3 ^ levels < (slice_index cell.pos axis + side) * 3 ^ k)) (sym fl)
+    (off_plane (slice_index cell.pos axis) q (slice_index (child_ks axes way cell ts) axis) side levels (child_index axes way cell ts axis a l d)
+    (slice_index-below axis axes (child_ks axes way cell ts) a (child_ks-below axes way cell ts d)) b other)))
+    (digit_lists axes) (digit_lists_below axes))
+    ∙ flat_map_same part list (filter at (digit_lists axes)) (Each-weaker _ _ (λ ts d.
+    ap (λ y. at_plane test finest axis y (loads axes way levels (child ts)))
+    (ap (λ k. (slice_index cell.pos axis + side) * 3 ^ k) fl
+    ∙ same_plane (slice_index cell.pos axis) (slice_index (child ts).pos axis) side levels
+    (child_index axes way cell ts axis a l d.0 ∙ ap (λ k. 3 * slice_index cell.pos axis + k) (when_same (slice_index (child_ks axes way cell ts) axis) (2 * side) d.1))
+    ∙ ap (λ k. (slice_index (child ts).pos axis + side) * 3 ^ k) (let e : levels ≡ finest - (cell.level + 1) = omega arith in e)))
+    (filter at (digit_lists axes)) (Each-filter (Digits3 axes) at (digit_lists axes) (digit_lists_below axes))))
   where
     when_same : (x y : ℕ) → (x == y) ≡ true → x ≡ y
     when_same x y h = grind (arith, nat_tests)
@@ -163,10 +164,13 @@ neighbours axes way test other axis finest same four a levels cell l is = go lev
         ∙ ap (λ ps. reverse (filter t (map place ps))) (shared_corners axis axes cell.pos a l)
         ∙ ap reverse (filter_same t (λ v. other (record { vertex = v; cell = up_cell axis cell })) _ (Each-all _ (λ v. same v cell) (map place (map (moved (up axis cell.pos)) (filter (λ bs. slice_index bs axis == 0) (bit_lists axes))))))
         ∙ sym (own_corners axes other finest axis 0 (up_cell axis cell) four a (omega (arith, length-set cell.pos axis (slice_index cell.pos axis + 1))))
+
     at_other : (k j : ℕ) → k < 3 → j ≡ 2 - k → (k == 2) ≡ (j == 0)
     at_other k j h is = same_tests k 2 j 0 (λ e. omega arith) (λ e. omega arith)
+
     when_two : (k : ℕ) → (k == 2) ≡ true → k ≡ 2
     when_two k h = grind (arith, nat_tests)
+
     go : (levels : ℕ) (cell : Place) → axes ≤ length cell.pos → finest ≡ cell.level + levels
         → at_face test finest (face_of axis 1) cell (loads axes way levels cell) ≡ at_face other finest (face_of axis 0) (up_cell axis cell) (loads axes (opposite way) levels (up_cell axis cell))
     go zero cell l is = own cell l
@@ -178,17 +182,17 @@ neighbours axes way test other axis finest same four a levels cell l is = go lev
         let at' = is_child_at axes (opposite way) next (face_of axis 0) in
         at_face_parts axes way test axis 1 finest levels cell four a (omega arith) l is
         ∙ ap₂ (λ r s. r ++ s) (own cell l)
-            (flat_map_same _ (λ ts. at_face other finest (face_of axis 0) (child_of axes (opposite way) next ts) (loads axes (opposite way) levels (child_of axes (opposite way) next ts)))
-                (filter at (digit_lists axes)) (Each-weaker _ _ (λ ts d.
-                    go levels (child_of axes way cell ts) (child_length axes way cell ts l d.0) (omega arith)
-                    ∙ ap (λ ps. let c : Place = record { level = cell.level + 1; pos = ps } in at_face other finest (face_of axis 0) c (loads axes (opposite way) levels c))
-                        (sym (turned_across axis (flips_in axes way cell.pos) (flips_in axes (opposite way) (up axis cell.pos)) 0 0 axes ts (replicate (4 - axes) 0) cell.pos agree (length-flips axes way cell.pos) refl d.0 (when_two _ d.1))))
-                    (filter at (digit_lists axes)) (Each-filter (Digits3 axes) at (digit_lists axes) (digit_lists_below axes)))
-            ∙ ap (flat_map (λ ts. at_face other finest (face_of axis 0) (child_of axes (opposite way) next ts) (loads axes (opposite way) levels (child_of axes (opposite way) next ts))))
-                (filter_same at at' (digit_lists axes) (Each-weaker (Digits3 axes) _ (λ ts d.
-                    at_other _ _ (slice_index-below axis axes (child_ks axes way cell ts) a (child_ks-below axes way cell ts d))
-                        (turned_across-digit axis (flips_in axes way cell.pos) (flips_in axes (opposite way) (up axis cell.pos)) 0 0 axes ts agree (length-flips axes way cell.pos) refl d))
-                    (digit_lists axes) (digit_lists_below axes))))
+        (flat_map_same _ (λ ts. at_face other finest (face_of axis 0) (child_of axes (opposite way) next ts) (loads axes (opposite way) levels (child_of axes (opposite way) next ts)))
+        (filter at (digit_lists axes)) (Each-weaker _ _ (λ ts d.
+        go levels (child_of axes way cell ts) (child_length axes way cell ts l d.0) (omega arith)
+        ∙ ap (λ ps. let c : Place = record { level = cell.level + 1; pos = ps } in at_face other finest (face_of axis 0) c (loads axes (opposite way) levels c))
+        (sym (turned_across axis (flips_in axes way cell.pos) (flips_in axes (opposite way) (up axis cell.pos)) 0 0 axes ts (replicate (4 - axes) 0) cell.pos agree (length-flips axes way cell.pos) refl d.0 (when_two _ d.1))))
+        (filter at (digit_lists axes)) (Each-filter (Digits3 axes) at (digit_lists axes) (digit_lists_below axes)))
+        ∙ ap (flat_map (λ ts. at_face other finest (face_of axis 0) (child_of axes (opposite way) next ts) (loads axes (opposite way) levels (child_of axes (opposite way) next ts))))
+        (filter_same at at' (digit_lists axes) (Each-weaker (Digits3 axes) _ (λ ts d.
+        at_other _ _ (slice_index-below axis axes (child_ks axes way cell ts) a (child_ks-below axes way cell ts d))
+        (turned_across-digit axis (flips_in axes way cell.pos) (flips_in axes (opposite way) (up axis cell.pos)) 0 0 axes ts agree (length-flips axes way cell.pos) refl d))
+        (digit_lists axes) (digit_lists_below axes))))
         ∙ sym (at_face_parts axes (opposite way) other axis 0 finest levels next four a (omega arith) l' is)
 
 pub opposite-opposite : (way : Way) → opposite (opposite way) ≡ way
@@ -201,9 +205,9 @@ reverse-stores axes way zero cell = refl
 reverse-stores axes way (suc levels) cell =
     reverse-append (flat_map (stores axes way levels) (children axes way cell)) (corner_touches axes cell)
     ∙ ap (λ r. reverse (corner_touches axes cell) ++ r)
-        (reverse-flat_map (stores axes way levels) (children axes way cell)
-        ∙ flat_map_same _ (loads axes (opposite way) levels) (reverse (children axes way cell)) (Each-all _ (λ c. reverse-stores axes way levels c) (reverse (children axes way cell)))
-        ∙ ap (flat_map (loads axes (opposite way) levels)) (reverse-children axes way cell))
+    (reverse-flat_map (stores axes way levels) (children axes way cell)
+    ∙ flat_map_same _ (loads axes (opposite way) levels) (reverse (children axes way cell)) (Each-all _ (λ c. reverse-stores axes way levels c) (reverse (children axes way cell)))
+    ∙ ap (flat_map (loads axes (opposite way) levels)) (reverse-children axes way cell))
 
 pub leaving_is : (axes : ℕ) (way : Way) (counts : Place → Bool) (levels : ℕ) (face : Face) (cell : Place)
     → leaving axes way counts levels face cell ≡ at_face (goes_across axes way counts face) (cell.level + levels) face cell (loads axes (opposite way) levels cell)
@@ -224,7 +228,7 @@ pub leaving-up : (axes : ℕ) (way : Way) (counts : Place → Bool) (levels axis
 leaving-up axes way counts levels axis cell four a l =
     leaving_is axes way counts levels (face_of axis 1) cell
     ∙ neighbours axes (opposite way) (goes_across axes way counts (face_of axis 1)) (comes_across axes way counts (face_of axis 0)) axis (cell.level + levels)
-        (λ v c. ap (λ b. counts v && is_step axes way v b (up_cell axis c)) (sym (across-up axis c))) four a levels cell l refl
+    (λ v c. ap (λ b. counts v && is_step axes way v b (up_cell axis c)) (sym (across-up axis c))) four a levels cell l refl
     ∙ ap (λ w. at_face (comes_across axes way counts (face_of axis 0)) (cell.level + levels) (face_of axis 0) (up_cell axis cell) (loads axes w levels (up_cell axis cell))) (opposite-opposite way)
 
 pub leaving-down : (axes : ℕ) (way : Way) (counts : Place → Bool) (levels axis : ℕ) (cell : Place) → axes ≤ 4 → axis < axes → axes ≤ length cell.pos
@@ -232,4 +236,4 @@ pub leaving-down : (axes : ℕ) (way : Way) (counts : Place → Bool) (levels ax
 leaving-down axes way counts levels axis cell four a l =
     leaving_is axes way counts levels (face_of axis 0) (up_cell axis cell)
     ∙ sym (neighbours axes way (comes_across axes way counts (face_of axis 1)) (goes_across axes way counts (face_of axis 0)) axis (cell.level + levels)
-        (λ v c. ap (λ b. counts v && is_step axes way v (up_cell axis c) b) (sym (across-up axis c))) four a levels cell l refl)
+    (λ v c. ap (λ b. counts v && is_step axes way v (up_cell axis c) b) (sym (across-up axis c))) four a levels cell l refl)

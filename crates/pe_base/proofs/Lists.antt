@@ -157,8 +157,9 @@ In-map f x (y ∷ xs) h = elim h [ inl e ↦ inl (ap f e) | inr k ↦ inr (In-ma
 pub In-flat_map : {X Y : Type 0} (f : X → List Y) (x : X) (y : Y) (xs : List X) → In x xs → In y (f x) → In y (flat_map f xs)
 In-flat_map f x y [] h k = absurd (omega arith)
 In-flat_map f x y (z ∷ xs) h k = elim h [
-    inl e ↦ In-append_left y (f z) (flat_map f xs) (subst (λ w. In y (f w)) e k)
-  | inr i ↦ In-append_right y (f z) (flat_map f xs) (In-flat_map f x y xs i k) ]
+  | inl e ↦ In-append_left y (f z) (flat_map f xs) (subst (λ w. In y (f w)) e k)
+  | inr i ↦ In-append_right y (f z) (flat_map f xs) (In-flat_map f x y xs i k)
+]
 
 pub In-filter : {X : Type 0} (p : X → Bool) (x : X) (xs : List X) → p x ≡ true → In x xs → In x (filter p xs)
 In-filter p x [] t h = absurd (omega arith)

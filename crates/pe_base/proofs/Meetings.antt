@@ -48,14 +48,16 @@ Meeting axis parity first second =
 
 meeting-across : (axis parity : ℕ) (first second : Place) → Meeting axis parity first second → (across (face_on axis parity first) first ≡ second) × (across (face_on axis parity second) second ≡ first)
 meeting-across axis parity first second m = elim m [
-    inl h ↦ (ap (λ f. across f first) h.1 ∙ sym h.0, ap₂ across h.2 h.0 ∙ across-up axis first)
-  | inr h ↦ (ap₂ across h.1 h.0 ∙ across-up axis second, ap (λ f. across f second) h.2 ∙ sym h.0) ]
+  | inl h ↦ (ap (λ f. across f first) h.1 ∙ sym h.0, ap₂ across h.2 h.0 ∙ across-up axis first)
+  | inr h ↦ (ap₂ across h.1 h.0 ∙ across-up axis second, ap (λ f. across f second) h.2 ∙ sym h.0)
+]
 
 meeting-agree : (axes : ℕ) (way : Way) (counts : Place → Bool) (levels axis parity : ℕ) (first second : Place) → axes ≤ 4 → axis < axes → axes ≤ length first.pos → axes ≤ length second.pos → Meeting axis parity first second
     → leaving axes way counts levels (face_on axis parity first) first ≡ arriving axes way counts levels (face_on axis parity second) second
 meeting-agree axes way counts levels axis parity first second four a l k m = elim m [
-    inl h ↦ ap (λ f. leaving axes way counts levels f first) h.1 ∙ leaving-up axes way counts levels axis first four a l ∙ sym (ap₂ (arriving axes way counts levels) h.2 h.0)
-  | inr h ↦ ap₂ (leaving axes way counts levels) h.1 h.0 ∙ leaving-down axes way counts levels axis second four a k ∙ sym (ap (λ f. arriving axes way counts levels f second) h.2) ]
+  | inl h ↦ ap (λ f. leaving axes way counts levels f first) h.1 ∙ leaving-up axes way counts levels axis first four a l ∙ sym (ap₂ (arriving axes way counts levels) h.2 h.0)
+  | inr h ↦ ap₂ (leaving axes way counts levels) h.1 h.0 ∙ leaving-down axes way counts levels axis second four a k ∙ sym (ap (λ f. arriving axes way counts levels f second) h.2)
+]
 
 -- the digit of a child on an axis, behind some digits along the curve
 digit_behind : (axes : ℕ) (way : Way) (cell : Place) (us : List ℕ) (t : ℕ) (ts : List ℕ) → Digits3 axes (us ++ t ∷ ts)
@@ -69,18 +71,25 @@ child_side p k q b e = omega arith
 module _ (axes : ℕ) (way : Way) (counts : Place → Bool) (levels parity level : ℕ) (cell : Place) (four : axes ≤ 4) (on : cell.level ≡ level) (l : length cell.pos ≡ 4) (tree : InTree axes way cell) (us : List ℕ) (m : ℕ) (within : axes ≡ length us + suc m) (below : Each (λ u. u < 3) us) where
   abbrev axis : ℕ
   axis = length us
+
   abbrev turns : ℕ
   turns = turns_at (flips_in axes way cell.pos) 0 us
+
   abbrev side : ℕ
   side = (slice_index cell.pos axis + parity) % 2
+
   abbrev child : ℕ → List ℕ → Place
   child t ts = child_of axes way cell (us ++ t ∷ ts)
+
   abbrev takes : Lists
   takes ts = (child_turn axes way counts levels axis parity (child_of axes way cell (us ++ ts))).takes
+
   abbrev gives : Lists
   gives ts = (child_turn axes way counts levels axis parity (child_of axes way cell (us ++ ts))).gives
+
   abbrev touches : Touching
   touches ts = is_touched axes way levels (child_of axes way cell (us ++ ts))
+
   abbrev outer : List ℕ → Bool
   outer ts = is_child_at axes way cell (face_on axis parity cell) (us ++ ts)
 
@@ -103,10 +112,14 @@ module _ (axes : ℕ) (way : Way) (counts : Place → Bool) (levels parity level
       let lv : suc level ≡ cell.level + 1 = omega arith in
       let in_tree : (t : ℕ) (ts : List ℕ) → t < 3 → Digits3 m ts → InTree axes way (child t ts) = λ t ts b d. child_in_tree axes way cell (us ++ t ∷ ts) tree (whole t ts b d) in
       let ranks : (t : ℕ) (ts : List ℕ) → t < 3 → Digits3 m ts → rank_of axes way (suc level) (child t ts) ≡ rank_of axes way level cell * 3 ^ axes + value axes (us ++ t ∷ ts) =
-          λ t ts b d. rank-child axes way level cell (us ++ t ∷ ts) four l (whole t ts b d) in
+      λ t ts b d. rank-child axes way level cell (us ++ t ∷ ts) four l (whole t ts b d) in
       let up : (ts : List ℕ) → Digits3 m ts → rank_of axes way (suc level) (child first ts) < rank_of axes way (suc level) (child (first + 1) (complement ts)) =
-          λ ts d. omega (arith, rank-child axes way level cell (us ++ first ∷ ts) four l (whole first ts f d), rank-child axes way level cell (us ++ (first + 1) ∷ complement ts) four l (whole (first + 1) (complement ts) n (complement_below m ts d)),
-              value_next us first m axes ts (complement ts) within d) in
+      λ ts d. omega (
+        arith,
+        rank-child axes way level cell (us ++ first ∷ ts) four l (whole first ts f d),
+        rank-child axes way level cell (us ++ (first + 1) ∷ complement ts) four l (whole (first + 1) (complement ts) n (complement_below m ts d)),
+        value_next us first m axes ts (complement ts) within d,
+      ) in
       record {
         first = first;
         low = low;
@@ -117,25 +130,27 @@ module _ (axes : ℕ) (way : Way) (counts : Place → Bool) (levels parity level
         gives_none = λ ts d. let cs = complement ts in let dc = complement_below m ts d in let ct = complement_twice m ts d in
             leaving_none axes way counts levels (suc level) (face_on axis parity (child (first + 1) ts)) (child (first + 1) ts) four a (omega arith) (omega arith) (fours (first + 1) ts n d)
             (inl (subst (λ ss. Earlier axes way (face_on axis parity (child (first + 1) ss)) (suc level) (child (first + 1) ss)) ct
-                (subst (λ c. rank_of axes way (suc level) c < rank_of axes way (suc level) (child (first + 1) (complement cs))) (sym (meeting-across axis parity _ _ (meets cs dc)).1) (up cs dc))));
+            (subst (λ c. rank_of axes way (suc level) c < rank_of axes way (suc level) (child (first + 1) (complement cs))) (sym (meeting-across axis parity _ _ (meets cs dc)).1) (up cs dc))));
         gives_apart = λ xs ys d e r. leaving_apart axes way counts levels levels (face_on axis parity (child first xs)) (child first xs) (child first ys) four a (omega arith) (fours first xs f d) (fours first ys f e) (in_tree first ys f e) refl
             (subst (λ n. rank_of axes way n (child first xs) < rank_of axes way n (child first ys)) lv (omega (arith, ranks first xs f d, ranks first ys f e, value_inside us first m axes xs ys within r)))
             (subst (λ n. rank_of axes way n (child first ys) < rank_of axes way n (across (face_on axis parity (child first xs)) (child first xs))) lv
-                (subst (λ c. rank_of axes way (suc level) (child first ys) < rank_of axes way (suc level) c) (sym (meeting-across axis parity _ _ (meets xs d)).0)
-                    (omega (arith, ranks first ys f e, ranks (first + 1) (complement xs) n (complement_below m xs d), value_next us first m axes ys (complement xs) within e))));
+            (subst (λ c. rank_of axes way (suc level) (child first ys) < rank_of axes way (suc level) c) (sym (meeting-across axis parity _ _ (meets xs d)).0)
+            (omega (arith, ranks first ys f e, ranks (first + 1) (complement xs) n (complement_below m xs d), value_next us first m axes ys (complement xs) within e))));
         takes_apart = λ xs ys d e r. let cs = complement ys in let dc = complement_below m ys e in let ct = complement_twice m ys e in
             arriving_apart axes way counts levels levels (face_on axis parity (child (first + 1) ys)) (child (first + 1) ys) (child (first + 1) xs) four a (omega arith) (fours (first + 1) ys n e) (fours (first + 1) xs n d) (in_tree (first + 1) xs n d) refl
             (subst (λ k. rank_of axes way k (across (face_on axis parity (child (first + 1) ys)) (child (first + 1) ys)) < rank_of axes way k (child (first + 1) xs)) lv
-                (subst (λ ss. rank_of axes way (suc level) (across (face_on axis parity (child (first + 1) ss)) (child (first + 1) ss)) < rank_of axes way (suc level) (child (first + 1) xs)) ct
-                    (subst (λ c. rank_of axes way (suc level) c < rank_of axes way (suc level) (child (first + 1) xs)) (sym (meeting-across axis parity _ _ (meets cs dc)).1)
-                        (omega (arith, ranks first cs f dc, ranks (first + 1) xs n d, value_next us first m axes cs xs within dc)))))
+            (subst (λ ss. rank_of axes way (suc level) (across (face_on axis parity (child (first + 1) ss)) (child (first + 1) ss)) < rank_of axes way (suc level) (child (first + 1) xs)) ct
+            (subst (λ c. rank_of axes way (suc level) c < rank_of axes way (suc level) (child (first + 1) xs)) (sym (meeting-across axis parity _ _ (meets cs dc)).1)
+            (omega (arith, ranks first cs f dc, ranks (first + 1) xs n d, value_next us first m axes cs xs within dc)))))
             (subst (λ k. rank_of axes way k (child (first + 1) xs) < rank_of axes way k (child (first + 1) ys)) lv (omega (arith, ranks (first + 1) xs n d, ranks (first + 1) ys n e, value_inside us (first + 1) m axes xs ys within r)));
         inner = λ ts d. ap (λ k. k == 2 * side) (digit_behind axes way cell us first ts (whole first ts f d)) ∙ differ _ _ not_first;
         inner_next = λ ts d. ap (λ k. k == 2 * side) (digit_behind axes way cell us (first + 1) ts (whole (first + 1) ts n d)) ∙ differ _ _ not_next;
-        outside = λ t b h k ts d. ap (λ x. x == 2 * side) (digit_behind axes way cell us t ts (whole t ts b d)) ∙ agree_on _ _ (is_other t b h k) }
+        outside = λ t b h k ts d. ap (λ x. x == 2 * side) (digit_behind axes way cell us t ts (whole t ts b d)) ∙ agree_on _ _ (is_other t b h k);
+      }
     where
       differ : (x y : ℕ) → x ≢ y → (x == y) ≡ false
       differ x y h = grind (arith, nat_tests)
+
       agree_on : (x y : ℕ) → x ≡ y → (x == y) ≡ true
       agree_on x y h = grind (arith, nat_tests)
 
@@ -143,20 +158,23 @@ module _ (axes : ℕ) (way : Way) (counts : Place → Bool) (levels parity level
   meet_even even =
       let n : (t : ℕ) → mirrored turns t ≡ t = λ t. mirrored_even turns t even in
       meet_from (1 - side) (omega arith)
-        (λ ts d. inl (sym (ap (λ pos. record { level = cell.level + 1; pos = pos }) (turned_next-even (flips_in axes way cell.pos) 0 axes us (1 - side) ts (replicate (4 - axes) 0) cell.pos (length-flips axes way cell.pos) (whole (1 - side) ts (omega arith) d) (omega arith) even)),
-            face_behind (1 - side) 1 ts (omega arith) d (omega (arith, n (1 - side))),
-            face_behind ((1 - side) + 1) 0 (complement ts) (omega arith) (complement_below m ts d) (omega (arith, n ((1 - side) + 1)))))
-        (omega (arith, n (1 - side))) (omega (arith, n ((1 - side) + 1))) (λ t b h k. omega (arith, n t))
+      (λ ts d. inl (
+        sym (ap (λ pos. record { level = cell.level + 1; pos = pos }) (turned_next-even (flips_in axes way cell.pos) 0 axes us (1 - side) ts (replicate (4 - axes) 0) cell.pos (length-flips axes way cell.pos) (whole (1 - side) ts (omega arith) d) (omega arith) even)),
+        face_behind (1 - side) 1 ts (omega arith) d (omega (arith, n (1 - side))),
+        face_behind ((1 - side) + 1) 0 (complement ts) (omega arith) (complement_below m ts d) (omega (arith, n ((1 - side) + 1))),
+      ))
+      (omega (arith, n (1 - side))) (omega (arith, n ((1 - side) + 1))) (λ t b h k. omega (arith, n t))
 
   meet_odd : turns % 2 ≡ 1 → Meet m takes gives touches outer
   meet_odd odd =
       let n : (t : ℕ) → mirrored turns t ≡ 2 - t = λ t. mirrored_odd turns t odd in
       meet_from side (omega arith)
-        (λ ts d. inr (sym (ap (λ pos. record { level = cell.level + 1; pos = pos }) (turned_next-odd (flips_in axes way cell.pos) 0 axes us side ts (replicate (4 - axes) 0) cell.pos (length-flips axes way cell.pos) (whole side ts (omega arith) d) (omega arith) odd)),
-            face_behind side 0 ts (omega arith) d (omega (arith, n side)),
-            face_behind (side + 1) 1 (complement ts) (omega arith) (complement_below m ts d) (omega (arith, n (side + 1)))))
-        (omega (arith, n side)) (omega (arith, n (side + 1))) (λ t b h k. omega (arith, n t))
+      (λ ts d. inr (
+        sym (ap (λ pos. record { level = cell.level + 1; pos = pos }) (turned_next-odd (flips_in axes way cell.pos) 0 axes us side ts (replicate (4 - axes) 0) cell.pos (length-flips axes way cell.pos) (whole side ts (omega arith) d) (omega arith) odd)),
+        face_behind side 0 ts (omega arith) d (omega (arith, n side)),
+        face_behind (side + 1) 1 (complement ts) (omega arith) (complement_below m ts d) (omega (arith, n (side + 1))),
+      ))
+      (omega (arith, n side)) (omega (arith, n (side + 1))) (λ t b h k. omega (arith, n t))
 
   pub meet_at : Meet m takes gives touches outer
   meet_at = elim (even_or_odd turns) [ inl e ↦ meet_even e | inr e ↦ meet_odd e ]
-

@@ -34,42 +34,48 @@ even_or_odd x = grind arith
 
 pub mirrored_same : (x y t : ℕ) → (x + y) % 2 ≡ 0 → mirrored x t ≡ mirrored y t
 mirrored_same x y t h = elim (even_or_odd x) [
-    inl e ↦ mirrored_even x t e ∙ sym (mirrored_even y t (omega arith))
-  | inr e ↦ mirrored_odd x t e ∙ sym (mirrored_odd y t (omega arith)) ]
+  | inl e ↦ mirrored_even x t e ∙ sym (mirrored_even y t (omega arith))
+  | inr e ↦ mirrored_odd x t e ∙ sym (mirrored_odd y t (omega arith))
+]
 
 -- an odd number of turns more, and the complement: the same digit
 pub mirrored_complement : (x y t : ℕ) → t < 3 → (x + y) % 2 ≡ 1 → mirrored x t ≡ mirrored y (2 - t)
 mirrored_complement x y t b h = elim (even_or_odd x) [
-    inl e ↦ mirrored_even x t e ∙ let k : t ≡ 2 - (2 - t) = omega arith in k ∙ sym (mirrored_odd y (2 - t) (omega arith))
-  | inr e ↦ mirrored_odd x t e ∙ sym (mirrored_even y (2 - t) (omega arith)) ]
+  | inl e ↦ mirrored_even x t e ∙ let k : t ≡ 2 - (2 - t) = omega arith in k ∙ sym (mirrored_odd y (2 - t) (omega arith))
+  | inr e ↦ mirrored_odd x t e ∙ sym (mirrored_even y (2 - t) (omega arith))
+]
 
 -- an odd number of turns more: the complement
 pub mirrored_other : (x y t : ℕ) → (x + y) % 2 ≡ 1 → t < 3 → mirrored y t ≡ 2 - mirrored x t
 mirrored_other x y t h b = elim (even_or_odd x) [
-    inl e ↦ mirrored_odd y t (omega arith) ∙ ap (λ k. 2 - k) (sym (mirrored_even x t e))
-  | inr e ↦ mirrored_even y t (omega arith) ∙ let k : t ≡ 2 - (2 - t) = omega arith in k ∙ ap (λ k. 2 - k) (sym (mirrored_odd x t e)) ]
+  | inl e ↦ mirrored_odd y t (omega arith) ∙ ap (λ k. 2 - k) (sym (mirrored_even x t e))
+  | inr e ↦ mirrored_even y t (omega arith) ∙ let k : t ≡ 2 - (2 - t) = omega arith in k ∙ ap (λ k. 2 - k) (sym (mirrored_odd x t e))
+]
 
 pub mirrored_below : (x t : ℕ) → t < 3 → mirrored x t < 3
 mirrored_below x t b = elim (even_or_odd x) [
-    inl e ↦ omega (arith, mirrored_even x t e)
-  | inr e ↦ omega (arith, mirrored_odd x t e) ]
+  | inl e ↦ omega (arith, mirrored_even x t e)
+  | inr e ↦ omega (arith, mirrored_odd x t e)
+]
 
 pub mirrored_parity : (x t : ℕ) → t < 3 → (mirrored x t + t) % 2 ≡ 0
 mirrored_parity x t b = elim (even_or_odd x) [
-    inl e ↦ omega (arith, mirrored_even x t e)
-  | inr e ↦ omega (arith, mirrored_odd x t e) ]
+  | inl e ↦ omega (arith, mirrored_even x t e)
+  | inr e ↦ omega (arith, mirrored_odd x t e)
+]
 
 pub mirrored_twice : (x y t : ℕ) → t < 3 → (x + y) % 2 ≡ 0 → mirrored x (mirrored y t) ≡ t
 mirrored_twice x y t b h = elim (even_or_odd x) [
-    inl e ↦ mirrored_even x (mirrored y t) e ∙ mirrored_even y t (omega arith)
-  | inr e ↦ mirrored_odd x (mirrored y t) e ∙ ap (λ k. 2 - k) (mirrored_odd y t (omega arith)) ∙ omega arith ]
+  | inl e ↦ mirrored_even x (mirrored y t) e ∙ mirrored_even y t (omega arith)
+  | inr e ↦ mirrored_odd x (mirrored y t) e ∙ ap (λ k. 2 - k) (mirrored_odd y t (omega arith)) ∙ omega arith
+]
 
 -- the digit lists
 pub digit_lists_below : (n : ℕ) → Each (Digits3 n) (digit_lists n)
 digit_lists_below zero = (tt, tt)
 digit_lists_below (suc n) =
     let one = λ (t : ℕ) (b : t < 3). Each-map (Digits3 (suc n)) (λ ts. t ∷ ts) (digit_lists n)
-        (Each-weaker (Digits3 n) (λ ts. (t < 3) × Digits3 n ts) (λ ts d. (b, d)) (digit_lists n) (digit_lists_below n)) in
+    (Each-weaker (Digits3 n) (λ ts. (t < 3) × Digits3 n ts) (λ ts d. (b, d)) (digit_lists n) (digit_lists_below n)) in
     Each-append (Digits3 (suc n)) _ _ (one 0 (omega arith)) (Each-append (Digits3 (suc n)) _ _ (one 1 (omega arith)) (Each-append (Digits3 (suc n)) _ _ (one 2 (omega arith)) tt))
 
 pub complement_below : (n : ℕ) (ts : List ℕ) → Digits3 n ts → Digits3 n (complement ts)
@@ -84,9 +90,9 @@ reverse-digit_lists zero = refl
 reverse-digit_lists (suc n) =
     let block = λ (t : ℕ). map (λ ts. t ∷ ts) (digit_lists n) in
     let turn : (t : ℕ) → reverse (block t) ≡ map (λ ts. t ∷ complement ts) (digit_lists n) =
-        λ t. sym (map-reverse (λ ts. t ∷ ts) (digit_lists n)) ∙ ap (map (λ ts. t ∷ ts)) (reverse-digit_lists n) ∙ map-map (λ ts. t ∷ ts) complement (digit_lists n) in
+    λ t. sym (map-reverse (λ ts. t ∷ ts) (digit_lists n)) ∙ ap (map (λ ts. t ∷ ts)) (reverse-digit_lists n) ∙ map-map (λ ts. t ∷ ts) complement (digit_lists n) in
     let front : (t : ℕ) → map complement (block t) ≡ map (λ ts. (2 - t) ∷ complement ts) (digit_lists n) =
-        λ t. map-map complement (λ ts. t ∷ ts) (digit_lists n) in
+    λ t. map-map complement (λ ts. t ∷ ts) (digit_lists n) in
     reverse-flat_map block (0 ∷ 1 ∷ 2 ∷ [])
     ∙ ap₂ (λ x y. x ++ y) (turn 2 ∙ sym (front 0)) (ap₂ (λ x y. x ++ y) (turn 1 ∙ sym (front 1)) (ap (λ x. x ++ []) (turn 0 ∙ sym (front 2))))
     ∙ sym (map-flat_map complement block (0 ∷ 1 ∷ 2 ∷ []))
@@ -119,7 +125,7 @@ turned_complement q (e ∷ es) (f ∷ fs) b c n [] p l h d = refl
 turned_complement q (e ∷ es) (f ∷ fs) b c zero (t ∷ ts) p l h d = absurd (omega arith)
 turned_complement q (e ∷ es) (f ∷ fs) b c (suc n) (t ∷ ts) p l h d =
     ap₂ (λ k ks. k ∷ ks) (mirrored_complement (e + b) (f + c) t d.0 (omega (arith, p.0)))
-        (turned_complement q es fs (b + t) (c + (2 - t)) n ts p.1 (omega arith) (omega arith) d.1)
+    (turned_complement q es fs (b + t) (c + (2 - t)) n ts p.1 (omega arith) (omega arith) d.1)
 
 -- turned twice, digits are as they were, also with more behind them
 pub turned_twice : (es : List ℕ) (b c n : ℕ) (ts zs : List ℕ) → length es ≡ n → (b + c) % 2 ≡ 0 → Digits3 n ts → turned es b (turned es c ts ++ zs) ≡ ts
@@ -130,7 +136,7 @@ turned_twice (e ∷ es) b c zero ts zs l h d = absurd (omega arith)
 turned_twice (e ∷ es) b c (suc n) [] zs l h d = absurd (omega arith)
 turned_twice (e ∷ es) b c (suc n) (t ∷ ts) zs l h d =
     ap₂ (λ k ks. k ∷ ks) (mirrored_twice (e + b) (e + c) t d.0 (omega arith))
-        (turned_twice es (b + mirrored (e + c) t) (c + t) n ts zs (omega arith) (omega (arith, mirrored_parity (e + c) t d.0)) d.1)
+    (turned_twice es (b + mirrored (e + c) t) (c + t) n ts zs (omega arith) (omega (arith, mirrored_parity (e + c) t d.0)) d.1)
 
 -- the parity of their sum stays
 pub sum-turned : (es : List ℕ) (b n : ℕ) (ts zs : List ℕ) → length es ≡ n → Digits3 n ts → (sum_of (turned es b (ts ++ zs)) + sum_of ts) % 2 ≡ 0
@@ -180,10 +186,10 @@ turned_across axis (e ∷ es) (f ∷ fs) b c zero ts zs (x ∷ pos) a l h d k = 
 turned_across axis (e ∷ es) (f ∷ fs) b c (suc n) [] zs (x ∷ pos) a l h d k = absurd (omega arith)
 turned_across zero (e ∷ es) (f ∷ fs) b c (suc n) (t ∷ ts) zs (x ∷ pos) a l h d k =
     ap₂ (λ y ys. y ∷ finer pos (ys ++ zs)) (omega (arith, mirrored_other (e + b) (f + c) t (omega (arith, a.0)) d.0))
-        (sym (turned_same es fs (b + t) (c + t) ts a.1 a.2 (omega arith)))
+    (sym (turned_same es fs (b + t) (c + t) ts a.1 a.2 (omega arith)))
 turned_across (suc axis) (e ∷ es) (f ∷ fs) b c (suc n) (t ∷ ts) zs (x ∷ pos) a l h d k =
     ap₂ (λ y ys. (3 * x + y) ∷ ys) (mirrored_same (f + c) (e + b) t (omega (arith, a.0)))
-        (turned_across axis es fs (b + t) (c + t) n ts zs pos a.1 (omega arith) (omega arith) d.1 k)
+    (turned_across axis es fs (b + t) (c + t) n ts zs pos a.1 (omega arith) (omega arith) d.1 k)
 
 -- the number of turns at the digit behind some digits
 abbrev pub turns_at : List ℕ → ℕ → List ℕ → ℕ
@@ -211,7 +217,7 @@ turned_next-even [] b (suc n) us t ts zs (x ∷ pos) l d s h = absurd (omega ari
 turned_next-even (e ∷ es) b zero us t ts zs (x ∷ pos) l d s h = absurd (omega arith)
 turned_next-even (e ∷ es) b (suc n) [] t ts zs (x ∷ pos) l d s h =
     ap₂ (λ y ys. y ∷ finer pos (ys ++ zs)) (omega (arith, mirrored_even (e + b) t h, mirrored_even (e + b) (t + 1) h))
-        (turned_complement 1 es es (b + t) (b + (t + 1)) n ts (Pairs-same _ (λ y. omega arith) es) refl (omega arith) d.1)
+    (turned_complement 1 es es (b + t) (b + (t + 1)) n ts (Pairs-same _ (λ y. omega arith) es) refl (omega arith) d.1)
 turned_next-even (e ∷ es) b (suc n) (u ∷ us) t ts zs (x ∷ pos) l d s h =
     ap (λ ys. (3 * x + mirrored (e + b) u) ∷ ys) (turned_next-even es (b + u) n us t ts zs pos (omega arith) d.1 s h)
 
@@ -224,6 +230,6 @@ turned_next-odd [] b (suc n) us t ts zs (x ∷ pos) l d s h = absurd (omega arit
 turned_next-odd (e ∷ es) b zero us t ts zs (x ∷ pos) l d s h = absurd (omega arith)
 turned_next-odd (e ∷ es) b (suc n) [] t ts zs (x ∷ pos) l d s h =
     ap₂ (λ y ys. y ∷ finer pos (ys ++ zs)) (omega (arith, mirrored_odd (e + b) t h, mirrored_odd (e + b) (t + 1) h))
-        (sym (turned_complement 1 es es (b + t) (b + (t + 1)) n ts (Pairs-same _ (λ y. omega arith) es) refl (omega arith) d.1))
+    (sym (turned_complement 1 es es (b + t) (b + (t + 1)) n ts (Pairs-same _ (λ y. omega arith) es) refl (omega arith) d.1))
 turned_next-odd (e ∷ es) b (suc n) (u ∷ us) t ts zs (x ∷ pos) l d s h =
     ap (λ ys. (3 * x + mirrored (e + b) u) ∷ ys) (turned_next-odd es (b + u) n us t ts zs pos (omega arith) d.1 s h)

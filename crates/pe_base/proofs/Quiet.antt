@@ -69,7 +69,7 @@ pub across_child : (axes : ℕ) (way : Way) (face : Face) (cell : Place) (ts : L
     → thirds (across face (child_of axes way cell ts)).pos ≡ (across face cell).pos
 across_child axes way face cell ts four a b l d at =
     thirds-across face.axis face.side cell.pos (child_ks axes way cell ts ++ replicate (4 - axes) 0) b (l ∙ sym (length-child_digits axes way cell ts four d)) (child_digits-below axes way cell ts d)
-        (index face.axis axes (child_ks axes way cell ts) a (child_ks-below axes way cell ts d) ∙ when_same _ _ at)
+    (index face.axis axes (child_ks axes way cell ts) a (child_ks-below axes way cell ts d) ∙ when_same _ _ at)
   where
     index : (axis n : ℕ) (ks : List ℕ) → axis < n → Digits3 n ks → slice_index (ks ++ replicate (4 - axes) 0) axis ≡ slice_index ks axis
     index axis zero ks a d = absurd (omega arith)
@@ -82,16 +82,16 @@ pub later_child : (axes : ℕ) (way walk : Way) (face : Face) (level : ℕ) (cel
 later_child axes way walk face level cell ts four a b l d at h =
     let child = child_of axes walk cell ts in
     less_below (rank_of axes way level cell) (rank_of axes way level (across face cell)) (3 ^ axes) (rank_of axes way (suc level) child) (rank_of axes way (suc level) (across face child)) h
-        (subst (λ p. rank_of axes way (suc level) child < (rank axes way level p + 1) * 3 ^ axes) (thirds-child axes walk cell ts four l d) (rank-parent axes way level child.pos).1)
-        (subst (λ p. rank axes way level p * 3 ^ axes ≤ rank_of axes way (suc level) (across face child)) (across_child axes walk face cell ts four a b l d at) (rank-parent axes way level (across face child).pos).0)
+    (subst (λ p. rank_of axes way (suc level) child < (rank axes way level p + 1) * 3 ^ axes) (thirds-child axes walk cell ts four l d) (rank-parent axes way level child.pos).1)
+    (subst (λ p. rank axes way level p * 3 ^ axes ≤ rank_of axes way (suc level) (across face child)) (across_child axes walk face cell ts four a b l d at) (rank-parent axes way level (across face child).pos).0)
 
 pub earlier_child : (axes : ℕ) (way walk : Way) (face : Face) (level : ℕ) (cell : Place) (ts : List ℕ) → axes ≤ 4 → face.axis < axes → face.side < 2 → length cell.pos ≡ 4 → Digits3 axes ts → is_child_at axes walk cell face ts ≡ true
     → Earlier axes way face level cell → Earlier axes way face (suc level) (child_of axes walk cell ts)
 earlier_child axes way walk face level cell ts four a b l d at h =
     let child = child_of axes walk cell ts in
     less_below (rank_of axes way level (across face cell)) (rank_of axes way level cell) (3 ^ axes) (rank_of axes way (suc level) (across face child)) (rank_of axes way (suc level) child) h
-        (subst (λ p. rank_of axes way (suc level) (across face child) < (rank axes way level p + 1) * 3 ^ axes) (across_child axes walk face cell ts four a b l d at) (rank-parent axes way level (across face child).pos).1)
-        (subst (λ p. rank axes way level p * 3 ^ axes ≤ rank_of axes way (suc level) child) (thirds-child axes walk cell ts four l d) (rank-parent axes way level child.pos).0)
+    (subst (λ p. rank_of axes way (suc level) (across face child) < (rank axes way level p + 1) * 3 ^ axes) (across_child axes walk face cell ts four a b l d at) (rank-parent axes way level (across face child).pos).1)
+    (subst (λ p. rank axes way level p * 3 ^ axes ≤ rank_of axes way (suc level) child) (thirds-child axes walk cell ts four l d) (rank-parent axes way level child.pos).0)
 
 pub still_child : (axes : ℕ) (walk : Way) (face : Face) (cell : Place) (ts : List ℕ) → face.axis < axes → length cell.pos ≡ 4 → axes ≤ 4 → Digits3 axes ts → is_child_at axes walk cell face ts ≡ true
     → Still face cell → Still face (child_of axes walk cell ts)
@@ -118,15 +118,16 @@ at_face_none axes walk test face Quiet fails passes four a b finest levels level
         let found = map (moved cell.pos) (filter (λ bs. slice_index bs face.axis == face.side) (bit_lists axes)) in
         own_corners axes test finest face.axis face.side cell four a (omega arith)
         ∙ ap reverse (filter_none (λ v. test (record { vertex = v; cell = cell })) (map place found)
-            (Each-map _ place found (Each-all _ (λ pos. fails level cell (place pos) on q) found)))
+        (Each-map _ place found (Each-all _ (λ pos. fails level cell (place pos) on q) found)))
+
     go : (levels level : ℕ) (cell : Place) → cell.level ≡ level → length cell.pos ≡ 4 → finest ≡ cell.level + levels → Quiet level cell → at_face test finest face cell (loads axes walk levels cell) ≡ []
     go zero level cell on l is q = own level cell on l q
     go (suc levels) level cell on l is q =
         at_face_parts axes walk test face.axis face.side finest levels cell four a b (omega arith) is
         ∙ ap₂ (λ r s. r ++ s) (own level cell on l q)
-            (flat_map_none _ (filter (is_child_at axes walk cell face) (digit_lists axes))
-                (Each-weaker _ _ (λ ts d. go levels (suc level) (child_of axes walk cell ts) (omega arith) (child_four axes walk cell ts four l d.0) (omega arith) (passes level cell ts l d.0 d.1 q))
-                    (filter (is_child_at axes walk cell face) (digit_lists axes)) (Each-filter (Digits3 axes) (is_child_at axes walk cell face) (digit_lists axes) (digit_lists_below axes))))
+        (flat_map_none _ (filter (is_child_at axes walk cell face) (digit_lists axes))
+        (Each-weaker _ _ (λ ts d. go levels (suc level) (child_of axes walk cell ts) (omega arith) (child_four axes walk cell ts four l d.0) (omega arith) (passes level cell ts l d.0 d.1 q))
+        (filter (is_child_at axes walk cell face) (digit_lists axes)) (Each-filter (Digits3 axes) (is_child_at axes walk cell face) (digit_lists axes) (digit_lists_below axes))))
 
 pub false_unless : (b : Bool) → (b ≡ true → 1 ≤ 0) → b ≡ false
 false_unless true h = absurd (omega (arith, h refl))
@@ -137,15 +138,17 @@ pub arriving_none : (axes : ℕ) (way : Way) (counts : Place → Bool) (levels l
     → (Later axes way face level cell) ⊎ (Still face cell) → arriving axes way counts levels face cell ≡ []
 arriving_none axes way counts levels level face cell four a b on l q =
     at_face_none axes way (comes_across axes way counts face) face (λ level cell. (Later axes way face level cell) ⊎ (Still face cell))
-        (λ level c v on q. false_unless _ (λ t.
-            let s = subst (λ n. rank_of axes way n (across face c) < rank_of axes way n c) on (is_step-rises axes way v (across face c) c four (and_right (counts v) _ t)) in
-            elim q [
-                inl later ↦ omega (arith, s, later)
-              | inr still ↦ omega (arith, subst (λ p. rank axes way level p < rank_of axes way level c) (still_same face.axis face.side c.pos still.0 still.1) s) ]))
-        (λ level c ts l d at q. elim q [
-            inl later ↦ inl (later_child axes way way face level c ts four a b l d at later)
-          | inr still ↦ inr (still_child axes way face c ts a l four d at still) ])
-        four a b (cell.level + levels) levels level cell on l refl q
+    (λ level c v on q. false_unless _ (λ t.
+    let s = subst (λ n. rank_of axes way n (across face c) < rank_of axes way n c) on (is_step-rises axes way v (across face c) c four (and_right (counts v) _ t)) in
+    elim q [
+      | inl later ↦ omega (arith, s, later)
+      | inr still ↦ omega (arith, subst (λ p. rank axes way level p < rank_of axes way level c) (still_same face.axis face.side c.pos still.0 still.1) s)
+    ]))
+    (λ level c ts l d at q. elim q [
+      | inl later ↦ inl (later_child axes way way face level c ts four a b l d at later)
+      | inr still ↦ inr (still_child axes way face c ts a l four d at still)
+    ])
+    four a b (cell.level + levels) levels level cell on l refl q
 
 -- nothing is left at a face to an earlier cell, nor at the near side of the root
 pub leaving_none : (axes : ℕ) (way : Way) (counts : Place → Bool) (levels level : ℕ) (face : Face) (cell : Place) → axes ≤ 4 → face.axis < axes → face.side < 2 → cell.level ≡ level → length cell.pos ≡ 4
@@ -153,15 +156,17 @@ pub leaving_none : (axes : ℕ) (way : Way) (counts : Place → Bool) (levels le
 leaving_none axes way counts levels level face cell four a b on l q =
     leaving_is axes way counts levels face cell
     ∙ at_face_none axes (opposite way) (goes_across axes way counts face) face (λ level cell. (Earlier axes way face level cell) ⊎ (Still face cell))
-        (λ level c v on q. false_unless _ (λ t.
-            let s = subst (λ n. rank_of axes way n c < rank_of axes way n (across face c)) on (is_step-rises axes way v c (across face c) four (and_right (counts v) _ t)) in
-            elim q [
-                inl earlier ↦ omega (arith, s, earlier)
-              | inr still ↦ omega (arith, subst (λ p. rank_of axes way level c < rank axes way level p) (still_same face.axis face.side c.pos still.0 still.1) s) ]))
-        (λ level c ts l d at q. elim q [
-            inl earlier ↦ inl (earlier_child axes way (opposite way) face level c ts four a b l d at earlier)
-          | inr still ↦ inr (still_child axes (opposite way) face c ts a l four d at still) ])
-        four a b (cell.level + levels) levels level cell on l refl q
+    (λ level c v on q. false_unless _ (λ t.
+    let s = subst (λ n. rank_of axes way n c < rank_of axes way n (across face c)) on (is_step-rises axes way v c (across face c) four (and_right (counts v) _ t)) in
+    elim q [
+      | inl earlier ↦ omega (arith, s, earlier)
+      | inr still ↦ omega (arith, subst (λ p. rank_of axes way level c < rank axes way level p) (still_same face.axis face.side c.pos still.0 still.1) s)
+    ]))
+    (λ level c ts l d at q. elim q [
+      | inl earlier ↦ inl (earlier_child axes way (opposite way) face level c ts four a b l d at earlier)
+      | inr still ↦ inr (still_child axes (opposite way) face c ts a l four d at still)
+    ])
+    four a b (cell.level + levels) levels level cell on l refl q
 
 -- ranks and the sums of positions have the same parity, so neighbours have different ranks
 odd_power : (n : ℕ) → (m : ℕ) × (3 ^ n ≡ 2 * m + 1)
@@ -203,8 +208,8 @@ rank-parity axes way (suc level) pos l =
     let p = odd_power axes in
     let lr : axes ≤ length (rests pos) = omega (arith, length-of_map (λ x. x % 3) pos) in
     let s : (sum_of (turned es 0 (rests pos)) + sum_of (take axes (rests pos))) % 2 ≡ 0 =
-        subst (λ r. (sum_of (turned es 0 r) + sum_of (take axes (rests pos))) % 2 ≡ 0) (take-append-drop axes (rests pos))
-            (sum-turned es 0 axes (take axes (rests pos)) (drop axes (rests pos)) (length-flips axes way (thirds pos)) (digits-take axes (rests pos) lr (rests-each pos))) in
+    subst (λ r. (sum_of (turned es 0 r) + sum_of (take axes (rests pos))) % 2 ≡ 0) (take-append-drop axes (rests pos))
+    (sum-turned es 0 axes (take axes (rests pos)) (drop axes (rests pos)) (length-flips axes way (thirds pos)) (digits-take axes (rests pos) lr (rests-each pos))) in
     let v = value-parity axes (turned es 0 (rests pos)) (omega (arith, length-turned es 0 (rests pos), length-flips axes way (thirds pos))) in
     let r = rank-parity axes way level (thirds pos) (omega (arith, length-of_map (λ x. x / 3) pos)) in
     omega (arith, odd_times (rank axes way level (thirds pos)) (3 ^ axes) p.0 p.1, s, v, r, sum-thirds axes pos)
@@ -230,11 +235,13 @@ later_or_earlier axes way face level cell a l b = go face.side (slice_index cell
         let d : rank axes way level cell.pos ≢ rank axes way level n = omega (arith, one, two, s, odd) in
         let e : rank axes way level n ≡ rank_of axes way level (across face cell) = ap (λ z. rank axes way level (set cell.pos face.axis z)) is in
         elim (cases (rank axes way level cell.pos) (rank axes way level n) d) [
-            inl h ↦ inl (omega (arith, e, h))
-          | inr h ↦ inr (inl (omega (arith, e, h))) ]
+          | inl h ↦ inl (omega (arith, e, h))
+          | inr h ↦ inr (inl (omega (arith, e, h)))
+        ]
       where
         cases : (p q : ℕ) → p ≢ q → (p < q) ⊎ (q < p)
         cases p q d = grind arith
+
     go : (s x : ℕ) → face.side ≡ s → slice_index cell.pos face.axis ≡ x → s < 2 → (Later axes way face level cell) ⊎ ((Earlier axes way face level cell) ⊎ (Still face cell))
     go zero zero e f h = inr (inr (e, f))
     go zero (suc x) e f h = let k : x ≡ suc x - 1 = omega arith in apart x (k ∙ sym (ap₂ beside e f)) (omega arith)

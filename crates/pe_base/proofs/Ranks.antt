@@ -67,19 +67,19 @@ pub Rising-flat_map : {X Y : Type 0} (r : X → ℕ) (q : Y → ℕ) (f : X → 
 Rising-flat_map r q f w low high [] e s = mul-le-mul_right w s
 Rising-flat_map r q f w low high (x ∷ xs) e s =
     Rising-lower q (r x * w) (low * w) (high * w) (f x ++ flat_map f xs) (mul-le-mul_right w s.0)
-        (Rising-append q (r x * w) ((r x + 1) * w) (high * w) (f x) (flat_map f xs) e.0
-            (subst (λ n. Rising q (n * w) (flat_map f xs) (high * w)) (let k : suc (r x) ≡ r x + 1 = omega arith in k) (Rising-flat_map r q f w (suc (r x)) high xs e.1 s.1)))
+    (Rising-append q (r x * w) ((r x + 1) * w) (high * w) (f x) (flat_map f xs) e.0
+    (subst (λ n. Rising q (n * w) (flat_map f xs) (high * w)) (let k : suc (r x) ≡ r x + 1 = omega arith in k) (Rising-flat_map r q f w (suc (r x)) high xs e.1 s.1)))
 
 -- the digit lists rise by their values
 pub digit_lists_rise : (n : ℕ) → Rising (value n) 0 (digit_lists n) (3 ^ n)
 digit_lists_rise zero = (omega arith, omega arith)
 digit_lists_rise (suc n) =
     let one = λ (t : ℕ). Rising-map (value (suc n)) (λ ts. t ∷ ts) (t * 3 ^ n + 0) (t * 3 ^ n + 3 ^ n) (digit_lists n)
-        (Rising-moved (value n) (λ ts. value (suc n) (t ∷ ts)) (t * 3 ^ n) 0 (3 ^ n) (digit_lists n) (Each-all _ (λ ts. refl) (digit_lists n)) (digit_lists_rise n)) in
+    (Rising-moved (value n) (λ ts. value (suc n) (t ∷ ts)) (t * 3 ^ n) 0 (3 ^ n) (digit_lists n) (Each-all _ (λ ts. refl) (digit_lists n)) (digit_lists_rise n)) in
     let block = λ (t : ℕ). map (λ ts. t ∷ ts) (digit_lists n) in
     Rising-append (value (suc n)) 0 (3 ^ n) (3 ^ suc n) (block 0) (block 1 ++ (block 2 ++ [])) (subst₂' (omega arith) (omega arith) (block 0) (one 0))
-        (Rising-append (value (suc n)) (3 ^ n) (2 * 3 ^ n) (3 ^ suc n) (block 1) (block 2 ++ []) (subst₂' (omega arith) (omega arith) (block 1) (one 1))
-            (Rising-append (value (suc n)) (2 * 3 ^ n) (3 * 3 ^ n) (3 ^ suc n) (block 2) [] (subst₂' (omega arith) (omega arith) (block 2) (one 2)) (omega (arith, pow-suc 3 n))))
+    (Rising-append (value (suc n)) (3 ^ n) (2 * 3 ^ n) (3 ^ suc n) (block 1) (block 2 ++ []) (subst₂' (omega arith) (omega arith) (block 1) (one 1))
+    (Rising-append (value (suc n)) (2 * 3 ^ n) (3 * 3 ^ n) (3 ^ suc n) (block 2) [] (subst₂' (omega arith) (omega arith) (block 2) (one 2)) (omega (arith, pow-suc 3 n))))
   where
     subst₂' : {a b c d : ℕ} → a ≡ c → b ≡ d → (xs : List (List ℕ)) → Rising (value (suc n)) a xs b → Rising (value (suc n)) c xs d
     subst₂' {a} {b} {c} {d} e f xs s = subst (λ y. Rising (value (suc n)) c xs y) f (subst (λ y. Rising (value (suc n)) y xs b) e s)
@@ -129,10 +129,10 @@ pub rank-child : (axes : ℕ) (way : Way) (level : ℕ) (cell : Place) (ts : Lis
     → rank axes way (suc level) (child_pos axes way cell.pos ts) ≡ rank axes way level cell.pos * 3 ^ axes + value axes ts
 rank-child axes way level cell ts four l d =
     ap₂ (λ p ks. rank axes way level p * 3 ^ axes + value axes (turned (flips_in axes way p) 0 ks))
-        (thirds-child axes way cell ts four l d)
-        (rests-finer cell.pos _ (l ∙ sym (length-child_digits axes way cell ts four d)) (child_digits-below axes way cell ts d))
+    (thirds-child axes way cell ts four l d)
+    (rests-finer cell.pos _ (l ∙ sym (length-child_digits axes way cell ts four d)) (child_digits-below axes way cell ts d))
     ∙ ap (λ vs. rank axes way level cell.pos * 3 ^ axes + value axes vs)
-        (turned_twice (flips_in axes way cell.pos) 0 0 axes ts (replicate (4 - axes) 0) (length-flips axes way cell.pos) refl d)
+    (turned_twice (flips_in axes way cell.pos) 0 0 axes ts (replicate (4 - axes) 0) (length-flips axes way cell.pos) refl d)
 
 -- the cells of a level: their level, and four positions
 abbrev pub OnLevel : ℕ → Place → Type 0
@@ -141,7 +141,7 @@ OnLevel level cell = (cell.level ≡ level) × (length cell.pos ≡ 4)
 pub children_on_level : (axes : ℕ) (way : Way) (level : ℕ) (cell : Place) → axes ≤ 4 → OnLevel level cell → Each (OnLevel (suc level)) (children axes way cell)
 children_on_level axes way level cell four on = subst (Each (OnLevel (suc level))) (sym (children_are axes way cell))
     (Each-map (OnLevel (suc level)) (child_of axes way cell) (digit_lists axes) (Each-weaker (Digits3 axes) _
-        (λ ts d. (omega (arith, on.0), child_four axes way cell ts four on.1 d)) (digit_lists axes) (digit_lists_below axes)))
+    (λ ts d. (omega (arith, on.0), child_four axes way cell ts four on.1 d)) (digit_lists axes) (digit_lists_below axes)))
 
 pub order_on_level : (axes : ℕ) (way : Way) (level : ℕ) → axes ≤ 4 → Each (OnLevel level) (order axes way level)
 order_on_level axes way zero four = ((refl, refl), tt)
@@ -156,11 +156,11 @@ pub children_rise : (axes : ℕ) (way : Way) (level : ℕ) (cell : Place) → ax
 children_rise axes way level cell four l =
     let r = rank_of axes way level cell in
     subst (λ cs. Rising (rank_of axes way (suc level)) (r * 3 ^ axes) cs ((r + 1) * 3 ^ axes)) (sym (children_are axes way cell))
-        (Rising-map (rank_of axes way (suc level)) (child_of axes way cell) (r * 3 ^ axes) ((r + 1) * 3 ^ axes) (digit_lists axes)
-            (subst (λ n. Rising (λ ts. rank_of axes way (suc level) (child_of axes way cell ts)) n (digit_lists axes) ((r + 1) * 3 ^ axes)) (let k : r * 3 ^ axes + 0 ≡ r * 3 ^ axes = omega arith in k)
-                (subst (λ n. Rising (λ ts. rank_of axes way (suc level) (child_of axes way cell ts)) (r * 3 ^ axes + 0) (digit_lists axes) n) (let k : r * 3 ^ axes + 3 ^ axes ≡ (r + 1) * 3 ^ axes = omega arith in k)
-                    (Rising-moved (value axes) _ (r * 3 ^ axes) 0 (3 ^ axes) (digit_lists axes)
-                        (Each-weaker (Digits3 axes) _ (λ ts d. rank-child axes way level cell ts four l d) (digit_lists axes) (digit_lists_below axes)) (digit_lists_rise axes)))))
+    (Rising-map (rank_of axes way (suc level)) (child_of axes way cell) (r * 3 ^ axes) ((r + 1) * 3 ^ axes) (digit_lists axes)
+    (subst (λ n. Rising (λ ts. rank_of axes way (suc level) (child_of axes way cell ts)) n (digit_lists axes) ((r + 1) * 3 ^ axes)) (let k : r * 3 ^ axes + 0 ≡ r * 3 ^ axes = omega arith in k)
+    (subst (λ n. Rising (λ ts. rank_of axes way (suc level) (child_of axes way cell ts)) (r * 3 ^ axes + 0) (digit_lists axes) n) (let k : r * 3 ^ axes + 3 ^ axes ≡ (r + 1) * 3 ^ axes = omega arith in k)
+    (Rising-moved (value axes) _ (r * 3 ^ axes) 0 (3 ^ axes) (digit_lists axes)
+    (Each-weaker (Digits3 axes) _ (λ ts d. rank-child axes way level cell ts four l d) (digit_lists axes) (digit_lists_below axes)) (digit_lists_rise axes)))))
 
 abbrev pub top : ℕ → ℕ → ℕ
 top axes zero = 1
@@ -179,8 +179,8 @@ order_rises axes way zero four = (omega arith, subst (λ n. suc n ≤ 1) (sym (r
     root_first (suc (suc (suc (suc (suc n))))) h = absurd (omega arith)
 order_rises axes way (suc level) four =
     Rising-lower (rank_of axes way (suc level)) (0 * 3 ^ axes) 0 (top axes (suc level)) (order axes way (suc level)) (omega arith)
-      (Rising-flat_map (rank_of axes way level) (rank_of axes way (suc level)) (children axes way) (3 ^ axes) 0 (top axes level) (order axes way level)
-        (Each-weaker (OnLevel level) _ (λ c on. children_rise axes way level c four on.1) (order axes way level) (order_on_level axes way level four)) (order_rises axes way level four))
+    (Rising-flat_map (rank_of axes way level) (rank_of axes way (suc level)) (children axes way) (3 ^ axes) 0 (top axes level) (order axes way level)
+    (Each-weaker (OnLevel level) _ (λ c on. children_rise axes way level c four on.1) (order axes way level) (order_on_level axes way level four)) (order_rises axes way level four))
 
 -- in a rising list, each step goes up
 pub steps_rise : {X : Type 0} (r : X → ℕ) (low high : ℕ) (xs : List X) → Rising r low xs high → Each (λ s. r s.0 < r s.1) (steps xs)
@@ -209,10 +209,11 @@ pub steps_close : {X : Type 0} (r : X → ℕ) (low high : ℕ) (xs : List X) �
 steps_close r low high [] s = tt
 steps_close r low high (x ∷ []) s = tt
 steps_close r low high (x ∷ y ∷ xs) s =
-    let up = Rising-above r (suc (r x)) high (y ∷ xs) s.1 in
-    ((inl (omega arith), (inr (omega arith), Each-weaker (λ z. suc (r y) ≤ r z) _ (λ z h. inr (omega arith)) xs (Rising-above r (suc (r y)) high xs s.1.1))),
-     Each-both (IsClose r (y ∷ xs)) (λ s. (suc (r x) ≤ r s.0) × (suc (r x) ≤ r s.1)) (IsClose r (x ∷ y ∷ xs)) (λ t c h. (inl (omega (arith, h.0)), c)) (steps (y ∷ xs))
-        (steps_close r (suc (r x)) high (y ∷ xs) s.1) (steps_within (λ z. suc (r x) ≤ r z) (y ∷ xs) up))
+    let up = Rising-above r (suc (r x)) high (y ∷ xs) s.1 in (
+      (inl (omega arith), (inr (omega arith), Each-weaker (λ z. suc (r y) ≤ r z) _ (λ z h. inr (omega arith)) xs (Rising-above r (suc (r y)) high xs s.1.1))),
+      Each-both (IsClose r (y ∷ xs)) (λ s. (suc (r x) ≤ r s.0) × (suc (r x) ≤ r s.1)) (IsClose r (x ∷ y ∷ xs)) (λ t c h. (inl (omega (arith, h.0)), c)) (steps (y ∷ xs))
+          (steps_close r (suc (r x)) high (y ∷ xs) s.1) (steps_within (λ z. suc (r x) ≤ r z) (y ∷ xs) up),
+    )
 
 -- tests on places
 pub and_left : (a b : Bool) → (a && b) ≡ true → a ≡ true
@@ -245,8 +246,9 @@ or_cases false b h = inr h
 pub list_any-Each : {X : Type 0} (p : X → Bool) (P : X → Type 0) (C : Type 0) → ((x : X) → p x ≡ true → P x → C) → (xs : List X) → list_any p xs ≡ true → Each P xs → C
 list_any-Each p P C h [] t e = absurd (true≢false (sym t))
 list_any-Each p P C h (x ∷ xs) t e = elim (or_cases (p x) (list_any p xs) t) [
-    inl y ↦ h x y e.0
-  | inr y ↦ list_any-Each p P C h xs y e.1 ]
+  | inl y ↦ h x y e.0
+  | inr y ↦ list_any-Each p P C h xs y e.1
+]
 
 pub around_rises : (axes : ℕ) (way : Way) (vertex : Place) → axes ≤ 4 → Rising (rank_of axes way vertex.level) 0 (around axes way vertex) (top axes vertex.level)
 around_rises axes way vertex four = Rising-filter (rank_of axes way vertex.level) (is_corner vertex) 0 (top axes vertex.level) (order axes way vertex.level) (order_rises axes way vertex.level four)
@@ -256,6 +258,6 @@ pub is_step-rises : (axes : ℕ) (way : Way) (vertex a b : Place) → axes ≤ 4
 is_step-rises axes way vertex a b four h =
     let r = rank_of axes way vertex.level in
     list_any-Each _ (λ s. r s.0 < r s.1) (r a < r b)
-        (λ s t up. subst (λ p. rank axes way vertex.level p < r b) (is_same-true s.0 a (and_left (is_same s.0 a) (is_same s.1 b) t)).1
-            (subst (λ p. r s.0 < rank axes way vertex.level p) (is_same-true s.1 b (and_right (is_same s.0 a) (is_same s.1 b) t)).1 up))
-        (steps (around axes way vertex)) h (steps_rise r 0 (top axes vertex.level) (around axes way vertex) (around_rises axes way vertex four))
+    (λ s t up. subst (λ p. rank axes way vertex.level p < r b) (is_same-true s.0 a (and_left (is_same s.0 a) (is_same s.1 b) t)).1
+    (subst (λ p. r s.0 < rank axes way vertex.level p) (is_same-true s.1 b (and_right (is_same s.0 a) (is_same s.1 b) t)).1 up))
+    (steps (around axes way vertex)) h (steps_rise r 0 (top axes vertex.level) (around axes way vertex) (around_rises axes way vertex four))

@@ -130,9 +130,10 @@ TurnsApart (turn ∷ turns) before after =
 -- puts on what it leaves.
 abbrev pub child_turn : ℕ → Way → (Place → Bool) → ℕ → ℕ → ℕ → Place → Turn
 child_turn axes way counts levels axis parity child = record {
-    takes = arriving axes way counts levels (face_on axis parity child) child;
-    gives = leaving axes way counts levels (face_on axis parity child) child;
-    touches = is_touched axes way levels child }
+  takes = arriving axes way counts levels (face_on axis parity child) child;
+  gives = leaving axes way counts levels (face_on axis parity child) child;
+  touches = is_touched axes way levels child;
+}
 
 abbrev pub child_turns : ℕ → Way → (Place → Bool) → ℕ → ℕ → ℕ → Place → List Turn
 child_turns axes way counts zero axis parity cell = []
