@@ -10,3 +10,4 @@ pub mod Waits
 pub mod Meetings
 pub mod Composition
 pub mod Counts
+pub mod Crossing

@@ -1,0 +1,158 @@
+-- Two cells that follow each other around a vertex share a face.
+use Rattle.std.proofs.Common.{◌≡◌, ℕ, zero, suc, ◌+◌, ◌-◌, ◌*◌, ◌/◌, ◌%◌, ◌^◌, ◌<◌, ◌≤◌, ◌⊎◌, Bool, true, false, cond, ◌&&◌, ◌||◌, ◌==◌, nat_le, List, [], ◌∷◌, ◌++◌, map, filter, reverse, length, get_or, set, replicate, slice_index, refl, sym, ap, ap₂, ◌∙◌, subst, subst₂, true≢false, inl, inr, pow-suc, append_assoc, append-nil, length-set, mul-le-mul_right, arith}
+use Rattle.std.specs.List.{flat_map, range_with_len}
+use Rattle.std.proofs.lemmas.List.{map-append, reverse-append, reverse-reverse}
+use Rattle.std.proofs.lemmas.List.Elements.{filter-append}
+use Rattle.std.proofs.lemmas.Bool.Decides.{nat_tests}
+use Rattle.pe_base.specs.declared.place.Place.{Place}
+use Rattle.pe_base.specs.declared.way.Way.{Way}
+use Rattle.pe_base.specs.Places.{root, finer}
+use Rattle.pe_base.specs.Curve.{digit_lists, mirrored, turned, children, order}
+use Rattle.pe_base.specs.Around.{is_corner_pos, is_corner, around, steps}
+use Rattle.pe_base.specs.Faces.{is_same, is_step, loads, touched_for}
+use Rattle.pe_base.proofs.Lists.{Each, Each-all, Each-weaker, Each-map, Each-filter, map-map, map_same, flat_map_same, flat_map-map, flat_map-filter, map-flat_map, filter-flat_map, filter-map, filter_same, filter_none, map-reverse, filter-reverse, reverse-cons, reverse-flat_map}
+use Rattle.pe_base.proofs.Mirrors.{Digits3, complement, digit_lists_below, reverse-digit_lists, mirrored_even, mirrored_odd, even_or_odd, Pairs, Pairs-same, turned_complement, up}
+
+-- each item and the next are related
+abbrev pub Chain : {X : Type 0} → (X → X → Type 0) → List X → Type 0
+Chain R [] = Unit {0}
+Chain R (x ∷ []) = Unit {0}
+Chain R (x ∷ y ∷ ys) = R x y × Chain R (y ∷ ys)
+
+chain_tail : {X : Type 0} (R : X → X → Type 0) (x : X) (xs : List X) → Chain R (x ∷ xs) → Chain R xs
+chain_tail R x [] c = tt
+chain_tail R x (y ∷ ys) c = c.1
+
+chain_join : {X : Type 0} (R : X → X → Type 0) (zs : List X) (x : X) (ys : List X) → Chain R (zs ++ x ∷ []) → Chain R (x ∷ ys) → Chain R (zs ++ x ∷ ys)
+chain_join R [] x ys c d = d
+chain_join R (z ∷ []) x ys c d = (c.0, d)
+chain_join R (z ∷ w ∷ zs) x ys c d = (c.0, chain_join R (w ∷ zs) x ys c.1 d)
+
+chain_map : {X Y : Type 0} (R : X → X → Type 0) (S : Y → Y → Type 0) (f : X → Y) → ((x y : X) → R x y → S (f x) (f y)) → (xs : List X) → Chain R xs → Chain S (map f xs)
+chain_map R S f h [] c = tt
+chain_map R S f h (x ∷ []) c = tt
+chain_map R S f h (x ∷ y ∷ ys) c = (h x y c.0, chain_map R S f h (y ∷ ys) c.1)
+
+chain_unmap : {X Y : Type 0} (R : X → X → Type 0) (S : Y → Y → Type 0) (f : X → Y) → ((x y : X) → S (f x) (f y) → R x y) → (xs : List X) → Chain S (map f xs) → Chain R xs
+chain_unmap R S f h [] c = tt
+chain_unmap R S f h (x ∷ []) c = tt
+chain_unmap R S f h (x ∷ y ∷ ys) c = (h x y c.0, chain_unmap R S f h (y ∷ ys) c.1)
+
+chain_with : {X : Type 0} (R S : X → X → Type 0) (P : X → Type 0) → ((x y : X) → P x → P y → R x y → S x y) → (xs : List X) → Each P xs → Chain R xs → Chain S xs
+chain_with R S P h [] e c = tt
+chain_with R S P h (x ∷ []) e c = tt
+chain_with R S P h (x ∷ y ∷ ys) e c = (h x y e.0 e.1.0 c.0, chain_with R S P h (y ∷ ys) e.1 c.1)
+
+-- a list and its reverse, with the two items between them related
+chain_mirror : {X : Type 0} (R : X → X → Type 0) (f g : X → X) (ms : List X) → ((x : X) → R (f x) (g x)) → Chain R (map f (reverse ms)) → Chain R (map g ms) → Chain R (map f (reverse ms) ++ map g ms)
+chain_mirror R f g [] h c d = tt
+chain_mirror R f g (m ∷ ms) h c d =
+    let ends : map f (reverse (m ∷ ms)) ≡ map f (reverse ms) ++ f m ∷ [] = ap (map f) (reverse-cons m ms) ∙ map-append f (reverse ms) (m ∷ []) in
+    subst (Chain R) (sym (append_assoc (map f (reverse ms)) (f m ∷ []) (g m ∷ map g ms)) ∙ ap (λ z. z ++ (g m ∷ map g ms)) (sym ends))
+        (chain_join R (map f (reverse ms)) (f m) (g m ∷ map g ms) (subst (Chain R) ends c) (h m, d))
+
+-- two positions that differ by one on one axis
+abbrev pub Adjacent : ℕ → List ℕ → List ℕ → Type 0
+Adjacent n xs ys = (axis : ℕ) × (axis < n) × ((ys ≡ up axis xs) ⊎ (xs ≡ up axis ys))
+
+adjacent_behind : (n k : ℕ) (xs ys : List ℕ) → Adjacent n xs ys → Adjacent (suc n) (k ∷ xs) (k ∷ ys)
+adjacent_behind n k xs ys a = (suc a.0, omega (arith, a.1), elim a.2 [ inl e ↦ inl (ap (λ z. k ∷ z) e) | inr e ↦ inr (ap (λ z. k ∷ z) e) ])
+
+-- tests of the digits of a child, one for each axis
+abbrev Tests : Type 0
+Tests = List (ℕ → Bool)
+
+abbrev picked : Tests → List ℕ → Bool
+picked [] ks = true
+picked (g ∷ gs) [] = false
+picked (g ∷ gs) (k ∷ ks) = g k && picked gs ks
+
+-- a test that one digit passes, or two that follow each other
+abbrev pub Narrow : (ℕ → Bool) → Type 0
+Narrow g = ((g 0 ≡ true) × (g 1 ≡ false) × (g 2 ≡ false)) ⊎ (((g 0 ≡ false) × (g 1 ≡ true) × (g 2 ≡ false)) ⊎ (((g 0 ≡ false) × (g 1 ≡ false) × (g 2 ≡ true))
+    ⊎ (((g 0 ≡ true) × (g 1 ≡ true) × (g 2 ≡ false)) ⊎ ((g 0 ≡ false) × (g 1 ≡ true) × (g 2 ≡ true)))))
+
+-- the digits of the children that pass, in the order of the curve
+abbrev passing : ℕ → Tests → List ℕ → ℕ → List (List ℕ)
+passing n gs es b = filter (picked gs) (map (turned es b) (digit_lists n))
+
+passing_back : (n : ℕ) (gs : Tests) (es : List ℕ) (b c : ℕ) → (b + c) % 2 ≡ 1 → passing n gs es c ≡ reverse (passing n gs es b)
+passing_back n gs es b c h =
+    ap (filter (picked gs)) (map_same (turned es c) (λ ts. turned es b (complement ts)) (digit_lists n) (Each-weaker (Digits3 n) _
+            (λ ts d. turned_complement 1 es es c b n ts (Pairs-same _ (λ e. omega arith) es) refl (omega arith) d) (digit_lists n) (digit_lists_below n))
+        ∙ sym (map-map (turned es b) complement (digit_lists n)) ∙ ap (map (turned es b)) (sym (reverse-digit_lists n)) ∙ map-reverse (turned es b) (digit_lists n))
+    ∙ filter-reverse (picked gs) (map (turned es b) (digit_lists n))
+
+passing_block : (n : ℕ) (g : ℕ → Bool) (gs : Tests) (e : ℕ) (es : List ℕ) (b t : ℕ)
+    → filter (picked (g ∷ gs)) (map (turned (e ∷ es) b) (map (λ ts. t ∷ ts) (digit_lists n))) ≡ cond (g (mirrored (e + b) t)) (map (λ ks. mirrored (e + b) t ∷ ks) (passing n gs es (b + t))) []
+passing_block n g gs e es b t =
+    ap (filter (picked (g ∷ gs))) (map-map (turned (e ∷ es) b) (λ ts. t ∷ ts) (digit_lists n) ∙ sym (map-map (λ ks. mirrored (e + b) t ∷ ks) (turned es (b + t)) (digit_lists n)))
+    ∙ filter-map (picked (g ∷ gs)) (λ ks. mirrored (e + b) t ∷ ks) (map (turned es (b + t)) (digit_lists n)) ∙ go (g (mirrored (e + b) t))
+  where
+    go : (s : Bool) → map (λ ks. mirrored (e + b) t ∷ ks) (filter (λ ks. s && picked gs ks) (map (turned es (b + t)) (digit_lists n))) ≡ cond s (map (λ ks. mirrored (e + b) t ∷ ks) (passing n gs es (b + t))) []
+    go true = refl
+    go false = ap (map (λ ks. mirrored (e + b) t ∷ ks)) (filter_none (λ ks. false) (map (turned es (b + t)) (digit_lists n)) (Each-all _ (λ ks. refl) (map (turned es (b + t)) (digit_lists n))))
+
+passing_three : (n : ℕ) (g : ℕ → Bool) (gs : Tests) (e : ℕ) (es : List ℕ) (b : ℕ) → passing (suc n) (g ∷ gs) (e ∷ es) b
+    ≡ cond (g (mirrored (e + b) 0)) (map (λ ks. mirrored (e + b) 0 ∷ ks) (passing n gs es (b + 0))) []
+      ++ (cond (g (mirrored (e + b) 1)) (map (λ ks. mirrored (e + b) 1 ∷ ks) (passing n gs es (b + 1))) [] ++ cond (g (mirrored (e + b) 2)) (map (λ ks. mirrored (e + b) 2 ∷ ks) (passing n gs es (b + 2))) [])
+passing_three n g gs e es b =
+    let k = λ (t : ℕ). map (λ ts. t ∷ ts) (digit_lists n) in
+    let f = turned (e ∷ es) b in
+    ap (filter (picked (g ∷ gs))) (map-append f (k 0) (k 1 ++ (k 2 ++ [])) ∙ ap (λ z. map f (k 0) ++ z) (map-append f (k 1) (k 2 ++ []) ∙ ap (λ z. map f (k 1) ++ map f z) (append-nil (k 2))))
+    ∙ filter-append (picked (g ∷ gs)) (map f (k 0)) (map f (k 1) ++ map f (k 2))
+    ∙ ap₂ (λ x y. x ++ y) (passing_block n g gs e es b 0) (filter-append (picked (g ∷ gs)) (map f (k 1)) (map f (k 2)) ∙ ap₂ (λ x y. x ++ y) (passing_block n g gs e es b 1) (passing_block n g gs e es b 2))
+
+abbrev NarrowAt : Bool → Bool → Bool → Type 0
+NarrowAt a b c = ((a ≡ true) × (b ≡ false) × (c ≡ false)) ⊎ (((a ≡ false) × (b ≡ true) × (c ≡ false)) ⊎ (((a ≡ false) × (b ≡ false) × (c ≡ true))
+    ⊎ (((a ≡ true) × (b ≡ true) × (c ≡ false)) ⊎ ((a ≡ false) × (b ≡ true) × (c ≡ true)))))
+
+near_heads : (n k j : ℕ) (xs : List ℕ) → (j ≡ k + 1) ⊎ (k ≡ j + 1) → Adjacent (suc n) (k ∷ xs) (j ∷ xs)
+near_heads n k j xs h = (0, omega arith, elim h [ inl e ↦ inl (ap (λ z. z ∷ xs) e) | inr e ↦ inr (ap (λ z. z ∷ xs) e) ])
+
+blocks_chain : (n k0 k1 k2 : ℕ) (a b c : Bool) (l0 l1 l2 : List (List ℕ)) → (k1 ≡ k0 + 1) ⊎ (k0 ≡ k1 + 1) → (k2 ≡ k1 + 1) ⊎ (k1 ≡ k2 + 1) → l1 ≡ reverse l0 → l2 ≡ reverse l1
+    → Chain (Adjacent n) l0 → Chain (Adjacent n) l1 → Chain (Adjacent n) l2 → NarrowAt a b c
+    → Chain (Adjacent (suc n)) (cond a (map (λ ks. k0 ∷ ks) l0) [] ++ (cond b (map (λ ks. k1 ∷ ks) l1) [] ++ cond c (map (λ ks. k2 ∷ ks) l2) []))
+blocks_chain n k0 k1 k2 a b c l0 l1 l2 near next r1 r2 c0 c1 c2 narrow =
+    let m = λ (k : ℕ) (l : List (List ℕ)). map (λ ks. k ∷ ks) l in
+    let one : (k : ℕ) (l : List (List ℕ)) → Chain (Adjacent n) l → Chain (Adjacent (suc n)) (m k l) = λ k l h. chain_map (Adjacent n) (Adjacent (suc n)) (λ ks. k ∷ ks) (λ x y q. adjacent_behind n k x y q) l h in
+    let two : (k j : ℕ) (l u : List (List ℕ)) → (j ≡ k + 1) ⊎ (k ≡ j + 1) → u ≡ reverse l → Chain (Adjacent n) l → Chain (Adjacent n) u → Chain (Adjacent (suc n)) (m k l ++ m j u) =
+        λ k j l u h r cl cu. let back : l ≡ reverse u = sym (reverse-reverse l) ∙ ap reverse (sym r) in
+            subst (λ z. Chain (Adjacent (suc n)) (m k z ++ m j u)) (sym back) (chain_mirror (Adjacent (suc n)) (λ ks. k ∷ ks) (λ ks. j ∷ ks) u (λ x. near_heads n k j x h) (one k (reverse u) (subst (Chain (Adjacent n)) back cl)) (one j u cu)) in
+    elim narrow [
+        inl h ↦ rw (h.0, h.1, h.2) (subst (Chain (Adjacent (suc n))) (sym (append-nil (m k0 l0))) (one k0 l0 c0))
+      | inr narrow2 ↦ elim narrow2 [
+          inl h ↦ rw (h.0, h.1, h.2) (subst (Chain (Adjacent (suc n))) (sym (append-nil (m k1 l1))) (one k1 l1 c1))
+        | inr narrow3 ↦ elim narrow3 [
+            inl h ↦ rw (h.0, h.1, h.2) (one k2 l2 c2)
+          | inr narrow4 ↦ elim narrow4 [
+              inl h ↦ rw (h.0, h.1, h.2) (subst (λ z. Chain (Adjacent (suc n)) (m k0 l0 ++ z)) (sym (append-nil (m k1 l1))) (two k0 k1 l0 l1 near r1 c0 c1))
+            | inr h ↦ rw (h.0, h.1, h.2) (two k1 k2 l1 l2 next r2 c1 c2) ] ] ] ]
+
+narrow_back : (a b c : Bool) → NarrowAt a b c → NarrowAt c b a
+narrow_back a b c narrow = elim narrow [
+    inl h ↦ inr (inr (inl (h.2, h.1, h.0)))
+  | inr narrow2 ↦ elim narrow2 [
+      inl h ↦ inr (inl (h.2, h.1, h.0))
+    | inr narrow3 ↦ elim narrow3 [
+        inl h ↦ inl (h.2, h.1, h.0)
+      | inr narrow4 ↦ elim narrow4 [
+          inl h ↦ inr (inr (inr (inr (h.2, h.1, h.0))))
+        | inr h ↦ inr (inr (inr (inl (h.2, h.1, h.0)))) ] ] ] ]
+
+-- The children that pass narrow tests on each axis follow each other as neighbours.
+passing_chain : (n : ℕ) (gs : Tests) (es : List ℕ) (b : ℕ) → length gs ≡ n → length es ≡ n → Each Narrow gs → Chain (Adjacent n) (passing n gs es b)
+passing_chain zero [] [] b l k e = tt
+passing_chain zero (g ∷ gs) es b l k e = absurd (omega arith)
+passing_chain zero [] (e ∷ es) b l k narrow = absurd (omega arith)
+passing_chain (suc n) [] es b l k e = absurd (omega arith)
+passing_chain (suc n) (g ∷ gs) [] b l k e = absurd (omega arith)
+passing_chain (suc n) (g ∷ gs) (e ∷ es) b l k narrow =
+    let c : (t : ℕ) → Chain (Adjacent n) (passing n gs es (b + t)) = λ t. passing_chain n gs es (b + t) (omega arith) (omega arith) narrow.1 in
+    let r1 = passing_back n gs es (b + 0) (b + 1) (omega arith) in
+    let r2 = passing_back n gs es (b + 1) (b + 2) (omega arith) in
+    subst (Chain (Adjacent (suc n))) (sym (passing_three n g gs e es b)) (elim (even_or_odd (e + b)) [
+        inl even ↦ rw (mirrored_even (e + b) 0 even, mirrored_even (e + b) 1 even, mirrored_even (e + b) 2 even)
+            (blocks_chain n 0 1 2 (g 0) (g 1) (g 2) _ _ _ (inl (omega arith)) (inl (omega arith)) r1 r2 (c 0) (c 1) (c 2) narrow.0)
+      | inr odd ↦ rw (mirrored_odd (e + b) 0 odd, mirrored_odd (e + b) 1 odd, mirrored_odd (e + b) 2 odd)
+            (blocks_chain n 2 1 0 (g 2) (g 1) (g 0) _ _ _ (inr (omega arith)) (inr (omega arith)) r1 r2 (c 0) (c 1) (c 2) (narrow_back (g 0) (g 1) (g 2) narrow.0)) ])
