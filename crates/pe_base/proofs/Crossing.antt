@@ -1,7 +1,7 @@
 -- Two cells that follow each other around a vertex share a face.
 use Rattle.std.proofs.Common.{◌≡◌, ℕ, zero, suc, ◌+◌, ◌-◌, ◌*◌, ◌/◌, ◌%◌, ◌^◌, ◌<◌, ◌≤◌, ◌⊎◌, Bool, true, false, cond, ◌&&◌, ◌||◌, ◌==◌, nat_le, List, [], ◌∷◌, ◌++◌, map, filter, reverse, length, get_or, set, replicate, slice_index, refl, sym, ap, ap₂, ◌∙◌, subst, subst₂, true≢false, inl, inr, pow-suc, append_assoc, append-nil, length-set, mul-le-mul_right, arith}
 use Rattle.std.specs.List.{flat_map, range_with_len}
-use Rattle.std.proofs.lemmas.List.{map-append, reverse-append, reverse-reverse}
+use Rattle.std.proofs.lemmas.List.{get_or-set_same, drop-set-lt, map-append, reverse-append, reverse-reverse}
 use Rattle.std.proofs.lemmas.List.Elements.{filter-append}
 use Rattle.std.proofs.lemmas.Bool.Decides.{nat_tests}
 use Rattle.pe_base.specs.declared.place.Place.{Place}
@@ -9,9 +9,16 @@ use Rattle.pe_base.specs.declared.way.Way.{Way}
 use Rattle.pe_base.specs.Places.{root, finer}
 use Rattle.pe_base.specs.Curve.{digit_lists, mirrored, turned, children, order}
 use Rattle.pe_base.specs.Around.{is_corner_pos, is_corner, around, steps}
-use Rattle.pe_base.specs.Faces.{is_same, is_step, loads, touched_for}
+use Rattle.pe_base.specs.Faces.{Touch, in_finest, is_same, is_step, loads, touched_for}
 use Rattle.pe_base.proofs.Lists.{Each, Each-all, Each-weaker, Each-map, Each-filter, map-map, map_same, flat_map_same, flat_map-map, flat_map-filter, map-flat_map, filter-flat_map, filter-map, filter_same, filter_none, map-reverse, filter-reverse, reverse-cons, reverse-flat_map}
-use Rattle.pe_base.proofs.Mirrors.{Digits3, complement, digit_lists_below, reverse-digit_lists, mirrored_even, mirrored_odd, even_or_odd, Pairs, Pairs-same, turned_complement, up}
+use Rattle.pe_base.proofs.Mirrors.{Digits3, complement, digit_lists_below, reverse-digit_lists, mirrored_even, mirrored_odd, even_or_odd, Pairs, Pairs-same, turned_complement, turned_across, turned_across-digit, up}
+use Rattle.pe_base.proofs.Children.{opposite, flips_in, flips_agree, length-flips, child_of, child_ks, child_ks-below, child_index, children_are, reverse-children, slice_index-below}
+use Rattle.pe_base.proofs.Corners.{pow_three, same_tests}
+use Rattle.pe_base.proofs.FaceLists.{face_of, up_cell, is_child_at, Within, loads_within, off_plane}
+use Rattle.pe_base.proofs.Ranks.{is_same-true}
+use Rattle.pe_base.proofs.Quiet.{false_unless}
+use Rattle.pe_base.proofs.Waits.{deeper, deeper_is, deeper-suc}
+use Rattle.pe_base.proofs.Counts.{below, OnGrid, child_on_grid, loads_below}
 
 -- each item and the next are related
 abbrev pub Chain : {X : Type 0} → (X → X → Type 0) → List X → Type 0
@@ -156,3 +163,107 @@ passing_chain (suc n) (g ∷ gs) (e ∷ es) b l k narrow =
             (blocks_chain n 0 1 2 (g 0) (g 1) (g 2) _ _ _ (inl (omega arith)) (inl (omega arith)) r1 r2 (c 0) (c 1) (c 2) narrow.0)
       | inr odd ↦ rw (mirrored_odd (e + b) 0 odd, mirrored_odd (e + b) 1 odd, mirrored_odd (e + b) 2 odd)
             (blocks_chain n 2 1 0 (g 2) (g 1) (g 0) _ _ _ (inr (omega arith)) (inr (omega arith)) r1 r2 (c 0) (c 1) (c 2) (narrow_back (g 0) (g 1) (g 2) narrow.0)) ])
+
+-- the cells around a vertex some levels below a cell
+abbrev within_cell : ℕ → Way → Place → ℕ → Place → List Place
+within_cell axes way vertex m cell = filter (is_corner vertex) (below axes way m cell)
+
+child_on_grid_at : (axes : ℕ) (way : Way) (cell : Place) (ts : List ℕ) → axes ≤ 4 → OnGrid axes cell.level cell → Digits3 axes ts → OnGrid axes (child_of axes way cell ts).level (child_of axes way cell ts)
+child_on_grid_at axes way cell ts four c d = (refl, (child_on_grid axes way cell.level cell ts four c d).1, (child_on_grid axes way cell.level cell ts four c d).2)
+
+-- none where the vertex is off the cell on some axis
+off_cell : (axes : ℕ) (way : Way) (m axis : ℕ) (vertex cell : Place) → axes ≤ 4 → axis < axes → OnGrid axes vertex.level vertex → OnGrid axes cell.level cell → vertex.level ≡ deeper m cell.level
+    → (slice_index vertex.pos axis < slice_index cell.pos axis * 3 ^ m) ⊎ ((slice_index cell.pos axis + 1) * 3 ^ m < slice_index vertex.pos axis) → within_cell axes way vertex m cell ≡ []
+off_cell axes way m axis vertex cell four a v c h off =
+    let finest = cell.level + m in
+    sym (loads_below axes way m 0 cell.level vertex cell four v c h) ∙ ap (λ n. touched_for vertex (loads axes way n cell)) (let e : m + 0 ≡ m = omega arith in e)
+    ∙ ap (map (λ t. t.cell)) (filter_none (λ t. is_same t.vertex vertex) (loads axes way m cell) (Each-weaker (Within finest axis (slice_index cell.pos axis * 3 ^ m) ((slice_index cell.pos axis + 1) * 3 ^ m)) _ (λ t w.
+        false_unless _ (λ same. let e = is_same-true t.vertex vertex same in
+            let x : slice_index t.vertex.pos axis ≡ slice_index vertex.pos axis = ap (λ p. slice_index p axis) e.1 in
+            let z : finest - t.vertex.level ≡ 0 = omega (arith, e.0, h, deeper_is m cell.level) in
+            let y : in_finest finest t.vertex.level (slice_index t.vertex.pos axis) ≡ slice_index vertex.pos axis * 1 = ap₂ (λ p k. p * 3 ^ k) x z in
+            elim off [ inl o ↦ omega (arith, w.0, w.1, y, o) | inr o ↦ omega (arith, w.0, w.1, y, o) ]))
+        (loads axes way m cell) (loads_within axes way axis finest m cell four a (omega (arith, c.1)) refl)))
+
+-- a cell's part, by its children
+within_children : (axes : ℕ) (way : Way) (vertex : Place) (m : ℕ) (cell : Place) → within_cell axes way vertex (suc m) cell ≡ flat_map (λ ts. within_cell axes way vertex m (child_of axes way cell ts)) (digit_lists axes)
+within_children axes way vertex m cell =
+    filter-flat_map (is_corner vertex) (below axes way m) (children axes way cell)
+    ∙ ap (flat_map (within_cell axes way vertex m)) (children_are axes way cell)
+    ∙ flat_map-map (within_cell axes way vertex m) (child_of axes way cell) (digit_lists axes)
+
+within_back : (axes : ℕ) (way : Way) (vertex : Place) (m : ℕ) (cell : Place) → within_cell axes (opposite way) vertex m cell ≡ reverse (within_cell axes way vertex m cell)
+within_back axes way vertex m cell = ap (filter (is_corner vertex)) (back m cell) ∙ filter-reverse (is_corner vertex) (below axes way m cell)
+  where
+    back : (m : ℕ) (cell : Place) → below axes (opposite way) m cell ≡ reverse (below axes way m cell)
+    back zero cell = refl
+    back (suc m) cell =
+        flat_map_same (below axes (opposite way) m) (λ c. reverse (below axes way m c)) (children axes (opposite way) cell) (Each-all _ (back m) (children axes (opposite way) cell))
+        ∙ ap (flat_map (λ c. reverse (below axes way m c))) (sym (reverse-children axes way cell)) ∙ sym (reverse-flat_map (below axes way m) (children axes way cell))
+
+up_on_grid : (axes axis level : ℕ) (cell : Place) → axis < axes → OnGrid axes level cell → OnGrid axes level (up_cell axis cell)
+up_on_grid axes axis level cell a c = (c.0, length-set cell.pos axis (slice_index cell.pos axis + 1) ∙ c.1, drop-set-lt axes cell.pos axis (slice_index cell.pos axis + 1) a ∙ c.2)
+
+corner_up : (axis : ℕ) (qs ps : List ℕ) → axis < length ps → slice_index qs axis ≡ slice_index ps axis + 1 → is_corner_pos qs (up axis ps) ≡ is_corner_pos qs ps
+corner_up axis qs [] a h = absurd (omega arith)
+corner_up zero [] (p ∷ ps) a h = refl
+corner_up (suc axis) [] (p ∷ ps) a h = refl
+corner_up zero (q ∷ qs) (p ∷ ps) a h = ap (λ b. b && is_corner_pos qs ps) (far q p h)
+  where
+    far : (x y : ℕ) → x ≡ y + 1 → (x == y + 1 || x == y + 1 + 1) ≡ (x == y || x == y + 1)
+    far x y e = grind (arith, nat_tests)
+corner_up (suc axis) (q ∷ qs) (p ∷ ps) a h = ap (λ b. (q == p || q == p + 1) && b) (corner_up axis qs ps (omega arith) h)
+
+-- Around a vertex in the plane between two cells, the one's cells are those across it from the other's, in one order
+-- where the other cell is walked in the other way.
+within_up : (axes : ℕ) (way : Way) (axis : ℕ) (vertex : Place) → axes ≤ 4 → axis < axes → OnGrid axes vertex.level vertex → (m : ℕ) (cell : Place) → OnGrid axes cell.level cell → vertex.level ≡ deeper m cell.level
+    → slice_index vertex.pos axis ≡ (slice_index cell.pos axis + 1) * 3 ^ m → within_cell axes (opposite way) vertex m (up_cell axis cell) ≡ map (up_cell axis) (within_cell axes way vertex m cell)
+within_up axes way axis vertex four a v zero cell c h plane =
+    ap (λ b. cond b (up_cell axis cell ∷ []) []) (ap (λ b. vertex.level == cell.level && b) (corner_up axis vertex.pos cell.pos (omega (arith, c.1)) (omega (arith, plane)))) ∙ one (is_corner vertex cell)
+  where
+    one : (b : Bool) → cond b (up_cell axis cell ∷ []) [] ≡ map (up_cell axis) (cond b (cell ∷ []) [])
+    one true = refl
+    one false = refl
+within_up axes way axis vertex four a v (suc m) cell c h plane =
+    let next = up_cell axis cell in
+    let back = opposite way in
+    let c' = up_on_grid axes axis cell.level cell a c in
+    let agree = flips_agree axes way axis cell.pos (omega (arith, c.1)) a in
+    let at = is_child_at axes way cell (face_of axis 1) in
+    let at' = is_child_at axes back next (face_of axis 0) in
+    let far = λ (ts : List ℕ). within_cell axes way vertex m (child_of axes way cell ts) in
+    let near = λ (ts : List ℕ). within_cell axes back vertex m (child_of axes back next ts) in
+    let level : vertex.level ≡ deeper m (cell.level + 1) = h ∙ sym (deeper-suc m cell.level) ∙ ap (deeper m) (omega arith) in
+    let up1 : slice_index next.pos axis ≡ slice_index cell.pos axis + 1 = get_or-set_same cell.pos axis (slice_index cell.pos axis + 1) 0 (omega (arith, c.1)) in
+    within_children axes back vertex m next
+    ∙ flat_map-filter near at' (digit_lists axes) (Each-weaker (Digits3 axes) _ (λ ts d other.
+        off_cell axes back m axis vertex (child_of axes back next ts) four a v (child_on_grid_at axes back next ts four c' d) level
+            ((subst (λ y. (y < slice_index (child_of axes back next ts).pos axis * 3 ^ m) ⊎ ((slice_index (child_of axes back next ts).pos axis + 1) * 3 ^ m < y))
+                (ap (λ y. (y + 0) * 3 ^ suc m) up1 ∙ (let e : (slice_index cell.pos axis + 1 + 0) * 3 ^ suc m ≡ (slice_index cell.pos axis + 1) * 3 ^ suc m = ap (λ y. y * 3 ^ suc m) (omega arith) in e) ∙ sym plane)
+                (off_plane (slice_index next.pos axis) (slice_index (child_of axes back next ts).pos axis) (slice_index (child_ks axes back next ts) axis) 0 m (child_index axes back next ts axis a (omega (arith, c'.1)) d)
+                    (slice_index-below axis axes (child_ks axes back next ts) a (child_ks-below axes back next ts d)) (omega arith) other))))
+        (digit_lists axes) (digit_lists_below axes))
+    ∙ ap (flat_map near) (sym (filter_same at at' (digit_lists axes) (Each-weaker (Digits3 axes) _ (λ ts d.
+        at_other _ _ (slice_index-below axis axes (child_ks axes way cell ts) a (child_ks-below axes way cell ts d))
+            (turned_across-digit axis (flips_in axes way cell.pos) (flips_in axes back (up axis cell.pos)) 0 0 axes ts agree (length-flips axes way cell.pos) refl d)) (digit_lists axes) (digit_lists_below axes))))
+    ∙ flat_map_same near (λ ts. map (up_cell axis) (far ts)) (filter at (digit_lists axes)) (Each-weaker _ _ (λ ts d.
+        ap (λ ps. let k : Place = record { level = cell.level + 1; pos = ps } in within_cell axes back vertex m k)
+            (turned_across axis (flips_in axes way cell.pos) (flips_in axes back (up axis cell.pos)) 0 0 axes ts (replicate (4 - axes) 0) cell.pos agree (length-flips axes way cell.pos) refl d.0 (when_two _ d.1))
+        ∙ within_up axes way axis vertex four a v m (child_of axes way cell ts) (child_on_grid_at axes way cell ts four c d.0) level
+            (plane ∙ child_plane (slice_index cell.pos axis) (slice_index (child_of axes way cell ts).pos axis) m (child_index axes way cell ts axis a (omega (arith, c.1)) d.0 ∙ ap (λ k. 3 * slice_index cell.pos axis + k) (when_two _ d.1))))
+        (filter at (digit_lists axes)) (Each-filter (Digits3 axes) at (digit_lists axes) (digit_lists_below axes)))
+    ∙ sym (map-flat_map (up_cell axis) far (filter at (digit_lists axes)))
+    ∙ ap (map (up_cell axis)) (sym (flat_map-filter far at (digit_lists axes) (Each-weaker (Digits3 axes) _ (λ ts d other.
+        off_cell axes way m axis vertex (child_of axes way cell ts) four a v (child_on_grid_at axes way cell ts four c d) level
+            ((subst (λ y. (y < slice_index (child_of axes way cell ts).pos axis * 3 ^ m) ⊎ ((slice_index (child_of axes way cell ts).pos axis + 1) * 3 ^ m < y)) (sym plane)
+                (off_plane (slice_index cell.pos axis) (slice_index (child_of axes way cell ts).pos axis) (slice_index (child_ks axes way cell ts) axis) 1 m (child_index axes way cell ts axis a (omega (arith, c.1)) d)
+                    (slice_index-below axis axes (child_ks axes way cell ts) a (child_ks-below axes way cell ts d)) (omega arith) other))))
+        (digit_lists axes) (digit_lists_below axes)))
+        ∙ sym (within_children axes way vertex m cell))
+  where
+    at_other : (k j : ℕ) → k < 3 → j ≡ 2 - k → (k == 2) ≡ (j == 0)
+    at_other k j h is = same_tests k 2 j 0 (λ e. omega arith) (λ e. omega arith)
+    when_two : (k : ℕ) → (k == 2) ≡ true → k ≡ 2
+    when_two k h = grind (arith, nat_tests)
+    child_plane : (p q n : ℕ) → q ≡ 3 * p + 2 → (p + 1) * 3 ^ suc n ≡ (q + 1) * 3 ^ n
+    child_plane p q n e = rw (e, pow-suc 3 n) (omega arith)
