@@ -271,20 +271,23 @@ loads_below axes way (suc m) more level vertex cell four v c h =
     (Each-weaker (OnGrid axes (suc level)) _ (λ d on. loads_below axes way m more (suc level) vertex d four v on (h ∙ sym (deeper-suc m level))) (children axes way cell) (children_on_grid axes way level cell four c)))
     ∙ sym (filter-flat_map (is_corner vertex) (below axes way m) (children axes way cell))
 
+root_zeros : (n : ℕ) → n ≤ 4 → drop {A = ℕ} n (0 ∷ 0 ∷ 0 ∷ 0 ∷ []) ≡ replicate (4 - n) 0
+root_zeros zero h = refl
+root_zeros (suc zero) h = refl
+root_zeros (suc (suc zero)) h = refl
+root_zeros (suc (suc (suc zero))) h = refl
+root_zeros (suc (suc (suc (suc zero)))) h = refl
+root_zeros (suc (suc (suc (suc (suc n))))) h = absurd (omega arith)
+
+pub root_on_grid : (axes : ℕ) → axes ≤ 4 → OnGrid axes 0 root
+root_on_grid axes four = (refl, refl, root_zeros axes four)
+
 pub loaded_for_around : (axes : ℕ) (way : Way) (levels : ℕ) (vertex : Place) → axes ≤ 4 → OnGrid axes vertex.level vertex → vertex.level ≤ levels → touched_for vertex (loads axes way levels root) ≡ around axes way vertex
 loaded_for_around axes way levels vertex four v h =
     let more = levels - vertex.level in
     ap (λ n. touched_for vertex (loads axes way n root)) (let e : levels ≡ vertex.level + more = omega arith in e)
-    ∙ loads_below axes way vertex.level more 0 vertex root four v (refl, refl, root_zeros axes four) (omega (arith, deeper_is vertex.level 0))
+    ∙ loads_below axes way vertex.level more 0 vertex root four v (root_on_grid axes four) (omega (arith, deeper_is vertex.level 0))
     ∙ ap (filter (is_corner vertex)) (sym (append-nil (below axes way vertex.level root)) ∙ below_order axes way vertex.level 0 ∙ ap (order axes way) (let e : deeper vertex.level 0 ≡ vertex.level = omega (arith, deeper_is vertex.level 0) in e))
-  where
-    root_zeros : (n : ℕ) → n ≤ 4 → drop {A = ℕ} n (0 ∷ 0 ∷ 0 ∷ 0 ∷ []) ≡ replicate (4 - n) 0
-    root_zeros zero h = refl
-    root_zeros (suc zero) h = refl
-    root_zeros (suc (suc zero)) h = refl
-    root_zeros (suc (suc (suc zero))) h = refl
-    root_zeros (suc (suc (suc (suc zero)))) h = refl
-    root_zeros (suc (suc (suc (suc (suc n))))) h = absurd (omega arith)
 
 -- the order in the other way is the order backwards
 reverse-order : (axes : ℕ) (way : Way) (level : ℕ) → order axes (opposite way) level ≡ reverse (order axes way level)

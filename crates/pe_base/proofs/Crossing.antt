@@ -1,5 +1,5 @@
 -- Two cells that follow each other around a vertex share a face.
-use Rattle.std.proofs.Common.{◌≡◌, ℕ, zero, suc, ◌+◌, ◌-◌, ◌*◌, ◌/◌, ◌%◌, ◌^◌, ◌<◌, ◌≤◌, ◌⊎◌, Bool, true, false, cond, ◌&&◌, ◌||◌, ◌==◌, nat_le, List, [], ◌∷◌, ◌++◌, map, filter, reverse, length, get_or, set, replicate, slice_index, refl, sym, ap, ap₂, ◌∙◌, subst, subst₂, true≢false, inl, inr, pow-suc, append_assoc, append-nil, length-set, mul-le-mul_right, arith}
+use Rattle.std.proofs.Common.{◌≡◌, ℕ, zero, suc, ◌+◌, ◌-◌, ◌*◌, ◌/◌, ◌%◌, ◌^◌, ◌<◌, ◌≤◌, ◌⊎◌, Bool, true, false, cond, ◌&&◌, ◌||◌, ◌==◌, nat_le, List, [], ◌∷◌, ◌++◌, map, filter, reverse, length, get_or, set, replicate, slice_index, refl, sym, ap, ap₂, ◌∙◌, subst, subst₂, true≢false, inl, inr, pow-suc, append_assoc, append-nil, length-set, mul-le-mul_right, le_antisymm, arith}
 use Rattle.std.specs.List.{flat_map, range_with_len}
 use Rattle.std.proofs.lemmas.List.{get_or-set_same, drop-set-lt, map-append, reverse-append, reverse-reverse}
 use Rattle.std.proofs.lemmas.List.Elements.{filter-append}
@@ -12,13 +12,13 @@ use Rattle.pe_base.specs.Around.{is_corner_pos, is_corner, around, steps}
 use Rattle.pe_base.specs.Faces.{Touch, in_finest, is_same, is_step, loads, touched_for}
 use Rattle.pe_base.proofs.Lists.{Each, Each-all, Each-weaker, Each-map, Each-filter, map-map, map_same, flat_map_same, flat_map-map, flat_map-filter, map-flat_map, filter-flat_map, filter-map, filter_same, filter_none, map-reverse, filter-reverse, reverse-cons, reverse-flat_map}
 use Rattle.pe_base.proofs.Mirrors.{Digits3, complement, digit_lists_below, reverse-digit_lists, mirrored_even, mirrored_odd, even_or_odd, Pairs, Pairs-same, turned_complement, turned_across, turned_across-digit, up}
-use Rattle.pe_base.proofs.Children.{opposite, flips_in, flips_agree, length-flips, child_of, child_ks, child_ks-below, child_index, children_are, reverse-children, slice_index-below}
+use Rattle.pe_base.proofs.Children.{opposite, flips_in, flips_agree, length-flips, child_of, child_ks, child_ks-below, child_index, children_are, reverse-children, slice_index-below, length-digits}
 use Rattle.pe_base.proofs.Corners.{pow_three, same_tests}
 use Rattle.pe_base.proofs.FaceLists.{face_of, up_cell, is_child_at, Within, loads_within, off_plane}
-use Rattle.pe_base.proofs.Ranks.{is_same-true}
+use Rattle.pe_base.proofs.Ranks.{list_any-Each, is_same-true, and_left, and_right}
 use Rattle.pe_base.proofs.Quiet.{false_unless}
 use Rattle.pe_base.proofs.Waits.{deeper, deeper_is, deeper-suc}
-use Rattle.pe_base.proofs.Counts.{below, OnGrid, child_on_grid, loads_below}
+use Rattle.pe_base.proofs.Counts.{below, below_order, root_on_grid, OnGrid, child_on_grid, loads_below}
 
 -- each item and the next are related
 abbrev pub Chain : {X : Type 0} → (X → X → Type 0) → List X → Type 0
@@ -267,3 +267,222 @@ within_up axes way axis vertex four a v (suc m) cell c h plane =
     when_two k h = grind (arith, nat_tests)
     child_plane : (p q n : ℕ) → q ≡ 3 * p + 2 → (p + 1) * 3 ^ suc n ≡ (q + 1) * 3 ^ n
     child_plane p q n e = rw (e, pow-suc 3 n) (omega arith)
+
+-- two cells, one next to the other on an axis
+abbrev pub AreNeighbours : ℕ → Place → Place → Type 0
+AreNeighbours axes a b = (axis : ℕ) × (axis < axes) × ((b ≡ up_cell axis a) ⊎ (a ≡ up_cell axis b))
+
+-- one list is the other backwards, each item moved to a neighbour
+abbrev Mirrored : ℕ → List Place → List Place → Type 0
+Mirrored axes xs ys = (axis : ℕ) × (axis < axes) × ((ys ≡ map (up_cell axis) (reverse xs)) ⊎ (xs ≡ map (up_cell axis) (reverse ys)))
+
+mirror_join : (axes : ℕ) (xs ys rest : List Place) → Mirrored axes xs ys → Chain (AreNeighbours axes) xs → Chain (AreNeighbours axes) (ys ++ rest) → Chain (AreNeighbours axes) (xs ++ (ys ++ rest))
+mirror_join axes xs ys rest m c d = elim m.2 [
+    inl e ↦ further (reverse xs) (sym (reverse-reverse xs)) e
+  | inr e ↦ nearer ys refl e ]
+  where
+    further : (us : List Place) → xs ≡ reverse us → ys ≡ map (up_cell m.0) us → Chain (AreNeighbours axes) (xs ++ (ys ++ rest))
+    further [] e f = subst (λ z. Chain (AreNeighbours axes) (z ++ (ys ++ rest))) (sym e) d
+    further (u ∷ us) e f =
+        let k : xs ≡ reverse us ++ u ∷ [] = e ∙ reverse-cons u us in
+        let n : ys ++ rest ≡ up_cell m.0 u ∷ (map (up_cell m.0) us ++ rest) = ap (λ z. z ++ rest) f in
+        subst (Chain (AreNeighbours axes)) (sym (append_assoc (reverse us) (u ∷ []) (ys ++ rest)) ∙ ap (λ z. z ++ (ys ++ rest)) (sym k))
+            (chain_join (AreNeighbours axes) (reverse us) u (ys ++ rest) (subst (Chain (AreNeighbours axes)) k c)
+                (subst (λ z. Chain (AreNeighbours axes) (u ∷ z)) (sym n) ((m.0, m.1, inl refl), subst (Chain (AreNeighbours axes)) n d)))
+    nearer : (us : List Place) → ys ≡ us → xs ≡ map (up_cell m.0) (reverse ys) → Chain (AreNeighbours axes) (xs ++ (ys ++ rest))
+    nearer [] e f = subst (λ z. Chain (AreNeighbours axes) (z ++ (ys ++ rest))) (sym (f ∙ ap (λ z. map (up_cell m.0) (reverse z)) e)) d
+    nearer (u ∷ us) e f =
+        let k : xs ≡ map (up_cell m.0) (reverse us) ++ up_cell m.0 u ∷ [] = f ∙ ap (λ z. map (up_cell m.0) (reverse z)) e ∙ ap (map (up_cell m.0)) (reverse-cons u us) ∙ map-append (up_cell m.0) (reverse us) (u ∷ []) in
+        let n : ys ++ rest ≡ u ∷ (us ++ rest) = ap (λ z. z ++ rest) e in
+        subst (Chain (AreNeighbours axes)) (sym (append_assoc (map (up_cell m.0) (reverse us)) (up_cell m.0 u ∷ []) (ys ++ rest)) ∙ ap (λ z. z ++ (ys ++ rest)) (sym k))
+            (chain_join (AreNeighbours axes) (map (up_cell m.0) (reverse us)) (up_cell m.0 u) (ys ++ rest) (subst (Chain (AreNeighbours axes)) k c)
+                (subst (λ z. Chain (AreNeighbours axes) (up_cell m.0 u ∷ z)) (sym n) ((m.0, m.1, inr refl), subst (Chain (AreNeighbours axes)) n d)))
+
+chain_flat : {X : Type 0} (axes : ℕ) (f : X → List Place) (xs : List X) → Each (λ x. Chain (AreNeighbours axes) (f x)) xs → Chain (λ x y. Mirrored axes (f x) (f y)) xs → Chain (AreNeighbours axes) (flat_map f xs)
+chain_flat axes f [] e c = tt
+chain_flat axes f (x ∷ []) e c = subst (Chain (AreNeighbours axes)) (sym (append-nil (f x))) e.0
+chain_flat axes f (x ∷ y ∷ xs) e c = mirror_join axes (f x) (f y) (flat_map f xs) c.0 e.0 (chain_flat axes f (y ∷ xs) e.1 c.1)
+
+-- what a list of tests says on each axis
+picked_all : (f : ℕ → ℕ → Bool) (a n : ℕ) (ks : List ℕ) → Digits3 n ks → picked (map f (range_with_len a n)) ks ≡ true → (axis : ℕ) → axis < n → f (a + axis) (slice_index ks axis) ≡ true
+picked_all f a zero ks d p axis h = absurd (omega arith)
+picked_all f a (suc n) [] d p axis h = absurd (omega arith)
+picked_all f a (suc n) (k ∷ ks) d p zero h = subst (λ i. f i k ≡ true) (let e : a ≡ a + 0 = omega arith in e) (and_left (f a k) _ p)
+picked_all f a (suc n) (k ∷ ks) d p (suc axis) h = subst (λ i. f i (slice_index ks axis) ≡ true) (let e : (a + 1) + axis ≡ a + suc axis = omega arith in e)
+    (picked_all f (a + 1) n ks d.1 (and_right (f a k) _ p) axis (omega arith))
+
+picked_not : (f : ℕ → ℕ → Bool) (a n : ℕ) (ks : List ℕ) → Digits3 n ks → picked (map f (range_with_len a n)) ks ≡ false → (axis : ℕ) × (axis < n) × (f (a + axis) (slice_index ks axis) ≡ false)
+picked_not f a zero [] d p = absurd (true≢false p)
+picked_not f a zero (k ∷ ks) d p = absurd (omega arith)
+picked_not f a (suc n) [] d p = absurd (omega arith)
+picked_not f a (suc n) (k ∷ ks) d p = go (f a k) refl p (λ q. picked_not f (a + 1) n ks d.1 q)
+  where
+    go : (b : Bool) → f a k ≡ b → (b && picked (map f (range_with_len (a + 1) n)) ks) ≡ false
+        → (picked (map f (range_with_len (a + 1) n)) ks ≡ false → (axis : ℕ) × (axis < n) × (f (a + 1 + axis) (slice_index ks axis) ≡ false))
+        → (axis : ℕ) × (axis < suc n) × (f (a + axis) (slice_index (k ∷ ks) axis) ≡ false)
+    go true e q rest = let r = rest q in (suc r.0, omega (arith, r.1), subst (λ i. f i (slice_index ks r.0) ≡ false) (let z : a + 1 + r.0 ≡ a + suc r.0 = omega arith in z) r.2)
+    go false e q rest = (0, omega arith, subst (λ i. f i k ≡ false) (let z : a ≡ a + 0 = omega arith in z) e)
+
+Each-range : (P : (ℕ → Bool) → Type 0) (f : ℕ → ℕ → Bool) (a n : ℕ) → ((axis : ℕ) → a ≤ axis → axis < a + n → P (f axis)) → Each P (map f (range_with_len a n))
+Each-range P f a zero h = tt
+Each-range P f a (suc n) h = (h a (omega arith) (omega arith), Each-range P f (a + 1) n (λ axis l u. h axis (omega arith) (omega arith)))
+
+length-tests : (f : ℕ → ℕ → Bool) (a n : ℕ) → length (map f (range_with_len a n)) ≡ n
+length-tests f a zero = refl
+length-tests f a (suc n) = ap suc (length-tests f (a + 1) n)
+
+-- a number between two bounds, three parts of it
+le_true : (x y : ℕ) → x ≤ y → nat_le x y ≡ true
+le_true x y h = grind (arith, nat_tests)
+
+le_false : (x y : ℕ) → y < x → nat_le x y ≡ false
+le_false x y h = grind (arith, nat_tests)
+
+true_le : (x y : ℕ) → nat_le x y ≡ true → x ≤ y
+true_le x y h = grind (arith, nat_tests)
+
+both_true : (x y : Bool) → x ≡ true → y ≡ true → (x && y) ≡ true
+both_true x y e f = ap₂ (λ a b. a && b) e f
+
+left_false : (x y : Bool) → x ≡ false → (x && y) ≡ false
+left_false x y e = ap (λ a. a && y) e
+
+right_false : (x y : Bool) → y ≡ false → (x && y) ≡ false
+right_false true y e = e
+right_false false y e = refl
+
+order_cases : (x y : ℕ) → (x < y) ⊎ ((x ≡ y) ⊎ (y < x))
+order_cases x y = grind arith
+
+narrow_between : (x0 x1 x2 x3 y : ℕ) → x0 < x1 → x1 < x2 → x2 < x3 → x0 ≤ y → y ≤ x3 → NarrowAt (nat_le x0 y && nat_le y x1) (nat_le x1 y && nat_le y x2) (nat_le x2 y && nat_le y x3)
+narrow_between x0 x1 x2 x3 y a b c low high = elim (order_cases y x1) [
+    inl l ↦ inl (both_true _ _ (le_true x0 y low) (le_true y x1 (omega arith)), left_false _ _ (le_false x1 y l), left_false _ _ (le_false x2 y (omega arith)))
+  | inr m ↦ elim m [
+      inl e ↦ inr (inr (inr (inl (both_true _ _ (le_true x0 y low) (le_true y x1 (omega arith)), both_true _ _ (le_true x1 y (omega arith)) (le_true y x2 (omega arith)), left_false _ _ (le_false x2 y (omega arith))))))
+    | inr g ↦ elim (order_cases y x2) [
+        inl l ↦ inr (inl (right_false _ _ (le_false y x1 g), both_true _ _ (le_true x1 y (omega arith)) (le_true y x2 (omega arith)), left_false _ _ (le_false x2 y l)))
+      | inr n ↦ elim n [
+          inl e ↦ inr (inr (inr (inr (right_false _ _ (le_false y x1 g), both_true _ _ (le_true x1 y (omega arith)) (le_true y x2 (omega arith)), both_true _ _ (le_true x2 y (omega arith)) (le_true y x3 high)))))
+        | inr o ↦ inr (inr (inl (right_false _ _ (le_false y x1 g), right_false _ _ (le_false y x2 o), both_true _ _ (le_true x2 y (omega arith)) (le_true y x3 high)))) ] ] ] ]
+
+not_between : (x y z : ℕ) → (nat_le x y && nat_le y z) ≡ false → (y < x) ⊎ (z < y)
+not_between x y z h = elim (order_cases y x) [
+    inl l ↦ inl l
+  | inr m ↦ elim (order_cases z y) [
+      inl l ↦ inr l
+    | inr n ↦ absurd (true≢false (sym (both_true _ _ (le_true x y (low m)) (le_true y z (high n))) ∙ h)) ] ]
+  where
+    low : (y ≡ x) ⊎ (x < y) → x ≤ y
+    low m = elim m [ inl e ↦ omega arith | inr l ↦ omega arith ]
+    high : (z ≡ y) ⊎ (y < z) → y ≤ z
+    high n = elim n [ inl e ↦ omega arith | inr l ↦ omega arith ]
+
+-- a child whose digit is one greater on an axis is the next cell there
+finer-up : (axis : ℕ) (pos ks zs : List ℕ) → axis < length ks → finer pos (up axis ks ++ zs) ≡ up axis (finer pos (ks ++ zs))
+finer-up axis pos [] zs h = absurd (omega arith)
+finer-up axis [] (k ∷ ks) zs h = none axis (k ∷ ks)
+  where
+    none : (i : ℕ) (js : List ℕ) → finer [] (up i js ++ zs) ≡ up i []
+    none i js = refl
+finer-up zero (x ∷ pos) (k ∷ ks) zs h = ap (λ y. y ∷ finer pos (ks ++ zs)) (omega arith)
+finer-up (suc axis) (x ∷ pos) (k ∷ ks) zs h = ap (λ ys. (3 * x + k) ∷ ys) (finer-up axis pos ks zs (omega arith))
+
+-- The cells around a vertex, some levels below a cell that has it within its bounds, follow each other as neighbours.
+within_chain : (axes : ℕ) (way : Way) (vertex : Place) → axes ≤ 4 → OnGrid axes vertex.level vertex → (m : ℕ) (cell : Place) → OnGrid axes cell.level cell → vertex.level ≡ deeper m cell.level
+    → ((axis : ℕ) → axis < axes → (slice_index cell.pos axis * 3 ^ m ≤ slice_index vertex.pos axis) × (slice_index vertex.pos axis ≤ (slice_index cell.pos axis + 1) * 3 ^ m))
+    → Chain (AreNeighbours axes) (within_cell axes way vertex m cell)
+within_chain axes way vertex four v zero cell c h closed = one (is_corner vertex cell)
+  where
+    one : (b : Bool) → Chain (AreNeighbours axes) (cond b (cell ∷ []) [])
+    one true = tt
+    one false = tt
+within_chain axes way vertex four v (suc m) cell c h closed =
+    let child = child_of axes way cell in
+    let ks = child_ks axes way cell in
+    let part = λ (ts : List ℕ). within_cell axes way vertex m (child ts) in
+    let test = λ (axis k : ℕ). nat_le ((3 * slice_index cell.pos axis + k) * 3 ^ m) (slice_index vertex.pos axis) && nat_le (slice_index vertex.pos axis) ((3 * slice_index cell.pos axis + (k + 1)) * 3 ^ m) in
+    let gs = map test (range_with_len 0 axes) in
+    let pick = λ (ts : List ℕ). picked gs (ks ts) in
+    let level : vertex.level ≡ deeper m (cell.level + 1) = h ∙ sym (deeper-suc m cell.level) ∙ ap (deeper m) (omega arith) in
+    let on : (ts : List ℕ) → Digits3 axes ts → OnGrid axes (child ts).level (child ts) = λ ts d. child_on_grid_at axes way cell ts four c d in
+    let index : (ts : List ℕ) (axis : ℕ) → axis < axes → Digits3 axes ts → slice_index (child ts).pos axis ≡ 3 * slice_index cell.pos axis + slice_index (ks ts) axis = λ ts axis a d. child_index axes way cell ts axis a (omega (arith, c.1)) d in
+    let bounds : (ts : List ℕ) → Digits3 axes ts → pick ts ≡ true → (axis : ℕ) → axis < axes → (slice_index (child ts).pos axis * 3 ^ m ≤ slice_index vertex.pos axis) × (slice_index vertex.pos axis ≤ (slice_index (child ts).pos axis + 1) * 3 ^ m) =
+        λ ts d p axis a. let t = picked_all test 0 axes (ks ts) (child_ks-below axes way cell ts d) p axis a in
+            in_bounds (slice_index cell.pos axis) (slice_index (ks ts) axis) (slice_index (child ts).pos axis) (slice_index vertex.pos axis) (3 ^ m) (index ts axis a d)
+                (subst (λ i. test i (slice_index (ks ts) axis) ≡ true) (let e : 0 + axis ≡ axis = omega arith in e) t) in
+    let mirror : (ts us : List ℕ) (axis : ℕ) → axis < axes → Digits3 axes ts → Digits3 axes us → pick ts ≡ true → pick us ≡ true → ks us ≡ up axis (ks ts) → part us ≡ map (up_cell axis) (reverse (part ts)) =
+        λ ts us axis a d e p q is.
+            let long : axis < length (ks ts) = omega (arith, length-digits axes (ks ts) (child_ks-below axes way cell ts d)) in
+            let next : child us ≡ up_cell axis (child ts) = ap (λ js. let k : Place = record { level = cell.level + 1; pos = finer cell.pos (js ++ replicate (4 - axes) 0) } in k) is
+                ∙ ap (λ ps. let k : Place = record { level = cell.level + 1; pos = ps } in k) (finer-up axis cell.pos (ks ts) (replicate (4 - axes) 0) long) in
+            let more : slice_index (child us).pos axis ≡ slice_index (child ts).pos axis + 1 =
+                omega (arith, index us axis a e, index ts axis a d, ap (λ js. slice_index js axis) is, get_or-set_same (ks ts) axis (slice_index (ks ts) axis + 1) 0 long) in
+            let plane : slice_index vertex.pos axis ≡ (slice_index (child ts).pos axis + 1) * 3 ^ m =
+                le_antisymm (bounds ts d p axis a).1 (subst (λ x. x * 3 ^ m ≤ slice_index vertex.pos axis) more (bounds us e q axis a).0) in
+            ap (within_cell axes way vertex m) next
+            ∙ sym (reverse-reverse (within_cell axes way vertex m (up_cell axis (child ts)))) ∙ ap reverse (sym (within_back axes way vertex m (up_cell axis (child ts))) ∙ within_up axes way axis vertex four a v m (child ts) (on ts d) level plane)
+            ∙ sym (map-reverse (up_cell axis) (part ts)) in
+    let picks = filter pick (digit_lists axes) in
+    let good = Each-filter (Digits3 axes) pick (digit_lists axes) (digit_lists_below axes) in
+    let narrow : Each Narrow gs = Each-range Narrow test 0 axes (λ axis l u.
+        let b = closed axis (omega arith) in
+        let s = pow-suc 3 m in
+        let z = pow_three m in
+        narrow_between ((3 * slice_index cell.pos axis + 0) * 3 ^ m) ((3 * slice_index cell.pos axis + 1) * 3 ^ m) ((3 * slice_index cell.pos axis + 2) * 3 ^ m) ((3 * slice_index cell.pos axis + 3) * 3 ^ m) (slice_index vertex.pos axis)
+            (omega arith) (omega arith) (omega arith) (below_bound (slice_index cell.pos axis) (slice_index vertex.pos axis) (3 ^ m) (3 ^ suc m) s b.0) (above_bound (slice_index cell.pos axis) (slice_index vertex.pos axis) (3 ^ m) (3 ^ suc m) s b.1)) in
+    let chain : Chain (λ ts us. Adjacent axes (ks ts) (ks us)) picks = chain_unmap _ (Adjacent axes) ks (λ x y r. r) picks
+        (subst (Chain (Adjacent axes)) (filter-map (picked gs) ks (digit_lists axes)) (passing_chain axes gs (flips_in axes way cell.pos) 0 (length-tests test 0 axes) (length-flips axes way cell.pos) narrow)) in
+    subst (Chain (AreNeighbours axes))
+        (sym (within_children axes way vertex m cell ∙ flat_map-filter part pick (digit_lists axes) (Each-weaker (Digits3 axes) _ (λ ts d other.
+            let o = picked_not test 0 axes (ks ts) (child_ks-below axes way cell ts d) other in
+            off_cell axes way m o.0 vertex (child ts) four o.1 v (on ts d) level
+                (out_of_bounds (slice_index cell.pos o.0) (slice_index (ks ts) o.0) (slice_index (child ts).pos o.0) (slice_index vertex.pos o.0) (3 ^ m) (index ts o.0 o.1 d)
+                    (subst (λ i. test i (slice_index (ks ts) o.0) ≡ false) (let e : 0 + o.0 ≡ o.0 = omega arith in e) o.2)))
+            (digit_lists axes) (digit_lists_below axes))))
+        (chain_flat axes part picks
+            (Each-weaker _ _ (λ ts d. within_chain axes way vertex four v m (child ts) (on ts d.0) level (bounds ts d.0 d.1)) picks good)
+            (chain_with _ _ (λ ts. Digits3 axes ts × (pick ts ≡ true)) (λ ts us d e r. (r.0, r.1, elim r.2 [
+                inl is ↦ inl (mirror ts us r.0 r.1 d.0 e.0 d.1 e.1 is)
+              | inr is ↦ inr (mirror us ts r.0 r.1 e.0 d.0 e.1 d.1 is) ])) picks good chain))
+  where
+    in_bounds : (p k q y w : ℕ) → q ≡ 3 * p + k → (nat_le ((3 * p + k) * w) y && nat_le y ((3 * p + (k + 1)) * w)) ≡ true → (q * w ≤ y) × (y ≤ (q + 1) * w)
+    in_bounds p k q y w e t =
+        (subst (λ z. z * w ≤ y) (sym e) (true_le _ _ (and_left _ _ t)),
+         subst (λ z. y ≤ z * w) (let f : 3 * p + (k + 1) ≡ q + 1 = omega arith in f) (true_le _ _ (and_right (nat_le ((3 * p + k) * w) y) _ t)))
+    out_of_bounds : (p k q y w : ℕ) → q ≡ 3 * p + k → (nat_le ((3 * p + k) * w) y && nat_le y ((3 * p + (k + 1)) * w)) ≡ false → (y < q * w) ⊎ ((q + 1) * w < y)
+    out_of_bounds p k q y w e t = elim (not_between ((3 * p + k) * w) y ((3 * p + (k + 1)) * w) t) [
+        inl l ↦ inl (subst (λ z. y < z * w) (sym e) l)
+      | inr l ↦ inr (subst (λ z. z * w < y) (let f : 3 * p + (k + 1) ≡ q + 1 = omega arith in f) l) ]
+    below_bound : (p y w u : ℕ) → u ≡ w * 3 → p * u ≤ y → (3 * p + 0) * w ≤ y
+    below_bound p y w u e l = let k : p * (w * 3) ≤ y = subst (λ z. p * z ≤ y) e l in omega arith
+    above_bound : (p y w u : ℕ) → u ≡ w * 3 → y ≤ (p + 1) * u → y ≤ (3 * p + 3) * w
+    above_bound p y w u e l = let k : y ≤ (p + 1) * (w * 3) = subst (λ z. y ≤ (p + 1) * z) e l in omega arith
+
+-- Around an inside vertex the cells follow each other as neighbours.
+pub around_chain : (axes : ℕ) (way : Way) (vertex : Place) → axes ≤ 4 → OnGrid axes vertex.level vertex → ((axis : ℕ) → axis < axes → slice_index vertex.pos axis ≤ 3 ^ vertex.level) → Chain (AreNeighbours axes) (around axes way vertex)
+around_chain axes way vertex four v inside =
+    subst (Chain (AreNeighbours axes)) (ap (filter (is_corner vertex)) (sym (append-nil (below axes way vertex.level root)) ∙ below_order axes way vertex.level 0
+            ∙ ap (order axes way) (let e : deeper vertex.level 0 ≡ vertex.level = omega (arith, deeper_is vertex.level 0) in e)))
+        (within_chain axes way vertex four v vertex.level root (root_on_grid axes four) (omega (arith, deeper_is vertex.level 0))
+            (λ axis a. let z = zero_at axis (omega arith) in (subst (λ p. p * 3 ^ vertex.level ≤ slice_index vertex.pos axis) (sym z) (omega arith), subst (λ p. slice_index vertex.pos axis ≤ (p + 1) * 3 ^ vertex.level) (sym z) (omega (arith, inside axis a)))))
+  where
+    zero_at : (axis : ℕ) → axis < 4 → slice_index (0 ∷ 0 ∷ 0 ∷ 0 ∷ []) axis ≡ 0
+    zero_at zero h = refl
+    zero_at (suc zero) h = refl
+    zero_at (suc (suc zero)) h = refl
+    zero_at (suc (suc (suc zero))) h = refl
+    zero_at (suc (suc (suc (suc axis)))) h = absurd (omega arith)
+
+chain_steps : {X : Type 0} (R : X → X → Type 0) (xs : List X) → Chain R xs → Each (λ s. R s.0 s.1) (steps xs)
+chain_steps R [] c = tt
+chain_steps R (x ∷ []) c = tt
+chain_steps R (x ∷ y ∷ xs) c = (c.0, chain_steps R (y ∷ xs) c.1)
+
+pub step_neighbours : (axes : ℕ) (way : Way) (vertex a b : Place) → axes ≤ 4 → OnGrid axes vertex.level vertex → ((axis : ℕ) → axis < axes → slice_index vertex.pos axis ≤ 3 ^ vertex.level) → is_step axes way vertex a b ≡ true → AreNeighbours axes a b
+step_neighbours axes way vertex a b four v inside t =
+    list_any-Each _ (λ s. AreNeighbours axes s.0 s.1) (AreNeighbours axes a b)
+        (λ s e r. subst₂ (AreNeighbours axes) (same s.0 a (and_left (is_same s.0 a) (is_same s.1 b) e)) (same s.1 b (and_right (is_same s.0 a) (is_same s.1 b) e)) r)
+        (steps (around axes way vertex)) t (chain_steps (AreNeighbours axes) (around axes way vertex) (around_chain axes way vertex four v inside))
+  where
+    same : (x y : Place) → is_same x y ≡ true → x ≡ y
+    same x y e = let k = is_same-true x y e in ap₂ (λ l p. let u : Place = record { level = l; pos = p } in u) k.0 k.1
