@@ -1,7 +1,7 @@
 -- Two cells that follow each other around a vertex share a face.
-use Rattle.std.proofs.Common.{◌≡◌, ℕ, zero, suc, ◌+◌, ◌-◌, ◌*◌, ◌/◌, ◌%◌, ◌^◌, ◌<◌, ◌≤◌, ◌⊎◌, Bool, true, false, cond, ◌&&◌, ◌||◌, ◌==◌, nat_le, List, [], ◌∷◌, ◌++◌, map, filter, reverse, length, get_or, set, replicate, slice_index, refl, sym, ap, ap₂, ◌∙◌, subst, subst₂, true≢false, inl, inr, pow-suc, append_assoc, append-nil, length-set, mul-le-mul_right, le_antisymm, arith}
+use Rattle.std.proofs.Common.{◌≡◌, ℕ, zero, suc, ◌+◌, ◌-◌, ◌*◌, ◌%◌, ◌^◌, ◌<◌, ◌≤◌, ◌⊎◌, Bool, true, false, cond, ◌&&◌, ◌||◌, ◌==◌, nat_le, List, [], ◌∷◌, ◌++◌, map, filter, reverse, length, replicate, slice_index, refl, sym, ap, ap₂, ◌∙◌, subst, subst₂, true≢false, inl, inr, pow-suc, append_assoc, append-nil, length-set, le_antisymm, arith}
 use Rattle.std.specs.List.{flat_map, range_with_len}
-use Rattle.std.proofs.lemmas.List.{get_or-set_same, drop-set-lt, map-append, reverse-append, reverse-reverse}
+use Rattle.std.proofs.lemmas.List.{get_or-set_same, drop-set-lt, map-append, reverse-reverse}
 use Rattle.std.proofs.lemmas.List.Elements.{filter-append}
 use Rattle.std.proofs.lemmas.Bool.Decides.{nat_tests}
 use Rattle.pe_base.specs.declared.place.Place.{Place}
@@ -9,9 +9,9 @@ use Rattle.pe_base.specs.declared.way.Way.{Way}
 use Rattle.pe_base.specs.Places.{root, finer}
 use Rattle.pe_base.specs.Curve.{digit_lists, mirrored, turned, children, order}
 use Rattle.pe_base.specs.Around.{is_corner_pos, is_corner, around, steps}
-use Rattle.pe_base.specs.Faces.{Touch, in_finest, is_same, is_step, loads, touched_for}
-use Rattle.pe_base.proofs.Lists.{Each, Each-all, Each-weaker, Each-map, Each-filter, map-map, map_same, flat_map_same, flat_map-map, flat_map-filter, map-flat_map, filter-flat_map, filter-map, filter_same, filter_none, map-reverse, filter-reverse, reverse-cons, reverse-flat_map}
-use Rattle.pe_base.proofs.Mirrors.{Digits3, complement, digit_lists_below, reverse-digit_lists, mirrored_even, mirrored_odd, even_or_odd, Pairs, Pairs-same, turned_complement, turned_across, turned_across-digit, up}
+use Rattle.pe_base.specs.Faces.{in_finest, is_same, is_step, loads, touched_for}
+use Rattle.pe_base.proofs.Lists.{Each, Each-all, Each-weaker, Each-filter, map-map, map_same, flat_map_same, flat_map-map, flat_map-filter, map-flat_map, filter-flat_map, filter-map, filter_same, filter_none, map-reverse, filter-reverse, reverse-cons, reverse-flat_map}
+use Rattle.pe_base.proofs.Mirrors.{Digits3, complement, digit_lists_below, reverse-digit_lists, mirrored_even, mirrored_odd, even_or_odd, Pairs-same, turned_complement, turned_across, turned_across-digit, up}
 use Rattle.pe_base.proofs.Children.{opposite, flips_in, flips_agree, length-flips, child_of, child_ks, child_ks-below, child_index, children_are, reverse-children, slice_index-below, length-digits}
 use Rattle.pe_base.proofs.Corners.{pow_three, same_tests}
 use Rattle.pe_base.proofs.FaceLists.{face_of, up_cell, is_child_at, Within, loads_within, off_plane}

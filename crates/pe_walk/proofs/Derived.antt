@@ -12,7 +12,8 @@ use Rattle.pe_base.specs.Curve.{order}
 use Rattle.pe_base.proofs.Ranks.{rank_of, top, order_rises}
 use Rattle.pe_base.proofs.Quiet.{Still, arriving_none, leaving_none}
 use Rattle.pe_walk.proofs.Outside.{before_rises, NoneAcross, outside_arriving, outside_leaving}
-use Rattle.pe_walk.specs.Laws.{facing, ShareFace, NeighboursAgree, FacesAreOneWay, OneFaceOnEach, Composition, BeneathUntouched, Counts, UnwalkedIsEmpty, LeafIsCorners}
+use Rattle.pe_walk.proofs.Steps.{inside_on_grid, step_crosses, step_in_corners, in_corners_only, out_corners_only}
+use Rattle.pe_walk.specs.Laws.{facing, ShareFace, NeighboursAgree, FacesAreOneWay, OneFaceOnEach, Composition, BeneathUntouched, Counts, UnwalkedIsEmpty, LeafIsCorners, StepsCrossFaces, StepsAreCorners, CornersAreSteps}
 use Rattle.pe_walk.proofs.Unwalked.{contains_in, in_contains, cell_four, unwalked_arriving, unwalked_leaving, leaf_arriving, leaf_leaving}
 
 neighbours_at : (axes : ℕ) (way : Way) (counts : Place → Bool) (levels axis side : ℕ) (cell neighbour : Place) → axes ≤ 4 → axis < axes → side < 2 → length cell.pos ≡ 4 → ShareFace (face_of axis side) cell neighbour
@@ -72,18 +73,6 @@ composition axes way counts levels axis parity cell dim a is_cell beneath = comp
 pub beneath_untouched : BeneathUntouched
 beneath_untouched axes way counts levels axis parity cell dim a is_cell beneath free = composes axes way counts levels axis parity cell dim.1 a (cell_four axes way cell dim.1 is_cell) (contains_in _ cell is_cell) beneath free
 
-all_zeros : (pos : List ℕ) → ((axis : ℕ) → slice_index pos axis ≡ 0) → pos ≡ replicate (length pos) 0
-all_zeros [] h = refl
-all_zeros (x ∷ pos) h = ap₂ (λ y ys. y ∷ ys) (h 0) (all_zeros pos (λ axis. h (suc axis)))
-
-zeros_behind : (n : ℕ) (pos : List ℕ) → ((axis : ℕ) → n ≤ axis → slice_index pos axis ≡ 0) → drop n pos ≡ replicate (length pos - n) 0
-zeros_behind zero pos h = all_zeros pos (λ axis. h axis (omega arith)) ∙ ap (λ k. replicate k 0) (let e : length pos ≡ length pos - 0 = omega arith in e)
-zeros_behind (suc n) [] h = ap (λ k. replicate k 0) (let e : 0 ≡ 0 - suc n = omega arith in e)
-zeros_behind (suc n) (x ∷ pos) h = zeros_behind n pos (λ axis l. h (suc axis) (omega arith)) ∙ ap (λ k. replicate k 0) (let e : length pos - n ≡ suc (length pos) - suc n = omega arith in e)
-
-inside_on_grid : (axes : ℕ) (vertex : Place) → IsInside axes vertex → OnGrid axes vertex.level vertex
-inside_on_grid axes vertex inside = (refl, inside.pos.four, zeros_behind axes vertex.pos inside.pos.rest ∙ ap (λ n. replicate (n - axes) 0) inside.pos.four)
-
 pub counts : Counts
 counts axes way levels vertex n dim inside deep =
     let on = inside_on_grid axes vertex inside in
@@ -95,6 +84,17 @@ counts axes way levels vertex n dim inside deep =
       stored = stored;
       pushed = ap (λ cells. flat_map (steps_from axes way vertex) (take n cells)) stored ∙ steps_from_cells axes way vertex n dim.1;
     }
+
+pub steps_cross_faces : StepsCrossFaces
+steps_cross_faces axes way vertex a b dim inside step = step_crosses axes way vertex a b dim.1 inside step
+
+pub steps_are_corners : StepsAreCorners
+steps_are_corners axes way counts vertex a b face dim inside counted step is_face share = step_in_corners axes way counts vertex a b face dim.1 inside counted step is_face share
+
+pub corners_are_steps : CornersAreSteps
+corners_are_steps axes way counts face cell vertex dim is_face is_cell =
+    let four = cell_four axes way cell dim.1 is_cell in
+    ((λ c. in_corners_only axes way counts face cell vertex dim.1 is_face four c), (λ c. out_corners_only axes way counts face cell vertex dim.1 is_face four c))
 
 pub unwalked_is_empty : UnwalkedIsEmpty
 unwalked_is_empty axes way walked counts levels face cell dim walk is_face is_cell none =

@@ -1,3 +1,4 @@
 pub mod Unwalked
 pub mod Outside
+pub mod Steps
 pub mod Derived

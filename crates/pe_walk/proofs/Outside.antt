@@ -59,7 +59,7 @@ none_child axes way walk face level cell ts four a b on l d at none i =
     (Each-In (λ c. In (parent level c) (order axes way level)) (across face (child_of axes walk cell ts)) (order axes way (suc level)) (parent_in axes way level four) i))
 
 -- both cells of a step are cells of the tree
-step_in : (axes : ℕ) (way : Way) (vertex a b : Place) → is_step axes way vertex a b ≡ true → In a (order axes way vertex.level) × In b (order axes way vertex.level)
+pub step_in : (axes : ℕ) (way : Way) (vertex a b : Place) → is_step axes way vertex a b ≡ true → In a (order axes way vertex.level) × In b (order axes way vertex.level)
 step_in axes way vertex a b t =
     let cells = order axes way vertex.level in
     list_any-Each _ (λ s. In s.0 cells × In s.1 cells) (In a cells × In b cells)

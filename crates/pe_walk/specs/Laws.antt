@@ -10,7 +10,7 @@ use Rattle.pe_base.specs.Dim.{IsDim}
 use Rattle.pe_base.specs.Places.{root, IsInside}
 use Rattle.pe_base.specs.Curve.{children, order}
 use Rattle.pe_base.specs.Around.{around, steps}
-use Rattle.pe_base.specs.Faces.{Face, across, stack_of, face_on, loads, stores, arriving, leaving, in_corners, out_corners, is_touched, Turns, TurnsApart, cell_turns, touched_for, steps_to, steps_from}
+use Rattle.pe_base.specs.Faces.{Face, across, stack_of, face_on, loads, stores, arriving, leaving, in_corners, out_corners, is_touched, is_step, Turns, TurnsApart, cell_turns, touched_for, steps_to, steps_from}
 
 -- a cell of the tree
 abbrev pub IsCell : ℕ → Way → Place → Type 0
@@ -79,6 +79,27 @@ pub record Counted (axes : ℕ) (way : Way) (levels : ℕ) (vertex : Place) (n :
 
 abbrev pub Counts : Type 0
 Counts = (axes : ℕ) (way : Way) (levels : ℕ) (vertex : Place) (n : ℕ) → IsDim axes → IsInside axes vertex → vertex.level ≤ levels → Counted axes way levels vertex n
+
+-- Each step around an inside vertex crosses one face, and no other lies between the two cells.
+pub record Crosses (axes : ℕ) (a b : Place) : Type 0 where
+  pub face : Face
+  pub is_face : IsFace axes face
+  pub shared : ShareFace face a b
+  pub alone : (other : Face) → IsFace axes other → ShareFace other a b → other ≡ face
+
+abbrev pub StepsCrossFaces : Type 0
+StepsCrossFaces = (axes : ℕ) (way : Way) (vertex a b : Place) → IsDim axes → IsInside axes vertex → is_step axes way vertex a b ≡ true → Crosses axes a b
+
+-- There the one cell leaves the vertex, and it arrives in the other, if it counts.
+abbrev pub StepsAreCorners : Type 0
+StepsAreCorners = (axes : ℕ) (way : Way) (counts : Place → Bool) (vertex a b : Place) (face : Face) → IsDim axes → IsInside axes vertex → counts vertex ≡ true → is_step axes way vertex a b ≡ true → IsFace axes face → ShareFace face a b
+    → Contains (out_corners axes way counts face a) vertex × Contains (in_corners axes way counts (facing face) b) vertex
+
+-- And a cell's own corners at a face are vertices of such steps alone.
+abbrev pub CornersAreSteps : Type 0
+CornersAreSteps = (axes : ℕ) (way : Way) (counts : Place → Bool) (face : Face) (cell vertex : Place) → IsDim axes → IsFace axes face → IsCell axes way cell
+    → (Contains (in_corners axes way counts face cell) vertex → (counts vertex ≡ true) × (is_step axes way vertex (across face cell) cell ≡ true))
+    × (Contains (out_corners axes way counts face cell) vertex → (counts vertex ≡ true) × (is_step axes way vertex cell (across face cell) ≡ true))
 
 -- Which cells of an adaptive grid are walked, and which vertices count there: a cell is walked only if its parent is,
 -- and all cells around a vertex that counts are.

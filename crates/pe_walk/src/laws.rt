@@ -5,10 +5,11 @@
 //! stack `composition` says that the list that a load or a child wants is on top, and what the stack holds afterwards;
 //! `neighbours_agree` is why, and says besides what one cell finds of another. `beneath_untouched` carries the values of
 //! all that waits beneath over each part of the walk, since no part touches what waits beneath its own lists.
+//! `steps` says that a load finds its vertex among the corners of just one face, or is its first, and likewise a store;
 //! `counts` turns loads and stores into pops and pushes, vertex by vertex. On an adaptive grid the same lists hold:
 //! `unwalked_is_empty` leaves out the cells that are not walked, and `leaf_is_corners` is the walk of a cell that has
 //! no walked children.
-ghost use Rattle.pe_walk.specs.Laws.{NeighboursAgree, FacesAreOneWay, OneFaceOnEach, Composition, BeneathUntouched, Counts, UnwalkedIsEmpty, LeafIsCorners};
+ghost use Rattle.pe_walk.specs.Laws.{NeighboursAgree, FacesAreOneWay, OneFaceOnEach, Composition, BeneathUntouched, Counts, UnwalkedIsEmpty, LeafIsCorners, StepsCrossFaces, StepsAreCorners, CornersAreSteps};
 
 /// What a cell leaves at a face is what arrives in its neighbour there.
 pub fn neighbours_agree()
@@ -35,6 +36,13 @@ pub fn beneath_untouched()
 /// The loads and stores of a vertex are its steps.
 pub fn counts()
     ensures counted { Counts }
+{}
+
+/// Each step around a vertex crosses one face. There one cell leaves the vertex, and it arrives in the other.
+pub fn steps()
+    ensures cross { StepsCrossFaces }
+    ensures corners { StepsAreCorners }
+    ensures only { CornersAreSteps }
 {}
 
 /// A cell that is not walked has empty lists.
