@@ -56,7 +56,7 @@ chain_mirror R f g [] h c d = tt
 chain_mirror R f g (m ∷ ms) h c d =
     let ends : map f (reverse (m ∷ ms)) ≡ map f (reverse ms) ++ f m ∷ [] = ap (map f) (reverse-cons m ms) ∙ map-append f (reverse ms) (m ∷ []) in
     subst (Chain R) (sym (append_assoc (map f (reverse ms)) (f m ∷ []) (g m ∷ map g ms)) ∙ ap (λ z. z ++ (g m ∷ map g ms)) (sym ends))
-        (chain_join R (map f (reverse ms)) (f m) (g m ∷ map g ms) (subst (Chain R) ends c) (h m, d))
+    (chain_join R (map f (reverse ms)) (f m) (g m ∷ map g ms) (subst (Chain R) ends c) (h m, d))
 
 -- two positions that differ by one on one axis
 abbrev pub Adjacent : ℕ → List ℕ → List ℕ → Type 0
@@ -86,8 +86,8 @@ passing n gs es b = filter (picked gs) (map (turned es b) (digit_lists n))
 passing_back : (n : ℕ) (gs : Tests) (es : List ℕ) (b c : ℕ) → (b + c) % 2 ≡ 1 → passing n gs es c ≡ reverse (passing n gs es b)
 passing_back n gs es b c h =
     ap (filter (picked gs)) (map_same (turned es c) (λ ts. turned es b (complement ts)) (digit_lists n) (Each-weaker (Digits3 n) _
-            (λ ts d. turned_complement 1 es es c b n ts (Pairs-same _ (λ e. omega arith) es) refl (omega arith) d) (digit_lists n) (digit_lists_below n))
-        ∙ sym (map-map (turned es b) complement (digit_lists n)) ∙ ap (map (turned es b)) (sym (reverse-digit_lists n)) ∙ map-reverse (turned es b) (digit_lists n))
+    (λ ts d. turned_complement 1 es es c b n ts (Pairs-same _ (λ e. omega arith) es) refl (omega arith) d) (digit_lists n) (digit_lists_below n))
+    ∙ sym (map-map (turned es b) complement (digit_lists n)) ∙ ap (map (turned es b)) (sym (reverse-digit_lists n)) ∙ map-reverse (turned es b) (digit_lists n))
     ∙ filter-reverse (picked gs) (map (turned es b) (digit_lists n))
 
 passing_block : (n : ℕ) (g : ℕ → Bool) (gs : Tests) (e : ℕ) (es : List ℕ) (b t : ℕ)
@@ -102,7 +102,7 @@ passing_block n g gs e es b t =
 
 passing_three : (n : ℕ) (g : ℕ → Bool) (gs : Tests) (e : ℕ) (es : List ℕ) (b : ℕ) → passing (suc n) (g ∷ gs) (e ∷ es) b
     ≡ cond (g (mirrored (e + b) 0)) (map (λ ks. mirrored (e + b) 0 ∷ ks) (passing n gs es (b + 0))) []
-      ++ (cond (g (mirrored (e + b) 1)) (map (λ ks. mirrored (e + b) 1 ∷ ks) (passing n gs es (b + 1))) [] ++ cond (g (mirrored (e + b) 2)) (map (λ ks. mirrored (e + b) 2 ∷ ks) (passing n gs es (b + 2))) [])
+    ++ (cond (g (mirrored (e + b) 1)) (map (λ ks. mirrored (e + b) 1 ∷ ks) (passing n gs es (b + 1))) [] ++ cond (g (mirrored (e + b) 2)) (map (λ ks. mirrored (e + b) 2 ∷ ks) (passing n gs es (b + 2))) [])
 passing_three n g gs e es b =
     let k = λ (t : ℕ). map (λ ts. t ∷ ts) (digit_lists n) in
     let f = turned (e ∷ es) b in
@@ -124,28 +124,36 @@ blocks_chain n k0 k1 k2 a b c l0 l1 l2 near next r1 r2 c0 c1 c2 narrow =
     let m = λ (k : ℕ) (l : List (List ℕ)). map (λ ks. k ∷ ks) l in
     let one : (k : ℕ) (l : List (List ℕ)) → Chain (Adjacent n) l → Chain (Adjacent (suc n)) (m k l) = λ k l h. chain_map (Adjacent n) (Adjacent (suc n)) (λ ks. k ∷ ks) (λ x y q. adjacent_behind n k x y q) l h in
     let two : (k j : ℕ) (l u : List (List ℕ)) → (j ≡ k + 1) ⊎ (k ≡ j + 1) → u ≡ reverse l → Chain (Adjacent n) l → Chain (Adjacent n) u → Chain (Adjacent (suc n)) (m k l ++ m j u) =
-        λ k j l u h r cl cu. let back : l ≡ reverse u = sym (reverse-reverse l) ∙ ap reverse (sym r) in
-            subst (λ z. Chain (Adjacent (suc n)) (m k z ++ m j u)) (sym back) (chain_mirror (Adjacent (suc n)) (λ ks. k ∷ ks) (λ ks. j ∷ ks) u (λ x. near_heads n k j x h) (one k (reverse u) (subst (Chain (Adjacent n)) back cl)) (one j u cu)) in
+    λ k j l u h r cl cu. let back : l ≡ reverse u = sym (reverse-reverse l) ∙ ap reverse (sym r) in
+    subst (λ z. Chain (Adjacent (suc n)) (m k z ++ m j u)) (sym back) (chain_mirror (Adjacent (suc n)) (λ ks. k ∷ ks) (λ ks. j ∷ ks) u (λ x. near_heads n k j x h) (one k (reverse u) (subst (Chain (Adjacent n)) back cl)) (one j u cu)) in
     elim narrow [
-        inl h ↦ rw (h.0, h.1, h.2) (subst (Chain (Adjacent (suc n))) (sym (append-nil (m k0 l0))) (one k0 l0 c0))
+      | inl h ↦ rw (h.0, h.1, h.2) (subst (Chain (Adjacent (suc n))) (sym (append-nil (m k0 l0))) (one k0 l0 c0))
       | inr narrow2 ↦ elim narrow2 [
-          inl h ↦ rw (h.0, h.1, h.2) (subst (Chain (Adjacent (suc n))) (sym (append-nil (m k1 l1))) (one k1 l1 c1))
+        | inl h ↦ rw (h.0, h.1, h.2) (subst (Chain (Adjacent (suc n))) (sym (append-nil (m k1 l1))) (one k1 l1 c1))
         | inr narrow3 ↦ elim narrow3 [
-            inl h ↦ rw (h.0, h.1, h.2) (one k2 l2 c2)
+          | inl h ↦ rw (h.0, h.1, h.2) (one k2 l2 c2)
           | inr narrow4 ↦ elim narrow4 [
-              inl h ↦ rw (h.0, h.1, h.2) (subst (λ z. Chain (Adjacent (suc n)) (m k0 l0 ++ z)) (sym (append-nil (m k1 l1))) (two k0 k1 l0 l1 near r1 c0 c1))
-            | inr h ↦ rw (h.0, h.1, h.2) (two k1 k2 l1 l2 next r2 c1 c2) ] ] ] ]
+            | inl h ↦ rw (h.0, h.1, h.2) (subst (λ z. Chain (Adjacent (suc n)) (m k0 l0 ++ z)) (sym (append-nil (m k1 l1))) (two k0 k1 l0 l1 near r1 c0 c1))
+            | inr h ↦ rw (h.0, h.1, h.2) (two k1 k2 l1 l2 next r2 c1 c2)
+          ]
+        ]
+      ]
+    ]
 
 narrow_back : (a b c : Bool) → NarrowAt a b c → NarrowAt c b a
 narrow_back a b c narrow = elim narrow [
-    inl h ↦ inr (inr (inl (h.2, h.1, h.0)))
+  | inl h ↦ inr (inr (inl (h.2, h.1, h.0)))
   | inr narrow2 ↦ elim narrow2 [
-      inl h ↦ inr (inl (h.2, h.1, h.0))
+    | inl h ↦ inr (inl (h.2, h.1, h.0))
     | inr narrow3 ↦ elim narrow3 [
-        inl h ↦ inl (h.2, h.1, h.0)
+      | inl h ↦ inl (h.2, h.1, h.0)
       | inr narrow4 ↦ elim narrow4 [
-          inl h ↦ inr (inr (inr (inr (h.2, h.1, h.0))))
-        | inr h ↦ inr (inr (inr (inl (h.2, h.1, h.0)))) ] ] ] ]
+        | inl h ↦ inr (inr (inr (inr (h.2, h.1, h.0))))
+        | inr h ↦ inr (inr (inr (inl (h.2, h.1, h.0))))
+      ]
+    ]
+  ]
+]
 
 -- The children that pass narrow tests on each axis follow each other as neighbours.
 passing_chain : (n : ℕ) (gs : Tests) (es : List ℕ) (b : ℕ) → length gs ≡ n → length es ≡ n → Each Narrow gs → Chain (Adjacent n) (passing n gs es b)
@@ -159,10 +167,11 @@ passing_chain (suc n) (g ∷ gs) (e ∷ es) b l k narrow =
     let r1 = passing_back n gs es (b + 0) (b + 1) (omega arith) in
     let r2 = passing_back n gs es (b + 1) (b + 2) (omega arith) in
     subst (Chain (Adjacent (suc n))) (sym (passing_three n g gs e es b)) (elim (even_or_odd (e + b)) [
-        inl even ↦ rw (mirrored_even (e + b) 0 even, mirrored_even (e + b) 1 even, mirrored_even (e + b) 2 even)
-            (blocks_chain n 0 1 2 (g 0) (g 1) (g 2) _ _ _ (inl (omega arith)) (inl (omega arith)) r1 r2 (c 0) (c 1) (c 2) narrow.0)
+      | inl even ↦ rw (mirrored_even (e + b) 0 even, mirrored_even (e + b) 1 even, mirrored_even (e + b) 2 even)
+          (blocks_chain n 0 1 2 (g 0) (g 1) (g 2) _ _ _ (inl (omega arith)) (inl (omega arith)) r1 r2 (c 0) (c 1) (c 2) narrow.0)
       | inr odd ↦ rw (mirrored_odd (e + b) 0 odd, mirrored_odd (e + b) 1 odd, mirrored_odd (e + b) 2 odd)
-            (blocks_chain n 2 1 0 (g 2) (g 1) (g 0) _ _ _ (inr (omega arith)) (inr (omega arith)) r1 r2 (c 0) (c 1) (c 2) (narrow_back (g 0) (g 1) (g 2) narrow.0)) ])
+          (blocks_chain n 2 1 0 (g 2) (g 1) (g 0) _ _ _ (inr (omega arith)) (inr (omega arith)) r1 r2 (c 0) (c 1) (c 2) (narrow_back (g 0) (g 1) (g 2) narrow.0))
+    ])
 
 -- the cells around a vertex some levels below a cell
 abbrev within_cell : ℕ → Way → Place → ℕ → Place → List Place
@@ -178,12 +187,12 @@ off_cell axes way m axis vertex cell four a v c h off =
     let finest = cell.level + m in
     sym (loads_below axes way m 0 cell.level vertex cell four v c h) ∙ ap (λ n. touched_for vertex (loads axes way n cell)) (let e : m + 0 ≡ m = omega arith in e)
     ∙ ap (map (λ t. t.cell)) (filter_none (λ t. is_same t.vertex vertex) (loads axes way m cell) (Each-weaker (Within finest axis (slice_index cell.pos axis * 3 ^ m) ((slice_index cell.pos axis + 1) * 3 ^ m)) _ (λ t w.
-        false_unless _ (λ same. let e = is_same-true t.vertex vertex same in
-            let x : slice_index t.vertex.pos axis ≡ slice_index vertex.pos axis = ap (λ p. slice_index p axis) e.1 in
-            let z : finest - t.vertex.level ≡ 0 = omega (arith, e.0, h, deeper_is m cell.level) in
-            let y : in_finest finest t.vertex.level (slice_index t.vertex.pos axis) ≡ slice_index vertex.pos axis * 1 = ap₂ (λ p k. p * 3 ^ k) x z in
-            elim off [ inl o ↦ omega (arith, w.0, w.1, y, o) | inr o ↦ omega (arith, w.0, w.1, y, o) ]))
-        (loads axes way m cell) (loads_within axes way axis finest m cell four a (omega (arith, c.1)) refl)))
+    false_unless _ (λ same. let e = is_same-true t.vertex vertex same in
+    let x : slice_index t.vertex.pos axis ≡ slice_index vertex.pos axis = ap (λ p. slice_index p axis) e.1 in
+    let z : finest - t.vertex.level ≡ 0 = omega (arith, e.0, h, deeper_is m cell.level) in
+    let y : in_finest finest t.vertex.level (slice_index t.vertex.pos axis) ≡ slice_index vertex.pos axis * 1 = ap₂ (λ p k. p * 3 ^ k) x z in
+    elim off [ inl o ↦ omega (arith, w.0, w.1, y, o) | inr o ↦ omega (arith, w.0, w.1, y, o) ]))
+    (loads axes way m cell) (loads_within axes way axis finest m cell four a (omega (arith, c.1)) refl)))
 
 -- a cell's part, by its children
 within_children : (axes : ℕ) (way : Way) (vertex : Place) (m : ℕ) (cell : Place) → within_cell axes way vertex (suc m) cell ≡ flat_map (λ ts. within_cell axes way vertex m (child_of axes way cell ts)) (digit_lists axes)
@@ -237,34 +246,36 @@ within_up axes way axis vertex four a v (suc m) cell c h plane =
     let up1 : slice_index next.pos axis ≡ slice_index cell.pos axis + 1 = get_or-set_same cell.pos axis (slice_index cell.pos axis + 1) 0 (omega (arith, c.1)) in
     within_children axes back vertex m next
     ∙ flat_map-filter near at' (digit_lists axes) (Each-weaker (Digits3 axes) _ (λ ts d other.
-        off_cell axes back m axis vertex (child_of axes back next ts) four a v (child_on_grid_at axes back next ts four c' d) level
-            ((subst (λ y. (y < slice_index (child_of axes back next ts).pos axis * 3 ^ m) ⊎ ((slice_index (child_of axes back next ts).pos axis + 1) * 3 ^ m < y))
-                (ap (λ y. (y + 0) * 3 ^ suc m) up1 ∙ (let e : (slice_index cell.pos axis + 1 + 0) * 3 ^ suc m ≡ (slice_index cell.pos axis + 1) * 3 ^ suc m = ap (λ y. y * 3 ^ suc m) (omega arith) in e) ∙ sym plane)
-                (off_plane (slice_index next.pos axis) (slice_index (child_of axes back next ts).pos axis) (slice_index (child_ks axes back next ts) axis) 0 m (child_index axes back next ts axis a (omega (arith, c'.1)) d)
-                    (slice_index-below axis axes (child_ks axes back next ts) a (child_ks-below axes back next ts d)) (omega arith) other))))
-        (digit_lists axes) (digit_lists_below axes))
+    off_cell axes back m axis vertex (child_of axes back next ts) four a v (child_on_grid_at axes back next ts four c' d) level
+    ((subst (λ y. (y < slice_index (child_of axes back next ts).pos axis * 3 ^ m) ⊎ ((slice_index (child_of axes back next ts).pos axis + 1) * 3 ^ m < y))
+    (ap (λ y. (y + 0) * 3 ^ suc m) up1 ∙ (let e : (slice_index cell.pos axis + 1 + 0) * 3 ^ suc m ≡ (slice_index cell.pos axis + 1) * 3 ^ suc m = ap (λ y. y * 3 ^ suc m) (omega arith) in e) ∙ sym plane)
+    (off_plane (slice_index next.pos axis) (slice_index (child_of axes back next ts).pos axis) (slice_index (child_ks axes back next ts) axis) 0 m (child_index axes back next ts axis a (omega (arith, c'.1)) d)
+    (slice_index-below axis axes (child_ks axes back next ts) a (child_ks-below axes back next ts d)) (omega arith) other))))
+    (digit_lists axes) (digit_lists_below axes))
     ∙ ap (flat_map near) (sym (filter_same at at' (digit_lists axes) (Each-weaker (Digits3 axes) _ (λ ts d.
-        at_other _ _ (slice_index-below axis axes (child_ks axes way cell ts) a (child_ks-below axes way cell ts d))
-            (turned_across-digit axis (flips_in axes way cell.pos) (flips_in axes back (up axis cell.pos)) 0 0 axes ts agree (length-flips axes way cell.pos) refl d)) (digit_lists axes) (digit_lists_below axes))))
+    at_other _ _ (slice_index-below axis axes (child_ks axes way cell ts) a (child_ks-below axes way cell ts d))
+    (turned_across-digit axis (flips_in axes way cell.pos) (flips_in axes back (up axis cell.pos)) 0 0 axes ts agree (length-flips axes way cell.pos) refl d)) (digit_lists axes) (digit_lists_below axes))))
     ∙ flat_map_same near (λ ts. map (up_cell axis) (far ts)) (filter at (digit_lists axes)) (Each-weaker _ _ (λ ts d.
-        ap (λ ps. let k : Place = record { level = cell.level + 1; pos = ps } in within_cell axes back vertex m k)
-            (turned_across axis (flips_in axes way cell.pos) (flips_in axes back (up axis cell.pos)) 0 0 axes ts (replicate (4 - axes) 0) cell.pos agree (length-flips axes way cell.pos) refl d.0 (when_two _ d.1))
-        ∙ within_up axes way axis vertex four a v m (child_of axes way cell ts) (child_on_grid_at axes way cell ts four c d.0) level
-            (plane ∙ child_plane (slice_index cell.pos axis) (slice_index (child_of axes way cell ts).pos axis) m (child_index axes way cell ts axis a (omega (arith, c.1)) d.0 ∙ ap (λ k. 3 * slice_index cell.pos axis + k) (when_two _ d.1))))
-        (filter at (digit_lists axes)) (Each-filter (Digits3 axes) at (digit_lists axes) (digit_lists_below axes)))
+    ap (λ ps. let k : Place = record { level = cell.level + 1; pos = ps } in within_cell axes back vertex m k)
+    (turned_across axis (flips_in axes way cell.pos) (flips_in axes back (up axis cell.pos)) 0 0 axes ts (replicate (4 - axes) 0) cell.pos agree (length-flips axes way cell.pos) refl d.0 (when_two _ d.1))
+    ∙ within_up axes way axis vertex four a v m (child_of axes way cell ts) (child_on_grid_at axes way cell ts four c d.0) level
+    (plane ∙ child_plane (slice_index cell.pos axis) (slice_index (child_of axes way cell ts).pos axis) m (child_index axes way cell ts axis a (omega (arith, c.1)) d.0 ∙ ap (λ k. 3 * slice_index cell.pos axis + k) (when_two _ d.1))))
+    (filter at (digit_lists axes)) (Each-filter (Digits3 axes) at (digit_lists axes) (digit_lists_below axes)))
     ∙ sym (map-flat_map (up_cell axis) far (filter at (digit_lists axes)))
     ∙ ap (map (up_cell axis)) (sym (flat_map-filter far at (digit_lists axes) (Each-weaker (Digits3 axes) _ (λ ts d other.
-        off_cell axes way m axis vertex (child_of axes way cell ts) four a v (child_on_grid_at axes way cell ts four c d) level
-            ((subst (λ y. (y < slice_index (child_of axes way cell ts).pos axis * 3 ^ m) ⊎ ((slice_index (child_of axes way cell ts).pos axis + 1) * 3 ^ m < y)) (sym plane)
-                (off_plane (slice_index cell.pos axis) (slice_index (child_of axes way cell ts).pos axis) (slice_index (child_ks axes way cell ts) axis) 1 m (child_index axes way cell ts axis a (omega (arith, c.1)) d)
-                    (slice_index-below axis axes (child_ks axes way cell ts) a (child_ks-below axes way cell ts d)) (omega arith) other))))
-        (digit_lists axes) (digit_lists_below axes)))
-        ∙ sym (within_children axes way vertex m cell))
+    off_cell axes way m axis vertex (child_of axes way cell ts) four a v (child_on_grid_at axes way cell ts four c d) level
+    ((subst (λ y. (y < slice_index (child_of axes way cell ts).pos axis * 3 ^ m) ⊎ ((slice_index (child_of axes way cell ts).pos axis + 1) * 3 ^ m < y)) (sym plane)
+    (off_plane (slice_index cell.pos axis) (slice_index (child_of axes way cell ts).pos axis) (slice_index (child_ks axes way cell ts) axis) 1 m (child_index axes way cell ts axis a (omega (arith, c.1)) d)
+    (slice_index-below axis axes (child_ks axes way cell ts) a (child_ks-below axes way cell ts d)) (omega arith) other))))
+    (digit_lists axes) (digit_lists_below axes)))
+    ∙ sym (within_children axes way vertex m cell))
   where
     at_other : (k j : ℕ) → k < 3 → j ≡ 2 - k → (k == 2) ≡ (j == 0)
     at_other k j h is = same_tests k 2 j 0 (λ e. omega arith) (λ e. omega arith)
+
     when_two : (k : ℕ) → (k == 2) ≡ true → k ≡ 2
     when_two k h = grind (arith, nat_tests)
+
     child_plane : (p q n : ℕ) → q ≡ 3 * p + 2 → (p + 1) * 3 ^ suc n ≡ (q + 1) * 3 ^ n
     child_plane p q n e = rw (e, pow-suc 3 n) (omega arith)
 
@@ -278,8 +289,9 @@ Mirrored axes xs ys = (axis : ℕ) × (axis < axes) × ((ys ≡ map (up_cell axi
 
 mirror_join : (axes : ℕ) (xs ys rest : List Place) → Mirrored axes xs ys → Chain (AreNeighbours axes) xs → Chain (AreNeighbours axes) (ys ++ rest) → Chain (AreNeighbours axes) (xs ++ (ys ++ rest))
 mirror_join axes xs ys rest m c d = elim m.2 [
-    inl e ↦ further (reverse xs) (sym (reverse-reverse xs)) e
-  | inr e ↦ nearer ys refl e ]
+  | inl e ↦ further (reverse xs) (sym (reverse-reverse xs)) e
+  | inr e ↦ nearer ys refl e
+]
   where
     further : (us : List Place) → xs ≡ reverse us → ys ≡ map (up_cell m.0) us → Chain (AreNeighbours axes) (xs ++ (ys ++ rest))
     further [] e f = subst (λ z. Chain (AreNeighbours axes) (z ++ (ys ++ rest))) (sym e) d
@@ -287,16 +299,17 @@ mirror_join axes xs ys rest m c d = elim m.2 [
         let k : xs ≡ reverse us ++ u ∷ [] = e ∙ reverse-cons u us in
         let n : ys ++ rest ≡ up_cell m.0 u ∷ (map (up_cell m.0) us ++ rest) = ap (λ z. z ++ rest) f in
         subst (Chain (AreNeighbours axes)) (sym (append_assoc (reverse us) (u ∷ []) (ys ++ rest)) ∙ ap (λ z. z ++ (ys ++ rest)) (sym k))
-            (chain_join (AreNeighbours axes) (reverse us) u (ys ++ rest) (subst (Chain (AreNeighbours axes)) k c)
-                (subst (λ z. Chain (AreNeighbours axes) (u ∷ z)) (sym n) ((m.0, m.1, inl refl), subst (Chain (AreNeighbours axes)) n d)))
+        (chain_join (AreNeighbours axes) (reverse us) u (ys ++ rest) (subst (Chain (AreNeighbours axes)) k c)
+        (subst (λ z. Chain (AreNeighbours axes) (u ∷ z)) (sym n) ((m.0, m.1, inl refl), subst (Chain (AreNeighbours axes)) n d)))
+
     nearer : (us : List Place) → ys ≡ us → xs ≡ map (up_cell m.0) (reverse ys) → Chain (AreNeighbours axes) (xs ++ (ys ++ rest))
     nearer [] e f = subst (λ z. Chain (AreNeighbours axes) (z ++ (ys ++ rest))) (sym (f ∙ ap (λ z. map (up_cell m.0) (reverse z)) e)) d
     nearer (u ∷ us) e f =
         let k : xs ≡ map (up_cell m.0) (reverse us) ++ up_cell m.0 u ∷ [] = f ∙ ap (λ z. map (up_cell m.0) (reverse z)) e ∙ ap (map (up_cell m.0)) (reverse-cons u us) ∙ map-append (up_cell m.0) (reverse us) (u ∷ []) in
         let n : ys ++ rest ≡ u ∷ (us ++ rest) = ap (λ z. z ++ rest) e in
         subst (Chain (AreNeighbours axes)) (sym (append_assoc (map (up_cell m.0) (reverse us)) (up_cell m.0 u ∷ []) (ys ++ rest)) ∙ ap (λ z. z ++ (ys ++ rest)) (sym k))
-            (chain_join (AreNeighbours axes) (map (up_cell m.0) (reverse us)) (up_cell m.0 u) (ys ++ rest) (subst (Chain (AreNeighbours axes)) k c)
-                (subst (λ z. Chain (AreNeighbours axes) (up_cell m.0 u ∷ z)) (sym n) ((m.0, m.1, inr refl), subst (Chain (AreNeighbours axes)) n d)))
+        (chain_join (AreNeighbours axes) (map (up_cell m.0) (reverse us)) (up_cell m.0 u) (ys ++ rest) (subst (Chain (AreNeighbours axes)) k c)
+        (subst (λ z. Chain (AreNeighbours axes) (up_cell m.0 u ∷ z)) (sym n) ((m.0, m.1, inr refl), subst (Chain (AreNeighbours axes)) n d)))
 
 chain_flat : {X : Type 0} (axes : ℕ) (f : X → List Place) (xs : List X) → Each (λ x. Chain (AreNeighbours axes) (f x)) xs → Chain (λ x y. Mirrored axes (f x) (f y)) xs → Chain (AreNeighbours axes) (flat_map f xs)
 chain_flat axes f [] e c = tt
@@ -356,24 +369,31 @@ order_cases x y = grind arith
 
 narrow_between : (x0 x1 x2 x3 y : ℕ) → x0 < x1 → x1 < x2 → x2 < x3 → x0 ≤ y → y ≤ x3 → NarrowAt (nat_le x0 y && nat_le y x1) (nat_le x1 y && nat_le y x2) (nat_le x2 y && nat_le y x3)
 narrow_between x0 x1 x2 x3 y a b c low high = elim (order_cases y x1) [
-    inl l ↦ inl (both_true _ _ (le_true x0 y low) (le_true y x1 (omega arith)), left_false _ _ (le_false x1 y l), left_false _ _ (le_false x2 y (omega arith)))
+  | inl l ↦ inl (both_true _ _ (le_true x0 y low) (le_true y x1 (omega arith)), left_false _ _ (le_false x1 y l), left_false _ _ (le_false x2 y (omega arith)))
   | inr m ↦ elim m [
-      inl e ↦ inr (inr (inr (inl (both_true _ _ (le_true x0 y low) (le_true y x1 (omega arith)), both_true _ _ (le_true x1 y (omega arith)) (le_true y x2 (omega arith)), left_false _ _ (le_false x2 y (omega arith))))))
+    | inl e ↦ inr (inr (inr (inl (both_true _ _ (le_true x0 y low) (le_true y x1 (omega arith)), both_true _ _ (le_true x1 y (omega arith)) (le_true y x2 (omega arith)), left_false _ _ (le_false x2 y (omega arith))))))
     | inr g ↦ elim (order_cases y x2) [
-        inl l ↦ inr (inl (right_false _ _ (le_false y x1 g), both_true _ _ (le_true x1 y (omega arith)) (le_true y x2 (omega arith)), left_false _ _ (le_false x2 y l)))
+      | inl l ↦ inr (inl (right_false _ _ (le_false y x1 g), both_true _ _ (le_true x1 y (omega arith)) (le_true y x2 (omega arith)), left_false _ _ (le_false x2 y l)))
       | inr n ↦ elim n [
-          inl e ↦ inr (inr (inr (inr (right_false _ _ (le_false y x1 g), both_true _ _ (le_true x1 y (omega arith)) (le_true y x2 (omega arith)), both_true _ _ (le_true x2 y (omega arith)) (le_true y x3 high)))))
-        | inr o ↦ inr (inr (inl (right_false _ _ (le_false y x1 g), right_false _ _ (le_false y x2 o), both_true _ _ (le_true x2 y (omega arith)) (le_true y x3 high)))) ] ] ] ]
+        | inl e ↦ inr (inr (inr (inr (right_false _ _ (le_false y x1 g), both_true _ _ (le_true x1 y (omega arith)) (le_true y x2 (omega arith)), both_true _ _ (le_true x2 y (omega arith)) (le_true y x3 high)))))
+        | inr o ↦ inr (inr (inl (right_false _ _ (le_false y x1 g), right_false _ _ (le_false y x2 o), both_true _ _ (le_true x2 y (omega arith)) (le_true y x3 high))))
+      ]
+    ]
+  ]
+]
 
 not_between : (x y z : ℕ) → (nat_le x y && nat_le y z) ≡ false → (y < x) ⊎ (z < y)
 not_between x y z h = elim (order_cases y x) [
-    inl l ↦ inl l
+  | inl l ↦ inl l
   | inr m ↦ elim (order_cases z y) [
-      inl l ↦ inr l
-    | inr n ↦ absurd (true≢false (sym (both_true _ _ (le_true x y (low m)) (le_true y z (high n))) ∙ h)) ] ]
+    | inl l ↦ inr l
+    | inr n ↦ absurd (true≢false (sym (both_true _ _ (le_true x y (low m)) (le_true y z (high n))) ∙ h))
+  ]
+]
   where
     low : (y ≡ x) ⊎ (x < y) → x ≤ y
     low m = elim m [ inl e ↦ omega arith | inr l ↦ omega arith ]
+
     high : (z ≡ y) ⊎ (y < z) → y ≤ z
     high n = elim n [ inl e ↦ omega arith | inr l ↦ omega arith ]
 
@@ -407,54 +427,64 @@ within_chain axes way vertex four v (suc m) cell c h closed =
     let on : (ts : List ℕ) → Digits3 axes ts → OnGrid axes (child ts).level (child ts) = λ ts d. child_on_grid_at axes way cell ts four c d in
     let index : (ts : List ℕ) (axis : ℕ) → axis < axes → Digits3 axes ts → slice_index (child ts).pos axis ≡ 3 * slice_index cell.pos axis + slice_index (ks ts) axis = λ ts axis a d. child_index axes way cell ts axis a (omega (arith, c.1)) d in
     let bounds : (ts : List ℕ) → Digits3 axes ts → pick ts ≡ true → (axis : ℕ) → axis < axes → (slice_index (child ts).pos axis * 3 ^ m ≤ slice_index vertex.pos axis) × (slice_index vertex.pos axis ≤ (slice_index (child ts).pos axis + 1) * 3 ^ m) =
-        λ ts d p axis a. let t = picked_all test 0 axes (ks ts) (child_ks-below axes way cell ts d) p axis a in
-            in_bounds (slice_index cell.pos axis) (slice_index (ks ts) axis) (slice_index (child ts).pos axis) (slice_index vertex.pos axis) (3 ^ m) (index ts axis a d)
-                (subst (λ i. test i (slice_index (ks ts) axis) ≡ true) (let e : 0 + axis ≡ axis = omega arith in e) t) in
+    λ ts d p axis a. let t = picked_all test 0 axes (ks ts) (child_ks-below axes way cell ts d) p axis a in
+    in_bounds (slice_index cell.pos axis) (slice_index (ks ts) axis) (slice_index (child ts).pos axis) (slice_index vertex.pos axis) (3 ^ m) (index ts axis a d)
+    (subst (λ i. test i (slice_index (ks ts) axis) ≡ true) (let e : 0 + axis ≡ axis = omega arith in e) t) in
     let mirror : (ts us : List ℕ) (axis : ℕ) → axis < axes → Digits3 axes ts → Digits3 axes us → pick ts ≡ true → pick us ≡ true → ks us ≡ up axis (ks ts) → part us ≡ map (up_cell axis) (reverse (part ts)) =
-        λ ts us axis a d e p q is.
-            let long : axis < length (ks ts) = omega (arith, length-digits axes (ks ts) (child_ks-below axes way cell ts d)) in
-            let next : child us ≡ up_cell axis (child ts) = ap (λ js. let k : Place = record { level = cell.level + 1; pos = finer cell.pos (js ++ replicate (4 - axes) 0) } in k) is
-                ∙ ap (λ ps. let k : Place = record { level = cell.level + 1; pos = ps } in k) (finer-up axis cell.pos (ks ts) (replicate (4 - axes) 0) long) in
-            let more : slice_index (child us).pos axis ≡ slice_index (child ts).pos axis + 1 =
-                omega (arith, index us axis a e, index ts axis a d, ap (λ js. slice_index js axis) is, get_or-set_same (ks ts) axis (slice_index (ks ts) axis + 1) 0 long) in
-            let plane : slice_index vertex.pos axis ≡ (slice_index (child ts).pos axis + 1) * 3 ^ m =
-                le_antisymm (bounds ts d p axis a).1 (subst (λ x. x * 3 ^ m ≤ slice_index vertex.pos axis) more (bounds us e q axis a).0) in
-            ap (within_cell axes way vertex m) next
-            ∙ sym (reverse-reverse (within_cell axes way vertex m (up_cell axis (child ts)))) ∙ ap reverse (sym (within_back axes way vertex m (up_cell axis (child ts))) ∙ within_up axes way axis vertex four a v m (child ts) (on ts d) level plane)
-            ∙ sym (map-reverse (up_cell axis) (part ts)) in
+    λ ts us axis a d e p q is.
+    let long : axis < length (ks ts) = omega (arith, length-digits axes (ks ts) (child_ks-below axes way cell ts d)) in
+    let next : child us ≡ up_cell axis (child ts) = ap (λ js. let k : Place = record { level = cell.level + 1; pos = finer cell.pos (js ++ replicate (4 - axes) 0) } in k) is
+    ∙ ap (λ ps. let k : Place = record { level = cell.level + 1; pos = ps } in k) (finer-up axis cell.pos (ks ts) (replicate (4 - axes) 0) long) in
+    let more : slice_index (child us).pos axis ≡ slice_index (child ts).pos axis + 1 =
+    omega (arith, index us axis a e, index ts axis a d, ap (λ js. slice_index js axis) is, get_or-set_same (ks ts) axis (slice_index (ks ts) axis + 1) 0 long) in
+    let plane : slice_index vertex.pos axis ≡ (slice_index (child ts).pos axis + 1) * 3 ^ m =
+    le_antisymm (bounds ts d p axis a).1 (subst (λ x. x * 3 ^ m ≤ slice_index vertex.pos axis) more (bounds us e q axis a).0) in
+    ap (within_cell axes way vertex m) next
+    ∙ sym (reverse-reverse (within_cell axes way vertex m (up_cell axis (child ts)))) ∙ ap reverse (sym (within_back axes way vertex m (up_cell axis (child ts))) ∙ within_up axes way axis vertex four a v m (child ts) (on ts d) level plane)
+    ∙ sym (map-reverse (up_cell axis) (part ts)) in
     let picks = filter pick (digit_lists axes) in
     let good = Each-filter (Digits3 axes) pick (digit_lists axes) (digit_lists_below axes) in
     let narrow : Each Narrow gs = Each-range Narrow test 0 axes (λ axis l u.
-        let b = closed axis (omega arith) in
-        let s = pow-suc 3 m in
-        let z = pow_three m in
-        narrow_between ((3 * slice_index cell.pos axis + 0) * 3 ^ m) ((3 * slice_index cell.pos axis + 1) * 3 ^ m) ((3 * slice_index cell.pos axis + 2) * 3 ^ m) ((3 * slice_index cell.pos axis + 3) * 3 ^ m) (slice_index vertex.pos axis)
-            (omega arith) (omega arith) (omega arith) (below_bound (slice_index cell.pos axis) (slice_index vertex.pos axis) (3 ^ m) (3 ^ suc m) s b.0) (above_bound (slice_index cell.pos axis) (slice_index vertex.pos axis) (3 ^ m) (3 ^ suc m) s b.1)) in
+    let b = closed axis (omega arith) in
+    let s = pow-suc 3 m in
+    let z = pow_three m in
+    narrow_between ((3 * slice_index cell.pos axis + 0) * 3 ^ m) ((3 * slice_index cell.pos axis + 1) * 3 ^ m) ((3 * slice_index cell.pos axis + 2) * 3 ^ m) ((3 * slice_index cell.pos axis + 3) * 3 ^ m) (slice_index vertex.pos axis)
+    (omega arith) (omega arith) (omega arith) (below_bound (slice_index cell.pos axis) (slice_index vertex.pos axis) (3 ^ m) (3 ^ suc m) s b.0) (above_bound (slice_index cell.pos axis) (slice_index vertex.pos axis) (3 ^ m) (3 ^ suc m) s b.1)) in
     let chain : Chain (λ ts us. Adjacent axes (ks ts) (ks us)) picks = chain_unmap _ (Adjacent axes) ks (λ x y r. r) picks
-        (subst (Chain (Adjacent axes)) (filter-map (picked gs) ks (digit_lists axes)) (passing_chain axes gs (flips_in axes way cell.pos) 0 (length-tests test 0 axes) (length-flips axes way cell.pos) narrow)) in
+    (subst (Chain (Adjacent axes)) (filter-map (picked gs) ks (digit_lists axes)) (passing_chain axes gs (flips_in axes way cell.pos) 0 (length-tests test 0 axes) (length-flips axes way cell.pos) narrow)) in
     subst (Chain (AreNeighbours axes))
-        (sym (within_children axes way vertex m cell ∙ flat_map-filter part pick (digit_lists axes) (Each-weaker (Digits3 axes) _ (λ ts d other.
-            let o = picked_not test 0 axes (ks ts) (child_ks-below axes way cell ts d) other in
-            off_cell axes way m o.0 vertex (child ts) four o.1 v (on ts d) level
-                (out_of_bounds (slice_index cell.pos o.0) (slice_index (ks ts) o.0) (slice_index (child ts).pos o.0) (slice_index vertex.pos o.0) (3 ^ m) (index ts o.0 o.1 d)
-                    (subst (λ i. test i (slice_index (ks ts) o.0) ≡ false) (let e : 0 + o.0 ≡ o.0 = omega arith in e) o.2)))
-            (digit_lists axes) (digit_lists_below axes))))
-        (chain_flat axes part picks
-            (Each-weaker _ _ (λ ts d. within_chain axes way vertex four v m (child ts) (on ts d.0) level (bounds ts d.0 d.1)) picks good)
-            (chain_with _ _ (λ ts. Digits3 axes ts × (pick ts ≡ true)) (λ ts us d e r. (r.0, r.1, elim r.2 [
-                inl is ↦ inl (mirror ts us r.0 r.1 d.0 e.0 d.1 e.1 is)
-              | inr is ↦ inr (mirror us ts r.0 r.1 e.0 d.0 e.1 d.1 is) ])) picks good chain))
+    (sym (within_children axes way vertex m cell ∙ flat_map-filter part pick (digit_lists axes) (Each-weaker (Digits3 axes) _ (λ ts d other.
+    let o = picked_not test 0 axes (ks ts) (child_ks-below axes way cell ts d) other in
+    off_cell axes way m o.0 vertex (child ts) four o.1 v (on ts d) level
+    (out_of_bounds (slice_index cell.pos o.0) (slice_index (ks ts) o.0) (slice_index (child ts).pos o.0) (slice_index vertex.pos o.0) (3 ^ m) (index ts o.0 o.1 d)
+    (subst (λ i. test i (slice_index (ks ts) o.0) ≡ false) (let e : 0 + o.0 ≡ o.0 = omega arith in e) o.2)))
+    (digit_lists axes) (digit_lists_below axes))))
+    (chain_flat axes part picks
+    (Each-weaker _ _ (λ ts d. within_chain axes way vertex four v m (child ts) (on ts d.0) level (bounds ts d.0 d.1)) picks good)
+    (chain_with _ _ (λ ts. Digits3 axes ts × (pick ts ≡ true)) (λ ts us d e r. (
+      r.0,
+      r.1,
+      elim r.2 [
+        | inl is ↦ inl (mirror ts us r.0 r.1 d.0 e.0 d.1 e.1 is)
+        | inr is ↦ inr (mirror us ts r.0 r.1 e.0 d.0 e.1 d.1 is)
+      ],
+    )) picks good chain))
   where
     in_bounds : (p k q y w : ℕ) → q ≡ 3 * p + k → (nat_le ((3 * p + k) * w) y && nat_le y ((3 * p + (k + 1)) * w)) ≡ true → (q * w ≤ y) × (y ≤ (q + 1) * w)
-    in_bounds p k q y w e t =
-        (subst (λ z. z * w ≤ y) (sym e) (true_le _ _ (and_left _ _ t)),
-         subst (λ z. y ≤ z * w) (let f : 3 * p + (k + 1) ≡ q + 1 = omega arith in f) (true_le _ _ (and_right (nat_le ((3 * p + k) * w) y) _ t)))
+    in_bounds p k q y w e t = (
+      subst (λ z. z * w ≤ y) (sym e) (true_le _ _ (and_left _ _ t)),
+      subst (λ z. y ≤ z * w) (let f : 3 * p + (k + 1) ≡ q + 1 = omega arith in f) (true_le _ _ (and_right (nat_le ((3 * p + k) * w) y) _ t)),
+    )
+
     out_of_bounds : (p k q y w : ℕ) → q ≡ 3 * p + k → (nat_le ((3 * p + k) * w) y && nat_le y ((3 * p + (k + 1)) * w)) ≡ false → (y < q * w) ⊎ ((q + 1) * w < y)
     out_of_bounds p k q y w e t = elim (not_between ((3 * p + k) * w) y ((3 * p + (k + 1)) * w) t) [
-        inl l ↦ inl (subst (λ z. y < z * w) (sym e) l)
-      | inr l ↦ inr (subst (λ z. z * w < y) (let f : 3 * p + (k + 1) ≡ q + 1 = omega arith in f) l) ]
+      | inl l ↦ inl (subst (λ z. y < z * w) (sym e) l)
+      | inr l ↦ inr (subst (λ z. z * w < y) (let f : 3 * p + (k + 1) ≡ q + 1 = omega arith in f) l)
+    ]
+
     below_bound : (p y w u : ℕ) → u ≡ w * 3 → p * u ≤ y → (3 * p + 0) * w ≤ y
     below_bound p y w u e l = let k : p * (w * 3) ≤ y = subst (λ z. p * z ≤ y) e l in omega arith
+
     above_bound : (p y w u : ℕ) → u ≡ w * 3 → y ≤ (p + 1) * u → y ≤ (3 * p + 3) * w
     above_bound p y w u e l = let k : y ≤ (p + 1) * (w * 3) = subst (λ z. y ≤ (p + 1) * z) e l in omega arith
 
@@ -462,9 +492,9 @@ within_chain axes way vertex four v (suc m) cell c h closed =
 pub around_chain : (axes : ℕ) (way : Way) (vertex : Place) → axes ≤ 4 → OnGrid axes vertex.level vertex → ((axis : ℕ) → axis < axes → slice_index vertex.pos axis ≤ 3 ^ vertex.level) → Chain (AreNeighbours axes) (around axes way vertex)
 around_chain axes way vertex four v inside =
     subst (Chain (AreNeighbours axes)) (ap (filter (is_corner vertex)) (sym (append-nil (below axes way vertex.level root)) ∙ below_order axes way vertex.level 0
-            ∙ ap (order axes way) (let e : deeper vertex.level 0 ≡ vertex.level = omega (arith, deeper_is vertex.level 0) in e)))
-        (within_chain axes way vertex four v vertex.level root (root_on_grid axes four) (omega (arith, deeper_is vertex.level 0))
-            (λ axis a. let z = zero_at axis (omega arith) in (subst (λ p. p * 3 ^ vertex.level ≤ slice_index vertex.pos axis) (sym z) (omega arith), subst (λ p. slice_index vertex.pos axis ≤ (p + 1) * 3 ^ vertex.level) (sym z) (omega (arith, inside axis a)))))
+    ∙ ap (order axes way) (let e : deeper vertex.level 0 ≡ vertex.level = omega (arith, deeper_is vertex.level 0) in e)))
+    (within_chain axes way vertex four v vertex.level root (root_on_grid axes four) (omega (arith, deeper_is vertex.level 0))
+    (λ axis a. let z = zero_at axis (omega arith) in (subst (λ p. p * 3 ^ vertex.level ≤ slice_index vertex.pos axis) (sym z) (omega arith), subst (λ p. slice_index vertex.pos axis ≤ (p + 1) * 3 ^ vertex.level) (sym z) (omega (arith, inside axis a)))))
   where
     zero_at : (axis : ℕ) → axis < 4 → slice_index (0 ∷ 0 ∷ 0 ∷ 0 ∷ []) axis ≡ 0
     zero_at zero h = refl
@@ -481,8 +511,8 @@ chain_steps R (x ∷ y ∷ xs) c = (c.0, chain_steps R (y ∷ xs) c.1)
 pub step_neighbours : (axes : ℕ) (way : Way) (vertex a b : Place) → axes ≤ 4 → OnGrid axes vertex.level vertex → ((axis : ℕ) → axis < axes → slice_index vertex.pos axis ≤ 3 ^ vertex.level) → is_step axes way vertex a b ≡ true → AreNeighbours axes a b
 step_neighbours axes way vertex a b four v inside t =
     list_any-Each _ (λ s. AreNeighbours axes s.0 s.1) (AreNeighbours axes a b)
-        (λ s e r. subst₂ (AreNeighbours axes) (same s.0 a (and_left (is_same s.0 a) (is_same s.1 b) e)) (same s.1 b (and_right (is_same s.0 a) (is_same s.1 b) e)) r)
-        (steps (around axes way vertex)) t (chain_steps (AreNeighbours axes) (around axes way vertex) (around_chain axes way vertex four v inside))
+    (λ s e r. subst₂ (AreNeighbours axes) (same s.0 a (and_left (is_same s.0 a) (is_same s.1 b) e)) (same s.1 b (and_right (is_same s.0 a) (is_same s.1 b) e)) r)
+    (steps (around axes way vertex)) t (chain_steps (AreNeighbours axes) (around axes way vertex) (around_chain axes way vertex four v inside))
   where
     same : (x y : Place) → is_same x y ≡ true → x ≡ y
     same x y e = let k = is_same-true x y e in ap₂ (λ l p. let u : Place = record { level = l; pos = p } in u) k.0 k.1

@@ -1,13 +1,12 @@
 -- The laws, from the lemmas on lists of faces.
-use Rattle.std.proofs.Common.{◌≡◌, ℕ, zero, suc, ◌+◌, ◌-◌, ◌<◌, ◌≤◌, Bool, List, [], ◌∷◌, take, drop, replicate, length, slice_index, refl, sym, ap, ap₂, ◌∙◌, subst, length-set, ◌⊎◌, inl, inr, slice_set, arith}
+use Rattle.std.proofs.Common.{◌≡◌, ℕ, zero, suc, ◌+◌, ◌-◌, ◌<◌, ◌≤◌, Bool, List, [], ◌∷◌, take, length, slice_index, refl, sym, ap, ◌∙◌, subst, length-set, ◌⊎◌, inl, inr, slice_set, arith}
 use Rattle.std.specs.List.{flat_map}
 use Rattle.pe_base.specs.declared.place.Place.{Place}
 use Rattle.pe_base.specs.declared.way.Way.{Way}
-use Rattle.pe_base.specs.Places.{IsInside}
 use Rattle.pe_base.specs.Faces.{across, arriving, leaving, steps_to, steps_from}
 use Rattle.pe_base.proofs.FaceLists.{face_of, across-up, leaving-up, leaving-down, leaving_is}
 use Rattle.pe_base.proofs.Composition.{composes, composes_any}
-use Rattle.pe_base.proofs.Counts.{OnGrid, steps_to_cells, steps_from_cells, loaded_for_around, stored_for_around}
+use Rattle.pe_base.proofs.Counts.{steps_to_cells, steps_from_cells, loaded_for_around, stored_for_around}
 use Rattle.pe_base.specs.Curve.{order}
 use Rattle.pe_base.proofs.Ranks.{rank_of, top, order_rises}
 use Rattle.pe_base.proofs.Quiet.{Still, arriving_none, leaving_none}
