@@ -39,7 +39,7 @@ turned-each [] b ts e = tt
 turned-each (f ∷ es) b [] e = tt
 turned-each (f ∷ es) b (t ∷ ts) e = (mirrored_below (f + b) t e.0, turned-each es (b + t) ts e.1)
 
-rests-each : (pos : List ℕ) → Each (λ t. t < 3) (rests pos)
+pub rests-each : (pos : List ℕ) → Each (λ t. t < 3) (rests pos)
 rests-each [] = tt
 rests-each (x ∷ pos) = (omega arith, rests-each pos)
 
@@ -187,7 +187,7 @@ length-turned [] b ts = omega arith
 length-turned (e ∷ es) b [] = omega arith
 length-turned (e ∷ es) b (t ∷ ts) = omega (arith, length-turned es (b + t) ts)
 
-digits-take : (n : ℕ) (ts : List ℕ) → n ≤ length ts → Each (λ t. t < 3) ts → Digits3 n (take n ts)
+pub digits-take : (n : ℕ) (ts : List ℕ) → n ≤ length ts → Each (λ t. t < 3) ts → Digits3 n (take n ts)
 digits-take zero ts l e = tt
 digits-take (suc n) [] l e = absurd (omega arith)
 digits-take (suc n) (t ∷ ts) l e = (e.0, digits-take n ts (omega arith) e.1)

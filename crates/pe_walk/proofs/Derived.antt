@@ -11,8 +11,9 @@ use Rattle.pe_base.specs.Curve.{order}
 use Rattle.pe_base.proofs.Ranks.{rank_of, top, order_rises}
 use Rattle.pe_base.proofs.Quiet.{Still, arriving_none, leaving_none}
 use Rattle.pe_walk.proofs.Outside.{before_rises, NoneAcross, outside_arriving, outside_leaving}
+use Rattle.pe_walk.proofs.Trees.{root_is_cell, child_is_cell, place_is_cell, cell_position}
 use Rattle.pe_walk.proofs.Steps.{inside_on_grid, step_crosses, step_in_corners, in_corners_only, out_corners_only}
-use Rattle.pe_walk.specs.Laws.{facing, ShareFace, NeighboursAgree, FacesAreOneWay, OneFaceOnEach, Composition, BeneathUntouched, Counts, UnwalkedIsEmpty, LeafIsCorners, StepsCrossFaces, StepsAreCorners, CornersAreSteps}
+use Rattle.pe_walk.specs.Laws.{CellsOfTheTree, facing, ShareFace, NeighboursAgree, FacesAreOneWay, OneFaceOnEach, Composition, BeneathUntouched, Counts, UnwalkedIsEmpty, LeafIsCorners, StepsCrossFaces, StepsAreCorners, CornersAreSteps}
 use Rattle.pe_walk.proofs.Unwalked.{contains_in, in_contains, cell_four, unwalked_arriving, unwalked_leaving, leaf_arriving, leaf_leaving}
 
 neighbours_at : (axes : ℕ) (way : Way) (counts : Place → Bool) (levels axis side : ℕ) (cell neighbour : Place) → axes ≤ 4 → axis < axes → side < 2 → length cell.pos ≡ 4 → ShareFace (face_of axis side) cell neighbour
@@ -83,6 +84,13 @@ counts axes way levels vertex n dim inside deep =
       stored = stored;
       pushed = ap (λ cells. flat_map (steps_from axes way vertex) (take n cells)) stored ∙ steps_from_cells axes way vertex n dim.1;
     }
+
+pub cells_of_the_tree : CellsOfTheTree
+cells_of_the_tree axes way dim = record {
+    root_is_cell = root_is_cell axes way;
+    child_is_cell = λ cell child is c. child_is_cell axes way cell child dim.1 is c;
+    place_is_cell = λ cell is. place_is_cell axes way cell dim.1 is;
+    cell_is_place = λ cell is. cell_position axes way cell dim.1 is }
 
 pub steps_cross_faces : StepsCrossFaces
 steps_cross_faces axes way vertex a b dim inside step = step_crosses axes way vertex a b dim.1 inside step

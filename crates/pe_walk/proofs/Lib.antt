@@ -1,4 +1,5 @@
 pub mod Unwalked
 pub mod Outside
 pub mod Steps
+pub mod Trees
 pub mod Derived

@@ -19,11 +19,11 @@ use Rattle.pe_walk.specs.Laws.{IsFace, facing, ShareFace, Crosses}
 use Rattle.pe_walk.proofs.Unwalked.{contains_in, in_contains}
 use Rattle.pe_walk.proofs.Outside.{step_in}
 
-all_zeros : (pos : List ℕ) → ((axis : ℕ) → slice_index pos axis ≡ 0) → pos ≡ replicate (length pos) 0
+pub all_zeros : (pos : List ℕ) → ((axis : ℕ) → slice_index pos axis ≡ 0) → pos ≡ replicate (length pos) 0
 all_zeros [] h = refl
 all_zeros (x ∷ pos) h = ap₂ (λ y ys. y ∷ ys) (h 0) (all_zeros pos (λ axis. h (suc axis)))
 
-zeros_behind : (n : ℕ) (pos : List ℕ) → ((axis : ℕ) → n ≤ axis → slice_index pos axis ≡ 0) → drop n pos ≡ replicate (length pos - n) 0
+pub zeros_behind : (n : ℕ) (pos : List ℕ) → ((axis : ℕ) → n ≤ axis → slice_index pos axis ≡ 0) → drop n pos ≡ replicate (length pos - n) 0
 zeros_behind zero pos h = all_zeros pos (λ axis. h axis (omega arith)) ∙ ap (λ k. replicate k 0) (let e : length pos ≡ length pos - 0 = omega arith in e)
 zeros_behind (suc n) [] h = ap (λ k. replicate k 0) (let e : 0 ≡ 0 - suc n = omega arith in e)
 zeros_behind (suc n) (x ∷ pos) h = zeros_behind n pos (λ axis l. h (suc axis) (omega arith)) ∙ ap (λ k. replicate k 0) (let e : length pos - n ≡ suc (length pos) - suc n = omega arith in e)
@@ -65,7 +65,7 @@ corner_coordinate zero (q ∷ qs) (p ∷ ps) h t = both q p (and_left (q == p ||
         cases c d k = grind (arith, nat_tests)
 corner_coordinate (suc axis) (q ∷ qs) (p ∷ ps) h t = corner_coordinate axis qs ps (omega arith) (and_right (q == p || q == p + 1) _ t)
 
-order_on_grid : (axes : ℕ) (way : Way) (level : ℕ) → axes ≤ 4 → Each (OnGrid axes level) (order axes way level)
+pub order_on_grid : (axes : ℕ) (way : Way) (level : ℕ) → axes ≤ 4 → Each (OnGrid axes level) (order axes way level)
 order_on_grid axes way zero four = (root_on_grid axes four, tt)
 order_on_grid axes way (suc level) four = Each-flat_map (OnGrid axes (suc level)) (children axes way) (order axes way level)
     (Each-weaker (OnGrid axes level) _ (λ c on. children_on_grid axes way level c four on) (order axes way level) (order_on_grid axes way level four))

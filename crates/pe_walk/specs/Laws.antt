@@ -2,12 +2,12 @@
 --
 -- They hold for each number of axes from two to four, each way, each number of levels below a cell, and each choice of
 -- the vertices that count. In a walk the vertices that are not hanging count.
-use Rattle.std.specs.Prelude.{◌≡◌, ℕ, suc, ◌+◌, ◌-◌, ◌*◌, ◌<◌, ◌≤◌, Bool, true, false, List, [], ◌++◌, take, length, slice_index_or}
+use Rattle.std.specs.Prelude.{◌≡◌, ℕ, suc, ◌+◌, ◌-◌, ◌*◌, ◌^◌, ◌<◌, ◌≤◌, Bool, true, false, List, [], ◌++◌, take, length, slice_index_or}
 use Rattle.std.specs.List.{flat_map, list_any, All, Contains}
 use Rattle.pe_base.specs.declared.place.Place.{Place}
 use Rattle.pe_base.specs.declared.way.Way.{Way}
 use Rattle.pe_base.specs.Dim.{IsDim}
-use Rattle.pe_base.specs.Places.{root, IsInside}
+use Rattle.pe_base.specs.Places.{root, IsPosition, IsInside}
 use Rattle.pe_base.specs.Curve.{children, order}
 use Rattle.pe_base.specs.Around.{around, steps}
 use Rattle.pe_base.specs.Faces.{Face, across, stack_of, face_on, loads, stores, arriving, leaving, in_corners, out_corners, is_touched, is_step, Turns, TurnsApart, cell_turns, touched_for, steps_to, steps_from}
@@ -15,6 +15,16 @@ use Rattle.pe_base.specs.Faces.{Face, across, stack_of, face_on, loads, stores, 
 -- a cell of the tree
 abbrev pub IsCell : ℕ → Way → Place → Type 0
 IsCell axes way cell = Contains (order axes way cell.level) cell
+
+-- The cells of the tree are the root and, of each of them, the children: they are the places of cells, of any level.
+pub record Tree (axes : ℕ) (way : Way) : Type 0 where
+  pub root_is_cell : IsCell axes way root
+  pub child_is_cell : (cell child : Place) → IsCell axes way cell → Contains (children axes way cell) child → IsCell axes way child
+  pub place_is_cell : (cell : Place) → IsPosition axes (3 ^ cell.level) cell.pos → IsCell axes way cell
+  pub cell_is_place : (cell : Place) → IsCell axes way cell → IsPosition axes (3 ^ cell.level) cell.pos
+
+abbrev pub CellsOfTheTree : Type 0
+CellsOfTheTree = (axes : ℕ) (way : Way) → IsDim axes → Tree axes way
 
 abbrev pub IsFace : ℕ → Face → Type 0
 IsFace axes face = (face.axis < axes) × (face.side < 2)

@@ -9,7 +9,12 @@
 //! `counts` turns loads and stores into pops and pushes, vertex by vertex. On an adaptive grid the same lists hold:
 //! `unwalked_is_empty` leaves out the cells that are not walked, and `leaf_is_corners` is the walk of a cell that has
 //! no walked children.
-ghost use Rattle.pe_walk.specs.Laws.{NeighboursAgree, FacesAreOneWay, OneFaceOnEach, Composition, BeneathUntouched, Counts, UnwalkedIsEmpty, LeafIsCorners, StepsCrossFaces, StepsAreCorners, CornersAreSteps};
+ghost use Rattle.pe_walk.specs.Laws.{NeighboursAgree, FacesAreOneWay, OneFaceOnEach, Composition, BeneathUntouched, Counts, UnwalkedIsEmpty, LeafIsCorners, CellsOfTheTree, StepsCrossFaces, StepsAreCorners, CornersAreSteps};
+
+/// The cells of the tree are the places of cells.
+pub fn tree()
+    ensures cells { CellsOfTheTree }
+{}
 
 /// What a cell leaves at a face is what arrives in its neighbour there.
 pub fn neighbours_agree()
