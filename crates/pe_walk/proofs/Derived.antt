@@ -87,10 +87,11 @@ counts axes way levels vertex n dim inside deep =
 
 pub cells_of_the_tree : CellsOfTheTree
 cells_of_the_tree axes way dim = record {
-    root_is_cell = root_is_cell axes way;
-    child_is_cell = λ cell child is c. child_is_cell axes way cell child dim.1 is c;
-    place_is_cell = λ cell is. place_is_cell axes way cell dim.1 is;
-    cell_is_place = λ cell is. cell_position axes way cell dim.1 is }
+  root_is_cell = root_is_cell axes way;
+  child_is_cell = λ cell child is c. child_is_cell axes way cell child dim.1 is c;
+  place_is_cell = λ cell is. place_is_cell axes way cell dim.1 is;
+  cell_is_place = λ cell is. cell_position axes way cell dim.1 is;
+}
 
 pub steps_cross_faces : StepsCrossFaces
 steps_cross_faces axes way vertex a b dim inside step = step_crosses axes way vertex a b dim.1 inside step

@@ -1,9 +1,9 @@
 -- The cells of the tree are the places of cells.
-use Rattle.std.proofs.Common.{◌≡◌, ℕ, zero, suc, ◌+◌, ◌-◌, ◌*◌, ◌/◌, ◌%◌, ◌^◌, ◌<◌, ◌≤◌, ◌⊎◌, inl, inr, List, [], ◌∷◌, ◌++◌, map, length, take, drop, replicate, get_or, slice_index, refl, sym, ap, ap₂, ◌∙◌, subst, pow-suc, take-append-drop, append-nil, arith}
+use Rattle.std.proofs.Common.{◌≡◌, ℕ, zero, suc, ◌+◌, ◌-◌, ◌*◌, ◌/◌, ◌%◌, ◌^◌, ◌<◌, ◌≤◌, ◌⊎◌, inl, inr, List, [], ◌∷◌, ◌++◌, map, length, take, drop, replicate, slice_index, refl, sym, ap, ap₂, ◌∙◌, subst, pow-suc, take-append-drop, append-nil, arith}
 use Rattle.std.specs.List.{Contains}
 use Rattle.pe_base.specs.declared.place.Place.{Place}
 use Rattle.pe_base.specs.declared.way.Way.{Way}
-use Rattle.pe_base.specs.Places.{root, finer, IsPosition, IsCellPlace}
+use Rattle.pe_base.specs.Places.{root, finer, IsPosition}
 use Rattle.pe_base.specs.Curve.{digit_lists, turned, children, order}
 use Rattle.pe_base.proofs.Lists.{Each, Each-weaker, Each-map, Each-flat_map, In, In-flat_map, Each-In}
 use Rattle.pe_base.proofs.Mirrors.{Digits3, digit_lists_below, turned_below, turned_twice}
@@ -48,18 +48,19 @@ every_place axes way (suc level) pos four is =
     let ds : Digits3 axes ks = digits-take axes (rests pos) (omega arith) (rests-each pos) in
     let ts = turned es 0 ks in
     let whole : ks ++ replicate (4 - axes) 0 ≡ rests pos =
-        ap (λ z. ks ++ z) (sym (zeros_behind axes (rests pos) (λ axis h. index_map (λ x. x % 3) pos axis refl ∙ ap (λ x. x % 3) (is.rest axis h)) ∙ ap (λ n. replicate (n - axes) 0) long))
-        ∙ take-append-drop axes (rests pos) in
+    ap (λ z. ks ++ z) (sym (zeros_behind axes (rests pos) (λ axis h. index_map (λ x. x % 3) pos axis refl ∙ ap (λ x. x % 3) (is.rest axis h)) ∙ ap (λ n. replicate (n - axes) 0) long))
+    ∙ take-append-drop axes (rests pos) in
     let same : (child_of axes way up ts).pos ≡ pos =
-        ap (λ js. finer (thirds pos) (js ++ replicate (4 - axes) 0)) (ap (turned es 0) (sym (append-nil ts)) ∙ turned_twice es 0 0 axes ks [] (length-flips axes way (thirds pos)) refl ds)
-        ∙ ap (finer (thirds pos)) whole ∙ finer_again pos in
+    ap (λ js. finer (thirds pos) (js ++ replicate (4 - axes) 0)) (ap (turned es 0) (sym (append-nil ts)) ∙ turned_twice es 0 0 axes ks [] (length-flips axes way (thirds pos)) refl ds)
+    ∙ ap (finer (thirds pos)) whole ∙ finer_again pos in
     let parent : In up (order axes way level) = every_place axes way level (thirds pos) four (record {
-        four = length_map (λ x. x / 3) pos ∙ is.four;
-        inside = λ axis h. subst (λ x. x < 3 ^ level) (sym (index_map (λ x. x / 3) pos axis refl)) (third_below (slice_index pos axis) (3 ^ level) (3 ^ suc level) (pow-suc 3 level) (is.inside axis h));
-        rest = λ axis h. index_map (λ x. x / 3) pos axis refl ∙ ap (λ x. x / 3) (is.rest axis h) }) in
+      four = length_map (λ x. x / 3) pos ∙ is.four;
+      inside = λ axis h. subst (λ x. x < 3 ^ level) (sym (index_map (λ x. x / 3) pos axis refl)) (third_below (slice_index pos axis) (3 ^ level) (3 ^ suc level) (pow-suc 3 level) (is.inside axis h));
+      rest = λ axis h. index_map (λ x. x / 3) pos axis refl ∙ ap (λ x. x / 3) (is.rest axis h);
+    }) in
     let e : level + 1 ≡ suc level = omega arith in
     subst (λ p. In p (order axes way (suc level))) (ap₂ (λ n p. let c : Place = record { level = n; pos = p } in c) e same)
-        (subst (λ n. In (child_of axes way up ts) (order axes way n)) e (child_in_tree axes way up ts parent (turned_below es 0 axes ks (length-flips axes way (thirds pos)) ds)))
+    (subst (λ n. In (child_of axes way up ts) (order axes way n)) e (child_in_tree axes way up ts parent (turned_below es 0 axes ks (length-flips axes way (thirds pos)) ds)))
   where
     third_below : (x w v : ℕ) → v ≡ w * 3 → x < v → x / 3 < w
     third_below x w v e h = omega arith
@@ -80,10 +81,11 @@ zeros_read (suc n) k (x ∷ pos) e zero h = absurd (omega arith)
 zeros_read (suc n) k (x ∷ pos) e (suc axis) h = zeros_read n k pos e axis (omega arith)
 
 child_in_range : (axes : ℕ) (way : Way) (level : ℕ) (cell : Place) (ts : List ℕ) → axes ≤ 4 → InRange axes level cell → Digits3 axes ts → InRange axes (suc level) (child_of axes way cell ts)
-child_in_range axes way level cell ts four in_range d =
-    (child_on_grid axes way level cell ts four in_range.0 d,
-     (λ axis a. finer_below (slice_index cell.pos axis) (slice_index (child_ks axes way cell ts) axis) (slice_index (child_of axes way cell ts).pos axis) (3 ^ level) (3 ^ suc level)
-        (child_index axes way cell ts axis a (omega (arith, in_range.0.1)) d) (slice_index-below axis axes (child_ks axes way cell ts) a (child_ks-below axes way cell ts d)) (in_range.1 axis a) (pow-suc 3 level)))
+child_in_range axes way level cell ts four in_range d = (
+  child_on_grid axes way level cell ts four in_range.0 d,
+  (λ axis a. finer_below (slice_index cell.pos axis) (slice_index (child_ks axes way cell ts) axis) (slice_index (child_of axes way cell ts).pos axis) (3 ^ level) (3 ^ suc level)
+      (child_index axes way cell ts axis a (omega (arith, in_range.0.1)) d) (slice_index-below axis axes (child_ks axes way cell ts) a (child_ks-below axes way cell ts d)) (in_range.1 axis a) (pow-suc 3 level)),
+)
   where
     finer_below : (p k q w v : ℕ) → q ≡ 3 * p + k → k < 3 → p < w → v ≡ w * 3 → q < v
     finer_below p k q w v e h l f = omega arith
@@ -99,8 +101,8 @@ order_in_range axes way zero four = ((root_on_grid axes four, (λ axis a. subst 
     at_root (suc (suc (suc (suc axis)))) = refl
 order_in_range axes way (suc level) four = Each-flat_map (InRange axes (suc level)) (children axes way) (order axes way level)
     (Each-weaker (InRange axes level) _ (λ c r. subst (Each (InRange axes (suc level))) (sym (children_are axes way c))
-        (Each-map (InRange axes (suc level)) (child_of axes way c) (digit_lists axes) (Each-weaker (Digits3 axes) _ (λ ts d. child_in_range axes way level c ts four r d) (digit_lists axes) (digit_lists_below axes))))
-        (order axes way level) (order_in_range axes way level four))
+    (Each-map (InRange axes (suc level)) (child_of axes way c) (digit_lists axes) (Each-weaker (Digits3 axes) _ (λ ts d. child_in_range axes way level c ts four r d) (digit_lists axes) (digit_lists_below axes))))
+    (order axes way level) (order_in_range axes way level four))
 
 pub cell_position : (axes : ℕ) (way : Way) (cell : Place) → axes ≤ 4 → IsCell axes way cell → IsPosition axes (3 ^ cell.level) cell.pos
 cell_position axes way cell four is =
