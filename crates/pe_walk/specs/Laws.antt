@@ -10,7 +10,7 @@ use Rattle.pe_base.specs.Dim.{IsDim}
 use Rattle.pe_base.specs.Places.{root, IsPosition, IsInside}
 use Rattle.pe_base.specs.Curve.{children, order}
 use Rattle.pe_base.specs.Around.{around, steps}
-use Rattle.pe_base.specs.Faces.{Face, across, stack_of, face_on, loads, stores, arriving, leaving, in_corners, out_corners, is_touched, is_step, Turns, TurnsApart, cell_turns, touched_for, steps_to, steps_from}
+use Rattle.pe_base.specs.Faces.{Face, across, stack_of, face_on, loads, stores, arriving, leaving, in_corners, out_corners, is_same, is_touched, is_step, Turns, TurnsApart, cell_turns, touched_for, steps_to, steps_from}
 
 -- a cell of the tree
 abbrev pub IsCell : ℕ → Way → Place → Type 0
@@ -78,6 +78,10 @@ BeneathUntouched = (axes : ℕ) (way : Way) (counts : Place → Bool) (levels ax
     → TurnsApart (cell_turns axes way counts levels axis parity cell)
     (arriving axes way counts levels (face_on axis parity cell) cell ++ beneath)
     (leaving axes way counts levels (face_on axis parity cell) cell ++ beneath)
+
+-- What a walk stores it has loaded, and the other way round: so a vertex is touched in both or in neither.
+abbrev pub StoresAsLoads : Type 0
+StoresAsLoads = (axes : ℕ) (way : Way) (levels : ℕ) (cell vertex : Place) → list_any (λ touch. is_same touch.vertex vertex) (stores axes way levels cell) ≡ is_touched axes way levels cell vertex
 
 -- The loads of a vertex and its stores: each is for the cells around it, in the order of the walk; after n loads the pops
 -- are the steps among the first n cells, and after n stores the pushes are the steps among the first n + 1.

@@ -9,7 +9,7 @@
 //! `counts` turns loads and stores into pops and pushes, vertex by vertex. On an adaptive grid the same lists hold:
 //! `unwalked_is_empty` leaves out the cells that are not walked, and `leaf_is_corners` is the walk of a cell that has
 //! no walked children.
-ghost use Rattle.pe_walk.specs.Laws.{NeighboursAgree, FacesAreOneWay, OneFaceOnEach, Composition, BeneathUntouched, Counts, UnwalkedIsEmpty, LeafIsCorners, CellsOfTheTree, StepsCrossFaces, StepsAreCorners, CornersAreSteps};
+ghost use Rattle.pe_walk.specs.Laws.{NeighboursAgree, FacesAreOneWay, OneFaceOnEach, Composition, BeneathUntouched, StoresAsLoads, Counts, UnwalkedIsEmpty, LeafIsCorners, CellsOfTheTree, StepsCrossFaces, StepsAreCorners, CornersAreSteps};
 
 /// The cells of the tree are the places of cells.
 pub fn tree()
@@ -36,6 +36,7 @@ pub fn composition()
 /// No part of the walk of a cell touches what waits beneath its lists.
 pub fn beneath_untouched()
     ensures untouched { BeneathUntouched }
+    ensures stores { StoresAsLoads }
 {}
 
 /// The loads and stores of a vertex are its steps.

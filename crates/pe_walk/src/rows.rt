@@ -1,5 +1,5 @@
-//! Worked rows of the lists of faces, in the plane, two levels deep. The rows are those of a plain program that keeps no
-//! lists: it asks of each load which cell around the vertex comes before, and of each store which comes after.
+//! Worked rows of the lists of faces, in the plane, two levels deep. They come from a plain program that finds, for each
+//! load of a vertex, the cell before it around the vertex, and for each store the cell behind it.
 ghost use Rattle.std.specs.Prelude.{◌≡◌, [], ◌∷◌};
 ghost use Rattle.pe_base.specs.declared.way.Way.TheVariants.{Forward, Inverted};
 ghost use Rattle.pe_base.specs.Faces.{arriving, leaving};
