@@ -1,4 +1,4 @@
--- Two grids of the plane for the worked rows, by their vertices that are not hanging.
+-- Grids for the worked rows, by their vertices that are not hanging.
 use Rattle.std.specs.Prelude.{ℕ, Bool, ◌&&◌, ◌==◌, nat_le, if◌then◌else◌, List, [], ◌∷◌, map, slice_index}
 use Rattle.pe_base.specs.declared.place.Place.{Place}
 use Rattle.pe_base.specs.declared.way.Way.{Way}
@@ -19,6 +19,12 @@ regular vertex = if vertex.level == 1 then in_square 1 2 vertex else in_square 1
 -- The grid that is refined at the vertex (1, 1) of level 1: the four cells around it have children.
 abbrev pub refined_once : Place → Bool
 refined_once vertex = if vertex.level == 1 then in_square 1 2 vertex else in_square 1 5 vertex
+
+-- all inside vertices of the regular grid of space of two levels
+abbrev pub everywhere : Place → Bool
+everywhere vertex =
+    let high = if vertex.level == 1 then 2 else 8 in
+    is_between 1 high (slice_index vertex.pos 0) && is_between 1 high (slice_index vertex.pos 1) && is_between 1 high (slice_index vertex.pos 2)
 
 abbrev pub mark : ℕ → ℕ → ℕ → Place
 mark level x y = at level (x ∷ y ∷ [])
