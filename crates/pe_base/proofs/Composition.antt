@@ -1,12 +1,12 @@
 -- What the walk of a cell does on one stack.
-use Rattle.std.proofs.Common.{◌≡◌, ℕ, zero, suc, ◌+◌, ◌-◌, ◌*◌, ◌%◌, ◌^◌, ◌<◌, ◌≤◌, Bool, true, false, ◌==◌, List, [], ◌∷◌, ◌++◌, map, filter, reverse, length, slice_index, replicate, refl, sym, ap, ap₂, ◌∙◌, subst, inl, inr, append_assoc, arith}
+use Rattle.std.proofs.Common.{◌≡◌, ℕ, zero, suc, ◌+◌, ◌-◌, ◌*◌, ◌%◌, ◌^◌, ◌<◌, ◌≤◌, Bool, true, false, ◌==◌, List, [], ◌∷◌, ◌++◌, map, filter, reverse, length, slice_index, replicate, refl, sym, ap, ap₂, ◌∙◌, subst, subst₂, inl, inr, append_assoc, append-nil, arith}
 use Rattle.std.specs.List.{flat_map, list_any}
 use Rattle.pe_base.specs.declared.place.Place.{Place}
 use Rattle.pe_base.specs.declared.way.Way.{Way}
 use Rattle.pe_base.specs.declared.way.Way.TheVariants.{Forward, Inverted}
 use Rattle.pe_base.specs.Places.{finer}
 use Rattle.pe_base.specs.Curve.{digit_lists, flip, children}
-use Rattle.pe_base.specs.Faces.{Face, is_same, Turn, Turns, across, face_on, is_touched, loads, corner_touches, comes_across, goes_across, at_face, arriving, leaving, in_corners, out_corners, child_turn, corner_turn, cell_turns}
+use Rattle.pe_base.specs.Faces.{Turns, Turns, Face, is_same, Turn, TurnsApart, across, face_on, is_touched, loads, corner_touches, comes_across, goes_across, at_face, arriving, leaving, in_corners, out_corners, child_turn, corner_turn, cell_turns}
 use Rattle.pe_base.proofs.Lists.{In, In-map, Each-In, Each-left, Each-right, Each-parts, list_any_none, none_Each, Each, Each-weaker, Each-reverse, Each-filter, map-map, flat_map_same, flat_map-map, filter_same, filter-map, filter-reverse}
 use Rattle.pe_base.proofs.Mirrors.{Digits3, complement, digit_lists_below, reverse-digit_lists, turned_complement}
 use Rattle.pe_base.proofs.Children.{opposite, turn_of as way_turn, Pairs-range, flips_in, length-flips, child_of, child_ks, child_index, children_are}
@@ -14,7 +14,7 @@ use Rattle.pe_base.proofs.Corners.{own_corners}
 use Rattle.pe_base.proofs.FaceLists.{face_of, is_child_at, at_face_parts, leaving_is}
 use Rattle.pe_base.proofs.Ranks.{value, rank, rank_of, Each-digits, rank-child, child_four}
 use Rattle.pe_base.proofs.Quiet.{later_child, earlier_child, still_child, arriving_none, leaving_none, later_or_earlier, across_child, rank-parent, less_below, value-below, when_same}
-use Rattle.pe_base.proofs.Blocks.{Touching, Meet, Untouched, Untouched-append, Untouched-flat_map, Free, Apart, meet_behind, OneWay, blocks, outer_takes, outer_gives, Turns-append}
+use Rattle.pe_base.proofs.Blocks.{Touching, Meet, Untouched, Untouched-append, Untouched-flat_map, Free, Apart, meet_behind, OneWay, blocks, outer_takes, outer_gives, TurnsApart-append}
 use Rattle.pe_base.proofs.Waits.{InTree, child_in_tree, digits_in, arriving_apart, leaving_apart, deeper_arriving, deeper_leaving}
 use Rattle.pe_base.proofs.Meetings.{meet_at}
 
@@ -128,10 +128,10 @@ module _ (axes : ℕ) (way : Way) (counts : Place → Bool) (levels axis parity 
   deep_gives = Untouched-flat_map (is_touched axes way 0 cell) (λ ts. (turn ts).gives) (reverse (filter at (digit_lists axes)))
       (Each-reverse _ (filter at (digit_lists axes)) (Each-weaker _ _ (λ ts d. deeper_leaving axes way counts levels (face_on axis parity (below ts)) cell (below ts) four a (omega arith) (child_four axes way cell ts four l d.0) refl) (filter at (digit_lists axes)) (Each-filter (Digits3 axes) at (digit_lists axes) (digit_lists_below axes))))
 
-  children_compose : (beneath : List Place) → list_any (is_touched axes way (suc levels) cell) beneath ≡ false → Turns (map (child_turn axes way counts levels axis parity) (children axes way cell))
+  children_compose : (beneath : List Place) → list_any (is_touched axes way (suc levels) cell) beneath ≡ false → TurnsApart (map (child_turn axes way counts levels axis parity) (children axes way cell))
       (outer_takes axes (λ ts. (turn ts).takes) at ++ beneath) (outer_gives axes (λ ts. (turn ts).gives) at ++ beneath)
   children_compose beneath free =
-      subst (λ z. Turns z (outer_takes axes (λ ts. (turn ts).takes) at ++ beneath) (outer_gives axes (λ ts. (turn ts).gives) at ++ beneath))
+      subst (λ z. TurnsApart z (outer_takes axes (λ ts. (turn ts).takes) at ++ beneath) (outer_gives axes (λ ts. (turn ts).gives) at ++ beneath))
       (sym (ap (map (child_turn axes way counts levels axis parity)) (children_are axes way cell) ∙ map-map (child_turn axes way counts levels axis parity) below (digit_lists axes)))
       (blocks axis axes (λ ts. (turn ts).takes) (λ ts. (turn ts).gives) touches at
       (meet_behind axis axes (λ ts. (turn ts).takes) (λ ts. (turn ts).gives) touches at
@@ -178,7 +178,7 @@ module _ (axes : ℕ) (way : Way) (counts : Place → Bool) (levels axis parity 
 -- the law of composition, on one stack
 pub composes : (axes : ℕ) (way : Way) (counts : Place → Bool) (levels axis parity : ℕ) (cell : Place) → axes ≤ 4 → axis < axes → length cell.pos ≡ 4 → InTree axes way cell
     → (beneath : List Place) → list_any (is_touched axes way levels cell) beneath ≡ false
-    → Turns (cell_turns axes way counts levels axis parity cell) (arriving axes way counts levels (face_on axis parity cell) cell ++ beneath) (leaving axes way counts levels (face_on axis parity cell) cell ++ beneath)
+    → TurnsApart (cell_turns axes way counts levels axis parity cell) (arriving axes way counts levels (face_on axis parity cell) cell ++ beneath) (leaving axes way counts levels (face_on axis parity cell) cell ++ beneath)
 composes axes way counts zero axis parity cell four a l tree beneath free = (beneath, refl, free, (beneath, refl, free, refl))
 composes axes way counts (suc levels) axis parity cell four a l tree beneath free =
     let takes = outer_takes axes (λ ts. (turn axes way counts levels axis parity cell four a l tree ts).takes) (at axes way counts levels axis parity cell four a l tree) in
@@ -188,7 +188,7 @@ composes axes way counts (suc levels) axis parity cell four a l tree beneath fre
       takes ++ beneath,
       ap (λ x. x ++ beneath) (arriving_parts axes way counts levels axis parity cell four a l tree) ∙ append_assoc (in_corners axes way counts (face_on axis parity cell) cell) takes beneath,
       Untouched-append (is_touched axes way 0 cell) takes beneath (deep_takes axes way counts levels axis parity cell four a l tree) own,
-      Turns-append (map (child_turn axes way counts levels axis parity) (children axes way cell)) (corner_turn axes way cell [] out ∷ []) (takes ++ beneath) (gives ++ beneath) (leaving axes way counts (suc levels) (face_on axis parity cell) cell ++ beneath)
+      TurnsApart-append (map (child_turn axes way counts levels axis parity) (children axes way cell)) (corner_turn axes way cell [] out ∷ []) (takes ++ beneath) (gives ++ beneath) (leaving axes way counts (suc levels) (face_on axis parity cell) cell ++ beneath)
           (children_compose axes way counts levels axis parity cell four a l tree beneath free) (
             gives ++ beneath,
             refl,
@@ -196,3 +196,20 @@ composes axes way counts (suc levels) axis parity cell four a l tree beneath fre
             sym (append_assoc out gives beneath) ∙ ap (λ x. x ++ beneath) (sym (leaving_parts axes way counts levels axis parity cell four a l tree)),
           ),
     )
+
+-- turns on a stack of which nothing need be known
+plain : (turns : List Turn) (before after rest : List Place) → TurnsApart turns before after → Turns turns (before ++ rest) (after ++ rest)
+plain [] before after rest s = ap (λ x. x ++ rest) s
+plain (turn ∷ turns) before after rest s = (
+  s.0 ++ rest,
+  ap (λ x. x ++ rest) s.1 ∙ append_assoc turn.takes s.0 rest,
+  subst (λ x. Turns turns x (after ++ rest)) (append_assoc turn.gives s.0 rest) (plain turns (turn.gives ++ s.0) after rest s.3),
+)
+
+pub composes_any : (axes : ℕ) (way : Way) (counts : Place → Bool) (levels axis parity : ℕ) (cell : Place) → axes ≤ 4 → axis < axes → length cell.pos ≡ 4 → InTree axes way cell → (beneath : List Place)
+    → Turns (cell_turns axes way counts levels axis parity cell) (arriving axes way counts levels (face_on axis parity cell) cell ++ beneath) (leaving axes way counts levels (face_on axis parity cell) cell ++ beneath)
+composes_any axes way counts levels axis parity cell four a l tree beneath =
+    let takes = arriving axes way counts levels (face_on axis parity cell) cell in
+    let gives = leaving axes way counts levels (face_on axis parity cell) cell in
+    subst₂ (Turns (cell_turns axes way counts levels axis parity cell)) (ap (λ x. x ++ beneath) (append-nil takes)) (ap (λ x. x ++ beneath) (append-nil gives))
+    (plain (cell_turns axes way counts levels axis parity cell) (takes ++ []) (gives ++ []) beneath (composes axes way counts levels axis parity cell four a l tree [] refl))

@@ -131,7 +131,7 @@ finer-zeros : (n : ℕ) → finer (replicate n 0) (replicate n 0) ≡ replicate 
 finer-zeros zero = refl
 finer-zeros (suc n) = ap (λ ys. 0 ∷ ys) (finer-zeros n)
 
-child_on_grid : (axes : ℕ) (way : Way) (level : ℕ) (cell : Place) (ts : List ℕ) → axes ≤ 4 → OnGrid axes level cell → Digits3 axes ts → OnGrid axes (suc level) (child_of axes way cell ts)
+pub child_on_grid : (axes : ℕ) (way : Way) (level : ℕ) (cell : Place) (ts : List ℕ) → axes ≤ 4 → OnGrid axes level cell → Digits3 axes ts → OnGrid axes (suc level) (child_of axes way cell ts)
 child_on_grid axes way level cell ts four on d = (
   omega (arith, on.0),
   child_four axes way cell ts four on.1 d,
@@ -252,7 +252,7 @@ deeper_touches axes way (suc levels) level vertex cell four c h =
     ∙ flat_map_none _ (children axes way cell) (Each-weaker (OnGrid axes (suc level)) _ (λ d on. deeper_touches axes way levels (suc level) vertex d four on (omega arith)) (children axes way cell) (children_on_grid axes way level cell four c)))
 
 -- the loads of a vertex within a cell are for the cells around it, in the order of the walk
-loads_below : (axes : ℕ) (way : Way) (m more level : ℕ) (vertex cell : Place) → axes ≤ 4 → OnGrid axes vertex.level vertex → OnGrid axes level cell → vertex.level ≡ deeper m level
+pub loads_below : (axes : ℕ) (way : Way) (m more level : ℕ) (vertex cell : Place) → axes ≤ 4 → OnGrid axes vertex.level vertex → OnGrid axes level cell → vertex.level ≡ deeper m level
     → touched_for vertex (loads axes way (m + more) cell) ≡ filter (is_corner vertex) (below axes way m cell)
 loads_below axes way zero zero level vertex cell four v c h = own_touches axes vertex cell four v (c.0 ∙ sym h, c.1, c.2)
 loads_below axes way zero (suc more) level vertex cell four v c h =

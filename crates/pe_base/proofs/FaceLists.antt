@@ -35,7 +35,7 @@ at_plane-flat_map test finest axis x f [] = refl
 at_plane-flat_map test finest axis x f (y ∷ ys) = at_plane-append test finest axis x (f y) (flat_map f ys) ∙ ap (λ r. at_plane test finest axis x (f y) ++ r) (at_plane-flat_map test finest axis x f ys)
 
 -- a vertex lies between two planes
-abbrev Within : ℕ → ℕ → ℕ → ℕ → Touch → Type 0
+abbrev pub Within : ℕ → ℕ → ℕ → ℕ → Touch → Type 0
 Within finest axis low high t = (low ≤ in_finest finest t.vertex.level (slice_index t.vertex.pos axis)) × (in_finest finest t.vertex.level (slice_index t.vertex.pos axis) ≤ high)
 
 at_plane_none : (test : Touch → Bool) (finest axis x low high : ℕ) (ts : List Touch) → Each (Within finest axis low high) ts → (x < low) ⊎ (high < x) → at_plane test finest axis x ts ≡ []
@@ -66,7 +66,7 @@ child_bounds p q k w v low high is h vw lo hi =
     (rw (is, lo, vw) (omega arith), rw (is, hi, vw) (omega arith))
 
 -- each corner in a cell lies between the cell's two planes on an axis
-loads_within : (axes : ℕ) (way : Way) (axis finest levels : ℕ) (cell : Place) → axes ≤ 4 → axis < axes → axes ≤ length cell.pos → finest ≡ cell.level + levels
+pub loads_within : (axes : ℕ) (way : Way) (axis finest levels : ℕ) (cell : Place) → axes ≤ 4 → axis < axes → axes ≤ length cell.pos → finest ≡ cell.level + levels
     → Each (Within finest axis (slice_index cell.pos axis * 3 ^ levels) ((slice_index cell.pos axis + 1) * 3 ^ levels)) (loads axes way levels cell)
 loads_within axes way axis finest zero cell four a l is = own_within axes axis finest 0 cell four a l is
 loads_within axes way axis finest (suc levels) cell four a l is =
@@ -94,7 +94,7 @@ same_plane : (p q s levels : ℕ) → q ≡ 3 * p + 2 * s → (p + s) * 3 ^ suc 
 same_plane p q s levels is = rw (is, pow-suc 3 levels) (omega arith)
 
 -- and no corner in a child that is not at it lies there
-off_plane : (p q k s levels : ℕ) → q ≡ 3 * p + k → k < 3 → s < 2 → (k == 2 * s) ≡ false → ((p + s) * 3 ^ suc levels < q * 3 ^ levels) ⊎ ((q + 1) * 3 ^ levels < (p + s) * 3 ^ suc levels)
+pub off_plane : (p q k s levels : ℕ) → q ≡ 3 * p + k → k < 3 → s < 2 → (k == 2 * s) ≡ false → ((p + s) * 3 ^ suc levels < q * 3 ^ levels) ⊎ ((q + 1) * 3 ^ levels < (p + s) * 3 ^ suc levels)
 off_plane p q k s levels is h side other = rw (is, pow-suc 3 levels) (go s side other)
   where
     w : ℕ

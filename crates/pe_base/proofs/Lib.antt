@@ -21,3 +21,4 @@ pub mod Rounds
 pub mod RouteLaws
 pub mod StackLaws
 pub mod InnerVertices
+pub mod Crossing

@@ -39,7 +39,7 @@ turned-each [] b ts e = tt
 turned-each (f ∷ es) b [] e = tt
 turned-each (f ∷ es) b (t ∷ ts) e = (mirrored_below (f + b) t e.0, turned-each es (b + t) ts e.1)
 
-rests-each : (pos : List ℕ) → Each (λ t. t < 3) (rests pos)
+pub rests-each : (pos : List ℕ) → Each (λ t. t < 3) (rests pos)
 rests-each [] = tt
 rests-each (x ∷ pos) = (omega arith, rests-each pos)
 
@@ -105,7 +105,7 @@ still_same (suc axis) zero (x ∷ pos) s h = ap (λ ps. x ∷ ps) (still_same ax
 still_same axis (suc side) pos s h = absurd (omega arith)
 
 -- a list of a face is empty where no cell that is reached from the cell can pass the test
-at_face_none : (axes : ℕ) (walk : Way) (test : Touch → Bool) (face : Face) (Quiet : ℕ → Place → Type 0)
+pub at_face_none : (axes : ℕ) (walk : Way) (test : Touch → Bool) (face : Face) (Quiet : ℕ → Place → Type 0)
     → ((level : ℕ) (cell vertex : Place) → vertex.level ≡ level → Quiet level cell → test (record { vertex = vertex; cell = cell }) ≡ false)
     → ((level : ℕ) (cell : Place) (ts : List ℕ) → length cell.pos ≡ 4 → Digits3 axes ts → is_child_at axes walk cell face ts ≡ true → Quiet level cell → Quiet (suc level) (child_of axes walk cell ts))
     → axes ≤ 4 → face.axis < axes → face.side < 2 → (finest levels level : ℕ) (cell : Place) → cell.level ≡ level → length cell.pos ≡ 4 → finest ≡ cell.level + levels → Quiet level cell
@@ -187,7 +187,7 @@ length-turned [] b ts = omega arith
 length-turned (e ∷ es) b [] = omega arith
 length-turned (e ∷ es) b (t ∷ ts) = omega (arith, length-turned es (b + t) ts)
 
-digits-take : (n : ℕ) (ts : List ℕ) → n ≤ length ts → Each (λ t. t < 3) ts → Digits3 n (take n ts)
+pub digits-take : (n : ℕ) (ts : List ℕ) → n ≤ length ts → Each (λ t. t < 3) ts → Digits3 n (take n ts)
 digits-take zero ts l e = tt
 digits-take (suc n) [] l e = absurd (omega arith)
 digits-take (suc n) (t ∷ ts) l e = (e.0, digits-take n ts (omega arith) e.1)

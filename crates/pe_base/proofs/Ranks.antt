@@ -196,7 +196,7 @@ Rising-above r low high (x ∷ xs) s = (s.0, Each-weaker _ _ (λ y h. omega (ari
 abbrev pub IsClose : {X : Type 0} → (X → ℕ) → List X → X × X → Type 0
 IsClose r xs s = Each (λ z. (r z ≤ r s.0) ⊎ (r s.1 ≤ r z)) xs
 
-steps_within : {X : Type 0} (P : X → Type 0) (xs : List X) → Each P xs → Each (λ s. P s.0 × P s.1) (steps xs)
+pub steps_within : {X : Type 0} (P : X → Type 0) (xs : List X) → Each P xs → Each (λ s. P s.0 × P s.1) (steps xs)
 steps_within P [] e = tt
 steps_within P (x ∷ []) e = tt
 steps_within P (x ∷ y ∷ xs) e = ((e.0, e.1.0), steps_within P (y ∷ xs) e.1)

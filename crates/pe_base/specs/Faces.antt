@@ -115,12 +115,16 @@ pub record Turn : Type 0 where
   pub gives : List Place
   pub touches : Place → Bool
 
--- Some turns on a stack, the top first. Each finds what it takes on top, and leaves what is beneath as it was: none of
--- that is touched meanwhile.
+-- Some turns on a stack, the top first: each finds what it takes on top, and leaves what is beneath as it was.
 abbrev pub Turns : List Turn → List Place → List Place → Type 0
 Turns [] before after = before ≡ after
-Turns (turn ∷ turns) before after =
-    (beneath : List Place) × (before ≡ turn.takes ++ beneath) × (list_any turn.touches beneath ≡ false) × Turns turns (turn.gives ++ beneath) after
+Turns (turn ∷ turns) before after = (beneath : List Place) × (before ≡ turn.takes ++ beneath) × Turns turns (turn.gives ++ beneath) after
+
+-- the same, where besides none of what is beneath is touched in that part of the walk
+abbrev pub TurnsApart : List Turn → List Place → List Place → Type 0
+TurnsApart [] before after = before ≡ after
+TurnsApart (turn ∷ turns) before after =
+    (beneath : List Place) × (before ≡ turn.takes ++ beneath) × (list_any turn.touches beneath ≡ false) × TurnsApart turns (turn.gives ++ beneath) after
 
 -- What the walk of a cell does on one stack, by axis and parity. Each child in turn takes off what arrives in it, and
 -- puts on what it leaves.
