@@ -8,7 +8,6 @@ use Rattle.pe_io.specs.declared.shelf.ShelfCall.TheVariants.{Get}
 use Rattle.pe_io.specs.Counts.{Rises}
 use Rattle.pe_io.specs.Sink.{Appends, AppendsPrefix}
 use Rattle.pe_io.specs.Shelf.{Contents, FailedCall, failed_call}
-use Rattle.pe_run.specs.Words.{job_of}
 use Rattle.pe_run.specs.Scenario.{Scene, Cause, too_long, not_toml, unbuilt, scene_of}
 
 -- the steps that call the shelf
@@ -52,9 +51,6 @@ abbrev pub run_job : Option (List ℕ) → Contents → Option Step → Ran
 run_job None held failed = no_job
 run_job (Some name) held None = run_held (held name)
 run_job (Some name) held (Some scenario_step) = no_scenario
-
-abbrev pub run : List (List ℕ) → Contents → Option Step → Ran
-run words held failed = run_job (job_of words) held failed
 
 -- the names that a job asks the shelf for
 abbrev pub names_of : Option (List ℕ) → List (List ℕ)
