@@ -26,11 +26,11 @@ impl<P> Model for Corners<P> {
 
     ghost Value = { CornerList (Vertex P) };
 
-    ghost use Rattle.pe_stacks.specs.CornersView.{corner_list, IsKept};
+    ghost use Rattle.pe_stacks.specs.CornersView.{corner_list, IsSound};
 
     ghost view = { corner_list };
 
-    ghost invariant = { IsKept };
+    ghost invariant = { IsSound };
 }
 
 impl<P> Corners<P> {
