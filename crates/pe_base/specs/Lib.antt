@@ -6,4 +6,5 @@ pub mod Curve
 pub mod Around
 pub mod Events
 pub mod Lines
+pub mod States
 pub mod Firings

@@ -1,0 +1,4 @@
+pub mod CornerPlaces
+pub mod Counts
+pub mod StackAt
+pub mod Stacks

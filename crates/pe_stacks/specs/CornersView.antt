@@ -1,0 +1,16 @@
+-- How the corners lie in sixteen places: those that the dimension does not have are empty.
+use Rattle.std.specs.Prelude.{◌≡◌, ◌-◌, ◌^◌, take, drop, replicate, length, None}
+use Rattle.pe_base.specs.Dim.{IsDim}
+use Rattle.pe_stacks.specs.declared.record.Vertex.{Vertex}
+use Rattle.pe_stacks.specs.declared.corners.Corners.TheInside.{Inside}
+use Rattle.pe_stacks.specs.Corners.{CornerList}
+
+module _ {P : Type 0} where
+  abbrev pub corner_list : Inside P → CornerList (Vertex P)
+  corner_list it = record { dim = it.dim; places = take (2 ^ it.dim) it.places }
+
+  -- a dimension, and sixteen places of which those behind its corners are empty
+  pub record IsSound (it : Inside P) : Type 0 where
+    pub dim : IsDim it.dim
+    pub count : length it.places ≡ 16
+    pub rest : drop (2 ^ it.dim) it.places ≡ replicate (16 - 2 ^ it.dim) None

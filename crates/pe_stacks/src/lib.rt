@@ -1,0 +1,19 @@
+//! The storage of a grid: records of vertices and cells, the corners of a cell, the handle of a grid,
+//! and depots, which keep records on numbered stacks.
+#![tactic(auto)]
+
+mod corners;
+mod depot;
+mod grid;
+mod places;
+mod record;
+#[cfg(test)]
+mod rows;
+mod vec_depot;
+mod vec_stack;
+
+pub use corners::Corners;
+pub use depot::{Depot, Shown};
+pub use grid::Grid;
+pub use record::{CellRec, Vertex};
+pub use vec_depot::VecDepot;
