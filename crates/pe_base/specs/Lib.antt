@@ -4,6 +4,7 @@ pub mod Places
 pub mod Ways
 pub mod Curve
 pub mod Around
+pub mod Faces
 pub mod Events
 pub mod Lines
 pub mod States

@@ -1,0 +1,117 @@
+-- The laws, from the lemmas on lists of faces.
+use Rattle.std.proofs.Common.{◌≡◌, ℕ, zero, suc, ◌+◌, ◌-◌, ◌<◌, ◌≤◌, Bool, List, [], ◌∷◌, take, length, slice_index, refl, sym, ap, ◌∙◌, subst, length-set, ◌⊎◌, inl, inr, slice_set, arith}
+use Rattle.std.specs.List.{flat_map}
+use Rattle.pe_base.specs.declared.place.Place.{Place}
+use Rattle.pe_base.specs.declared.way.Way.{Way}
+use Rattle.pe_base.specs.Faces.{across, arriving, leaving, steps_to, steps_from}
+use Rattle.pe_base.proofs.FaceLists.{face_of, across-up, leaving-up, leaving-down, leaving_is}
+use Rattle.pe_base.proofs.Composition.{composes, composes_any}
+use Rattle.pe_base.proofs.Counts.{steps_to_cells, steps_from_cells, loaded_for_around, stored_for_around}
+use Rattle.pe_base.specs.Curve.{order}
+use Rattle.pe_base.proofs.Ranks.{rank_of, top, order_rises}
+use Rattle.pe_base.proofs.Quiet.{Still, arriving_none, leaving_none}
+use Rattle.pe_walk.proofs.Outside.{before_rises, NoneAcross, outside_arriving, outside_leaving}
+use Rattle.pe_walk.proofs.Trees.{root_is_cell, child_is_cell, place_is_cell, cell_position}
+use Rattle.pe_walk.proofs.Steps.{inside_on_grid, step_crosses, step_in_corners, in_corners_only, out_corners_only}
+use Rattle.pe_walk.specs.Laws.{CellsOfTheTree, facing, ShareFace, NeighboursAgree, FacesAreOneWay, OneFaceOnEach, Composition, BeneathUntouched, Counts, UnwalkedIsEmpty, LeafIsCorners, StepsCrossFaces, StepsAreCorners, CornersAreSteps}
+use Rattle.pe_walk.proofs.Unwalked.{contains_in, in_contains, cell_four, unwalked_arriving, unwalked_leaving, leaf_arriving, leaf_leaving}
+
+neighbours_at : (axes : ℕ) (way : Way) (counts : Place → Bool) (levels axis side : ℕ) (cell neighbour : Place) → axes ≤ 4 → axis < axes → side < 2 → length cell.pos ≡ 4 → ShareFace (face_of axis side) cell neighbour
+    → leaving axes way counts levels (face_of axis side) cell ≡ arriving axes way counts levels (facing (face_of axis side)) neighbour
+neighbours_at axes way counts levels axis zero cell neighbour four a b l share =
+    let k : length neighbour.pos ≡ length cell.pos = ap (λ p. length p.pos) (sym share.0) ∙ length-set cell.pos axis (slice_index cell.pos axis - 1) in
+    ap (leaving axes way counts levels (face_of axis 0)) (sym share.1) ∙ leaving-down axes way counts levels axis neighbour four a (omega arith)
+neighbours_at axes way counts levels axis (suc zero) cell neighbour four a b l share =
+    leaving-up axes way counts levels axis cell four a (omega arith) ∙ ap (arriving axes way counts levels (face_of axis 0)) share.0
+neighbours_at axes way counts levels axis (suc (suc side)) cell neighbour four a b l share = absurd (omega arith)
+
+pub neighbours_agree : NeighboursAgree
+neighbours_agree axes way counts levels face cell neighbour dim is_face is_cell share =
+    neighbours_at axes way counts levels face.axis face.side cell neighbour dim.1 is_face.0 is_face.1 (cell_four axes way cell dim.1 is_cell) share
+
+down_up : (axis : ℕ) (pos : List ℕ) → 0 < slice_index pos axis → slice_set (slice_set pos axis (slice_index pos axis - 1)) axis (slice_index (slice_set pos axis (slice_index pos axis - 1)) axis + 1) ≡ pos
+down_up axis [] h = refl
+down_up zero (x ∷ pos) h = ap (λ y. y ∷ pos) (omega arith)
+down_up (suc axis) (x ∷ pos) h = ap (λ ys. x ∷ ys) (down_up axis pos h)
+
+-- a face shares its plane with the cell across it, save on the near side of the root
+shares_or_still : (axis side : ℕ) (cell : Place) → side < 2 → (ShareFace (face_of axis side) cell (across (face_of axis side) cell)) ⊎ (Still (face_of axis side) cell)
+shares_or_still axis (suc zero) cell b = inl (refl, across-up axis cell)
+shares_or_still axis (suc (suc side)) cell b = absurd (omega arith)
+shares_or_still axis zero cell b = go (slice_index cell.pos axis) refl
+  where
+    go : (x : ℕ) → slice_index cell.pos axis ≡ x → (ShareFace (face_of axis 0) cell (across (face_of axis 0) cell)) ⊎ (Still (face_of axis 0) cell)
+    go zero e = inr (refl, e)
+    go (suc x) e = inl (refl, ap (λ p. let c : Place = record { level = cell.level; pos = p } in c) (down_up axis cell.pos (omega arith)))
+
+pub faces_are_one_way : FacesAreOneWay
+faces_are_one_way axes way counts levels face cell dim is_face is_cell =
+    let four = dim.1 in
+    let l = cell_four axes way cell dim.1 is_cell in
+    let rises = order_rises axes way cell.level dim.1 in
+    let r = rank_of axes way cell.level in
+    record {
+      earlier = λ n share before. leaving_none axes way counts levels cell.level face cell four is_face.0 is_face.1 refl l
+          (inl (subst (λ p. r p < r cell) (sym share.0) (before_rises r 0 (top axes cell.level) (order axes way cell.level) n cell rises before)));
+      later = λ n share before. arriving_none axes way counts levels cell.level face cell four is_face.0 is_face.1 refl l
+          (inl (subst (λ p. r cell < r p) (sym share.0) (before_rises r 0 (top axes cell.level) (order axes way cell.level) cell n rises before)));
+      outside = λ none. elim (shares_or_still face.axis face.side cell is_face.1) [
+        | inl share ↦
+            (let no_cell : NoneAcross axes way face cell.level cell = λ i. absurd (none (across face cell) (in_contains (order axes way cell.level) (across face cell) i) share) in
+            (outside_arriving axes way counts levels face cell four is_face.0 is_face.1 l no_cell, outside_leaving axes way counts levels face cell four is_face.0 is_face.1 l no_cell))
+        | inr still ↦
+            (arriving_none axes way counts levels cell.level face cell four is_face.0 is_face.1 refl l (inr still), leaving_none axes way counts levels cell.level face cell four is_face.0 is_face.1 refl l (inr still))
+      ];
+    }
+
+pub one_face_on_each : OneFaceOnEach
+one_face_on_each axis parity cell h = omega arith
+
+pub composition : Composition
+composition axes way counts levels axis parity cell dim a is_cell beneath = composes_any axes way counts levels axis parity cell dim.1 a (cell_four axes way cell dim.1 is_cell) (contains_in _ cell is_cell) beneath
+
+pub beneath_untouched : BeneathUntouched
+beneath_untouched axes way counts levels axis parity cell dim a is_cell beneath free = composes axes way counts levels axis parity cell dim.1 a (cell_four axes way cell dim.1 is_cell) (contains_in _ cell is_cell) beneath free
+
+pub counts : Counts
+counts axes way levels vertex n dim inside deep =
+    let on = inside_on_grid axes vertex inside in
+    let loaded = loaded_for_around axes way levels vertex dim.1 on deep in
+    let stored = stored_for_around axes way levels vertex dim.1 on deep in
+    record {
+      loaded = loaded;
+      popped = ap (λ cells. flat_map (steps_to axes way vertex) (take n cells)) loaded ∙ steps_to_cells axes way vertex n dim.1;
+      stored = stored;
+      pushed = ap (λ cells. flat_map (steps_from axes way vertex) (take n cells)) stored ∙ steps_from_cells axes way vertex n dim.1;
+    }
+
+pub cells_of_the_tree : CellsOfTheTree
+cells_of_the_tree axes way dim = record {
+  root_is_cell = root_is_cell axes way;
+  child_is_cell = λ cell child is c. child_is_cell axes way cell child dim.1 is c;
+  place_is_cell = λ cell is. place_is_cell axes way cell dim.1 is;
+  cell_is_place = λ cell is. cell_position axes way cell dim.1 is;
+}
+
+pub steps_cross_faces : StepsCrossFaces
+steps_cross_faces axes way vertex a b dim inside step = step_crosses axes way vertex a b dim.1 inside step
+
+pub steps_are_corners : StepsAreCorners
+steps_are_corners axes way counts vertex a b face dim inside counted step is_face share = step_in_corners axes way counts vertex a b face dim.1 inside counted step is_face share
+
+pub corners_are_steps : CornersAreSteps
+corners_are_steps axes way counts face cell vertex dim is_face is_cell =
+    let four = cell_four axes way cell dim.1 is_cell in
+    ((λ c. in_corners_only axes way counts face cell vertex dim.1 is_face four c), (λ c. out_corners_only axes way counts face cell vertex dim.1 is_face four c))
+
+pub unwalked_is_empty : UnwalkedIsEmpty
+unwalked_is_empty axes way walked counts levels face cell dim walk is_face is_cell none =
+    let four = cell_four axes way cell dim.1 is_cell in (
+      unwalked_arriving axes way walked counts walk dim.1 (cell.level + levels) levels face cell is_face.0 is_face.1 four refl none,
+      leaving_is axes way counts levels face cell ∙ unwalked_leaving axes way walked counts walk dim.1 (cell.level + levels) levels face cell is_face.0 is_face.1 four refl none,
+    )
+
+pub leaf_is_corners : LeafIsCorners
+leaf_is_corners axes way walked counts levels face cell dim walk is_face is_cell none =
+    let four = cell_four axes way cell dim.1 is_cell in
+    (leaf_arriving axes way walked counts walk dim.1 levels face cell is_face.0 is_face.1 four none, leaf_leaving axes way walked counts walk dim.1 levels face cell is_face.0 is_face.1 four none)

@@ -1,0 +1,6 @@
+pub mod Unwalked
+pub mod Outside
+pub mod Steps
+pub mod Trees
+pub mod Stores
+pub mod Derived

@@ -1,0 +1,3 @@
+-- The laws of the walk.
+pub mod Laws
+pub mod Grids

@@ -1,0 +1,62 @@
+//! The laws on which the walk over stacks rests. Each function has a law for its contract, and no body: the law holds
+//! of the definitions alone.
+//!
+//! The walk of a cell will cite them so. It loads the cell's corners, walks each child, and stores the corners. On each
+//! stack `composition` says that the list that a load or a child wants is on top, and what the stack holds afterwards;
+//! `neighbours_agree` is why, and says besides what one cell finds of another. `beneath_untouched` carries the values of
+//! all that waits beneath over each part of the walk, since no part touches what waits beneath its own lists.
+//! `steps` says that a load finds its vertex among the corners of just one face, or is its first, and likewise a store;
+//! `counts` turns loads and stores into pops and pushes, vertex by vertex. On an adaptive grid the same lists hold:
+//! `unwalked_is_empty` leaves out the cells that are not walked, and `leaf_is_corners` is the walk of a cell that has
+//! no walked children.
+ghost use Rattle.pe_walk.specs.Laws.{NeighboursAgree, FacesAreOneWay, OneFaceOnEach, Composition, BeneathUntouched, StoresAsLoads, Counts, UnwalkedIsEmpty, LeafIsCorners, CellsOfTheTree, StepsCrossFaces, StepsAreCorners, CornersAreSteps};
+
+/// The cells of the tree are the places of cells.
+pub fn tree()
+    ensures cells { CellsOfTheTree }
+{}
+
+/// What a cell leaves at a face is what arrives in its neighbour there.
+pub fn neighbours_agree()
+    ensures agree { NeighboursAgree }
+{}
+
+/// Nothing is left at a face to an earlier cell, nothing arrives at a face to a later one, and neither on the root's
+/// boundary.
+pub fn faces_are_one_way()
+    ensures one_way { FacesAreOneWay }
+{}
+
+/// The lists of a cell's own corners and of its children compose to those of the cell, on each stack.
+pub fn composition()
+    ensures stacks { OneFaceOnEach }
+    ensures turns { Composition }
+{}
+
+/// No part of the walk of a cell touches what waits beneath its lists.
+pub fn beneath_untouched()
+    ensures untouched { BeneathUntouched }
+    ensures stores { StoresAsLoads }
+{}
+
+/// The loads and stores of a vertex are its steps.
+pub fn counts()
+    ensures counted { Counts }
+{}
+
+/// Each step around a vertex crosses one face. There one cell leaves the vertex, and it arrives in the other.
+pub fn steps()
+    ensures cross { StepsCrossFaces }
+    ensures corners { StepsAreCorners }
+    ensures only { CornersAreSteps }
+{}
+
+/// A cell that is not walked has empty lists.
+pub fn unwalked_is_empty()
+    ensures empty { UnwalkedIsEmpty }
+{}
+
+/// A cell without walked children has its own corners for its lists.
+pub fn leaf_is_corners()
+    ensures corners { LeafIsCorners }
+{}

@@ -1,0 +1,6 @@
+//! The walk of the cells of a grid.
+#![tactic(auto)]
+
+pub mod laws;
+#[cfg(test)]
+mod rows;
