@@ -1,6 +1,6 @@
 -- How far the counts of a depot rise.
-use Rattle.std.proofs.Common.{◌≡◌, ℕ, zero, suc, ◌+◌, ◌≤◌, List, [], ◌∷◌, map, get_or, set, arith, subst, refl}
-use Rattle.pe_stacks.specs.Holdings.{Holdings, Stack, new_stack, lent, given_up, pushed, popped, cleared, emptied, total_len, CountsWithin, RaisesCounts}
+use Rattle.std.proofs.Common.{◌≡◌, ℕ, zero, suc, ◌+◌, ◌≤◌, List, [], ◌∷◌, map, replicate, get_or, set, arith, subst, refl}
+use Rattle.pe_stacks.specs.Holdings.{Holdings, Stack, new_stack, new_holdings, lent, given_up, pushed, popped, cleared, emptied, total_len, CountsWithin, RaisesCounts}
 
 -- a bound on all items of a list, after one of them was replaced
 bound-set : {A : Type 0} (f : A → ℕ) (d y : A) (n : ℕ) (xs : List A) (i : ℕ) → f y ≤ n → ((s : ℕ) → f (get_or xs s d) ≤ n) → (s : ℕ) → f (get_or (set xs i y) s d) ≤ n
@@ -16,18 +16,39 @@ bound-map f change keeps d n [] all s = all s
 bound-map f change keeps d n (x ∷ xs) all zero = omega (arith, keeps x, all zero)
 bound-map f change keeps d n (x ∷ xs) all (suc s) = bound-map f change keeps d n xs (λ k. all (suc k)) s
 
+-- a bound on all items of a list, of which each is the same
+bound-replicate : {A : Type 0} (f : A → ℕ) (d : A) (n k : ℕ) → f d ≤ n → (s : ℕ) → f (get_or (replicate k d) s d) ≤ n
+bound-replicate f d n zero below s = below
+bound-replicate f d n (suc k) below zero = below
+bound-replicate f d n (suc k) below (suc s) = bound-replicate f d n k below s
+
 module _ {X : Type 0} where
-  pub raises_none : (held : Holdings X) → RaisesCounts held held 0
-  raises_none held = record {
-    within = λ n counts. record {
-      fresh = omega (arith, counts.fresh);
-      spent = omega (arith, counts.spent);
-      out = omega (arith, counts.out);
-      most = omega (arith, counts.most);
-      pushes = λ s. omega (arith, counts.pushes s);
-      pops = λ s. omega (arith, counts.pops s);
-    };
+  pub within_more : (held : Holdings X) (n m : ℕ) → n ≤ m → CountsWithin held n → CountsWithin held m
+  within_more held n m more counts = record {
+    fresh = omega (arith, counts.fresh);
+    spent = omega (arith, counts.spent);
+    out = omega (arith, counts.out);
+    most = omega (arith, counts.most);
+    pushes = λ s. omega (arith, counts.pushes s);
+    pops = λ s. omega (arith, counts.pops s);
   }
+
+  within_of_new : (stacks n : ℕ) → CountsWithin (new_holdings {X = X} stacks) n
+  within_of_new stacks n = record {
+    fresh = omega arith;
+    spent = omega arith;
+    out = omega arith;
+    most = omega arith;
+    pushes = bound-replicate (λ (stack : Stack X). stack.pushes) new_stack n stacks (omega arith);
+    pops = bound-replicate (λ (stack : Stack X). stack.pops) new_stack n stacks (omega arith);
+  }
+
+  -- in a depot that nothing was done with all counts are 0
+  pub within_new : (held : Holdings X) (stacks n : ℕ) → held ≡ new_holdings stacks → CountsWithin held n
+  within_new held stacks n is = rw is (within_of_new stacks n)
+
+  pub raises_none : (held : Holdings X) → RaisesCounts held held 0
+  raises_none held = record { within = λ n counts. within_more held n (n + 0) (omega arith) counts }
 
   pub raises_more : (first second third : Holdings X) (j k : ℕ) → RaisesCounts first second j → RaisesCounts second third k → RaisesCounts first third (j + k)
   raises_more first second third j k start rest = record {
@@ -37,18 +58,7 @@ module _ {X : Type 0} where
   }
 
   pub raises_at_most : (held held' : Holdings X) (j k : ℕ) → j ≤ k → RaisesCounts held held' j → RaisesCounts held held' k
-  raises_at_most held held' j k few rises = record {
-    within = λ n counts.
-        let now = rises.within n counts in
-        record {
-          fresh = omega (arith, now.fresh);
-          spent = omega (arith, now.spent);
-          out = omega (arith, now.out);
-          most = omega (arith, now.most);
-          pushes = λ s. omega (arith, now.pushes s);
-          pops = λ s. omega (arith, now.pops s);
-        };
-  }
+  raises_at_most held held' j k few rises = record { within = λ n counts. within_more held' (n + j) (n + k) (omega arith) (rises.within n counts) }
 
   raises_by-lent : (held : Holdings X) → RaisesCounts held (lent held) 1
   raises_by-lent held = record {

@@ -9,7 +9,8 @@ module _ {P : Type 0} where
   abbrev pub corner_list : Inside P → CornerList (Vertex P)
   corner_list it = record { dim = it.dim; places = take (2 ^ it.dim) it.places }
 
-  pub record IsKept (it : Inside P) : Type 0 where
+  -- a dimension, and sixteen places of which those behind its corners are empty
+  pub record IsSound (it : Inside P) : Type 0 where
     pub dim : IsDim it.dim
     pub count : length it.places ≡ 16
     pub rest : drop (2 ^ it.dim) it.places ≡ replicate (16 - 2 ^ it.dim) None

@@ -1,8 +1,9 @@
--- What contracts see of corners and depots.
+-- What contracts see of corners, grids and depots.
 pub mod Corners
 pub mod CornersView
 pub mod Grid
 pub mod Holdings
 pub mod Places
+pub mod Streams
 pub mod VecDepot
 pub mod VecStack

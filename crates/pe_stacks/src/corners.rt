@@ -26,11 +26,11 @@ impl<P> Model for Corners<P> {
 
     ghost Value = { CornerList (Vertex P) };
 
-    ghost use Rattle.pe_stacks.specs.CornersView.{corner_list, IsKept};
+    ghost use Rattle.pe_stacks.specs.CornersView.{corner_list, IsSound};
 
     ghost view = { corner_list };
 
-    ghost invariant = { IsKept };
+    ghost invariant = { IsSound };
 }
 
 impl<P> Corners<P> {
@@ -61,6 +61,7 @@ impl<P> Corners<P> {
         ensures value { vertex_at self.old k ≡ Some result }
         ensures places { self.new ≡ with_vertex self.old k None }
     {
+        // From the fields it is known that a full place is one of the dimension's.
         let _dim = self.dim;
         self.place_mut(k).take().unwrap()
     }
@@ -83,6 +84,7 @@ impl<P> Corners<P> {
         ensures* writes_back { sem 𝓛 (Lends (the_row P.row) (vertex_row P.row) self.entry result
             (λ w. with_vertex self.old k (Some w))) }
     {
+        // From the fields it is known that a full place is one of the dimension's.
         let _dim = self.dim;
         filled_mut(self.place_mut(k))
     }

@@ -1,9 +1,11 @@
 //! Worked rows of depots, and a caller that knows a depot by its bound alone.
-ghost use Rattle.std.specs.Prelude.{◌≡◌, ◌+◌, ◌^◌, ◌<◌, ◌∷◌, drop, IsSome};
+ghost use Rattle.std.specs.Prelude.{◌≡◌, ℕ, ◌+◌, ◌^◌, ◌<◌, [], ◌∷◌, drop, true, false, IsSome};
 ghost use Rattle.std.specs.Option.{option_map};
 ghost use Rattle.pe_stacks.specs.declared.record.Vertex.{Vertex as AVertex};
 ghost use Rattle.pe_stacks.specs.Corners.{vertex_at, with_vertex};
-ghost use Rattle.pe_stacks.specs.Holdings.{stack_count, stack_at, items_at, len_at, lent, popped, given_up, pushed};
+ghost use Rattle.pe_stacks.specs.Grid.{input_stack, cell_input_stack};
+ghost use Rattle.pe_stacks.specs.Streams.{HoldsOnly};
+ghost use Rattle.pe_stacks.specs.Holdings.{new_holdings, stack_count, stack_at, items_at, len_at, lent, popped, given_up, pushed};
 
 use crate::{CellRec, Corners, Depot, Grid, Shown, VecDepot, Vertex};
 use pe_base::{Dim, Kind, State};
@@ -35,6 +37,18 @@ fn depart_at<P>(corners: &mut Corners<P>, k: u8, state: State)
     ensures { corners.new ≡ with_vertex corners.old k (option_map (λ (v : AVertex P). record v { state = state }) (vertex_at corners.old k)) }
 {
     corners.at_mut(k).depart(state);
+}
+
+// Before the first traversal a grid's streams are empty, and after it the other stack is the input.
+fn streams()
+    ensures empty { HoldsOnly {X = ℕ} {Y = ℕ} (λ x. x) (new_holdings 10) (input_stack false) [] }
+    ensures full { HoldsOnly {X = ℕ} {Y = ℕ} (λ x. x)
+        (pushed {X = ℕ} (new_holdings 2) 1 5) (cell_input_stack true) (5 ∷ []) }
+{}
+
+#[test]
+fn the_definitions_give_the_rows() {
+    streams();
 }
 
 #[test]
