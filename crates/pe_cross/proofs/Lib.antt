@@ -1,0 +1,2 @@
+-- Laws of the traffic of level 1.
+pub mod Totals

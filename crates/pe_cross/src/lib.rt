@@ -1,0 +1,2 @@
+//! How often the walk of level 1 crosses each axis.
+#![tactic(auto)]
