@@ -1,1 +1,2 @@
 pub mod ScenarioLemmas
+pub mod Crossings
