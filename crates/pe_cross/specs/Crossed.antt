@@ -1,5 +1,5 @@
 -- How often a traversal of level 1 crosses the axes: the traffic of the temporary stacks.
-use Rattle.std.specs.Prelude.{ℕ, ◌^◌, ◌%◌, Bool, ◌&&◌, ◌==◌, List, map, filter, replicate, slice_index}
+use Rattle.std.specs.Prelude.{ℕ, ◌-◌, ◌^◌, ◌%◌, Bool, ◌&&◌, ◌==◌, List, map, filter, replicate, slice_index}
 use Rattle.std.specs.List.{range_with_len, sum_by}
 use Rattle.pe_base.specs.declared.place.Place.{Place}
 use Rattle.pe_base.specs.declared.way.Way.{Way}
@@ -28,3 +28,8 @@ comes_by axes way axis parity vertex cell =
 abbrev pub goes_by : ℕ → Way → ℕ → ℕ → Place → Place → Bool
 goes_by axes way axis parity vertex cell =
     is_on cell.level (face_on axis parity cell) cell vertex && is_step axes way vertex cell (across (face_on axis parity cell) cell)
+
+-- How many corners of the children of the root lie on its boundary: all corners but those of the inside vertices, each
+-- of which is a corner of as many cells as a cell has corners.
+abbrev pub hanging_corners : ℕ → ℕ
+hanging_corners axes = 6 ^ axes - 4 ^ axes
