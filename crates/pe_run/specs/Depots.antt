@@ -1,18 +1,8 @@
 -- What the two depots have counted after a run, and what they hold.
-use Rattle.std.specs.Prelude.{◌≡◌, ℕ, ◌*◌, ◌/◌, ◌%◌, ◌^◌, ◌≤◌, Bool, ◌==◌, nat_lt, List, [], map, filter, replicate, slice_index, sum_by, if◌then◌else◌}
+use Rattle.std.specs.Prelude.{◌≡◌, ℕ, ◌*◌, ◌/◌, ◌%◌, ◌^◌, ◌≤◌, Bool, ◌==◌, nat_lt, [], sum_by, if◌then◌else◌}
 use Rattle.std.specs.List.{range_with_len}
-use Rattle.pe_base.specs.declared.place.Place.{Place}
-use Rattle.pe_base.specs.Places.{at, corner}
-use Rattle.pe_base.specs.Around.{crossings}
 use Rattle.pe_stacks.specs.Holdings.{Holdings, stack_at, items_at}
-
--- The inside vertices of level 1: the corners of its middle cell.
-abbrev pub inside_vertices : ℕ → List Place
-inside_vertices axes = map (corner axes (at 1 (replicate axes 1))) (range_with_len 0 (2 ^ axes))
-
--- how often vertices cross a face normal to an axis at a coordinate of a parity, in one traversal
-abbrev pub crossed : ℕ → ℕ → ℕ → ℕ
-crossed axes axis parity = sum_by (λ q. crossings axes q axis) (filter (λ q. slice_index q.pos axis % 2 == parity) (inside_vertices axes))
+use Rattle.pe_run.specs.Crossed.{crossed}
 
 -- the streams of a traversal: each is the input of one and the output of the next
 abbrev pub stream_of : Bool → ℕ → ℕ → ℕ

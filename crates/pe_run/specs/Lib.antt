@@ -6,6 +6,7 @@ pub mod Statuses
 pub mod LevelOne
 pub mod Traffic
 pub mod Walked
+pub mod Crossed
 pub mod Depots
 pub mod Run
 pub mod Stages
