@@ -69,7 +69,7 @@ module _ {X : Type 0} where
     pub out : held'.out + count_by puts_back ops ≡ held.out + count_by takes_out ops
     pub raises : RaisesCounts held held' (length ops)
 
-  -- a call that fails leaves as many records out as were out before, and the same number of stacks
-  pub record Abandons (held held' : Holdings X) : Type 0 where
-    pub out : held'.out ≡ held.out
+  -- a call that fails leaves so many records less out, and the same number of stacks
+  pub record Abandons (n : ℕ) (held held' : Holdings X) : Type 0 where
+    pub out : held'.out + n ≡ held.out
     pub stacks : stack_count held' ≡ stack_count held
