@@ -5,3 +5,4 @@ pub mod Places
 pub mod FullCorners
 pub mod LoadStore
 pub mod CornerNumbers
+pub mod CellParts

@@ -46,6 +46,7 @@ module _ {X : Type 0} where
     fresh = omega arith;
     spent = omega arith;
     out = refl;
+    most = omega arith;
     raises = raises_none held;
   })
 
@@ -58,6 +59,7 @@ module _ {X : Type 0} where
     fresh = omega (arith, count_by-append is_lend xs ys, first.fresh, second.fresh);
     spent = omega (arith, count_by-append is_give_up xs ys, first.spent, second.spent);
     out = omega (arith, count_by-append puts_back xs ys, count_by-append takes_out xs ys, first.out, second.out);
+    most = omega (arith, count_by-append takes_out xs ys, first.most, second.most, first.out);
     raises = subst (λ n. RaisesCounts a c n) (sym (length-append xs ys)) (raises_more a b c (length xs) (length ys) first.raises second.raises);
   }
 
@@ -79,6 +81,7 @@ module _ {X : Type 0} where
     fresh = omega (arith, ap (λ (h : Holdings X). h.fresh) is);
     spent = omega (arith, ap (λ (h : Holdings X). h.spent) is);
     out = omega (arith, ap (λ (h : Holdings X). h.out) is);
+    most = omega (arith, ap (λ (h : Holdings X). h.most) is);
     raises = raises-pushed held held' t r is;
   }
 
@@ -100,6 +103,7 @@ module _ {X : Type 0} where
     fresh = omega (arith, ap (λ (h : Holdings X). h.fresh) is);
     spent = omega (arith, ap (λ (h : Holdings X). h.spent) is);
     out = omega (arith, ap (λ (h : Holdings X). h.out) is);
+    most = omega (arith, ap (λ (h : Holdings X). h.most) is);
     raises = raises-popped held held' t is;
   }
 
@@ -112,6 +116,7 @@ module _ {X : Type 0} where
     fresh = omega (arith, ap (λ (h : Holdings X). h.fresh) is);
     spent = omega (arith, ap (λ (h : Holdings X). h.spent) is);
     out = omega (arith, ap (λ (h : Holdings X). h.out) is);
+    most = omega (arith, ap (λ (h : Holdings X). h.most) is);
     raises = raises-lent held held' is;
   }
   counted_one gives_up held held' is = record {
@@ -122,6 +127,7 @@ module _ {X : Type 0} where
     fresh = omega (arith, ap (λ (h : Holdings X). h.fresh) is.1);
     spent = omega (arith, ap (λ (h : Holdings X). h.spent) is.1);
     out = omega (arith, is.0, ap (λ (h : Holdings X). h.out) is.1);
+    most = omega (arith, ap (λ (h : Holdings X). h.most) is.1);
     raises = raises-given_up held held' is.1;
   }
   counted_one (pushes t) held held' is = counted_pushed held held' t is.2.0 is.0 is.1 is.2.1

@@ -1,5 +1,5 @@
 // The walk of one cell.
-ghost use Rattle.std.specs.Prelude.{◌≡◌, ◌≢◌, ℕ, ◌+◌, ◌-◌, ◌<◌, ◌≤◌, ◌^◌, [], ◌∷◌, ◌++◌, true, count_by, reverse, replicate, Err, OnOk, OnErr, IfOk};
+ghost use Rattle.std.specs.Prelude.{◌≡◌, ◌≢◌, ℕ, ◌+◌, ◌-◌, ◌<◌, ◌≤◌, ◌^◌, [], ◌∷◌, ◌++◌, true, count_by, max, reverse, replicate, Err, OnOk, OnErr, IfOk};
 ghost use Rattle.std.specs.List.{flat_map, range_with_len};
 ghost use Rattle.pe_base.specs.declared.place.Place.{Place as APlace};
 ghost use Rattle.pe_base.specs.declared.event.Event.TheVariants.{BeginIteration, EndIteration, TouchVertexFirstTime, TouchVertexLastTime, CreateInnerVertex, CreateHangingVertex, DestroyHangingVertex, CreateCell, EnterCell, LeaveCell};
@@ -50,9 +50,11 @@ pub fn walk_cell<K: Sink, DV: Depot<Vertex<Fields>>, DC: Depot<CellRec<Fields>>>
     ensures moved { OnOk result (DoesAll (vertex_ops traversal.now cell.now) (DV.holds vertices.old) (DV.holds vertices.new)) }
     ensures dropped { OnErr result (Abandons 0 (DV.holds vertices.old) (DV.holds vertices.new)) }
     ensures out { OnOk result ((DV.holds vertices.new).out ≡ (DV.holds vertices.old).out) }
+    ensures most { OnOk result ((DV.holds vertices.new).most ≤ max (DV.holds vertices.old).most ((DV.holds vertices.old).out + 2 ^ traversal.now.dim)) }
     ensures cell_moved { OnOk result (DoesAll (cell_ops traversal.now) (DC.holds cells.old) (DC.holds cells.new)) }
     ensures cell_dropped { OnErr result (Abandons 0 (DC.holds cells.old) (DC.holds cells.new)) }
     ensures cell_out { OnOk result ((DC.holds cells.new).out ≡ (DC.holds cells.old).out) }
+    ensures cell_most { OnOk result ((DC.holds cells.new).most ≤ max (DC.holds cells.old).most ((DC.holds cells.old).out + 1)) }
 {
     let corners = load_corners(traversal, cell, state, sink, vertices)?;
     match visit_cell(traversal, cell, sink, cells) {
@@ -81,6 +83,7 @@ fn visit_cell<K: Sink, D: Depot<CellRec<Fields>>>(
     ensures moved { OnOk result (DoesAll (cell_ops traversal.now) (D.holds cells.old) (D.holds cells.new)) }
     ensures dropped { OnErr result (Abandons 0 (D.holds cells.old) (D.holds cells.new)) }
     ensures out { OnOk result ((D.holds cells.new).out ≡ (D.holds cells.old).out) }
+    ensures most { OnOk result ((D.holds cells.new).most ≤ max (D.holds cells.old).most ((D.holds cells.old).out + 1)) }
 {
     let record = take_cell(traversal, cell, sink, cells)?;
     let record = announce(traversal, Event::EnterCell, cell, record, sink, cells)?;

@@ -3,6 +3,7 @@ ghost use Rattle.std.specs.Prelude.{◌≡◌, ◌≢◌, ℕ, ◌+◌, ◌-◌,
 ghost use Rattle.std.specs.List.{flat_map, range_with_len};
 ghost use Rattle.pe_base.specs.declared.place.Place.{Place as APlace};
 ghost use Rattle.pe_base.specs.declared.event.Event.TheVariants.{BeginIteration, EndIteration, TouchVertexFirstTime, TouchVertexLastTime, CreateInnerVertex, CreateHangingVertex, DestroyHangingVertex, CreateCell, EnterCell, LeaveCell};
+ghost use Rattle.pe_base.specs.Dim.{IsDim};
 ghost use Rattle.pe_base.specs.Places.{IsCellPlace, corner, root};
 ghost use Rattle.pe_base.specs.Curve.{children};
 ghost use Rattle.pe_base.specs.Ways.{way_of};
@@ -43,6 +44,7 @@ pub fn load_corners<K: Sink, D: Depot<Vertex<Fields>>>(
     ensures faults { K.faults sink.old ≤ K.faults sink.new }
     ensures failed { OnErr result (Rises (K.faults sink.old) (K.faults sink.new)) }
     ensures full { IfOk result (FullFrom traversal.now.dim 0) }
+    ensures dim { IsDim traversal.now.dim }
     ensures moved { OnOk result (DoesAll (cell_loads traversal.now cell.now) (D.holds vertices.old) (D.holds vertices.new)) }
     ensures dropped { OnErr result (Abandons 0 (D.holds vertices.old) (D.holds vertices.new)) }
     ensures out { OnOk result ((D.holds vertices.new).out ≡ (D.holds vertices.old).out + 2 ^ traversal.now.dim) }
