@@ -5,3 +5,10 @@ pub mod LevelOneWalk
 pub mod Sums
 pub mod Totals
 pub mod Crossings
+pub mod FiredTexts
+pub mod TrafficLaws
+pub mod Places
+pub mod FullCorners
+pub mod LoadStore
+pub mod CornerNumbers
+pub mod CellParts

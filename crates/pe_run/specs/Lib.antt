@@ -4,6 +4,7 @@ pub mod Scenario
 pub mod Scene
 pub mod Statuses
 pub mod LevelOne
+pub mod Filled
 pub mod Traffic
 pub mod Walked
 pub mod Crossed

@@ -1,5 +1,5 @@
 -- What is done with the records of a depot, one thing after another, apart from the records themselves.
-use Rattle.std.specs.Prelude.{◌≡◌, ℕ, ◌+◌, ◌<◌, Bool, true, false, ◌==◌, List, [], ◌∷◌, length, count_by}
+use Rattle.std.specs.Prelude.{◌≡◌, ℕ, ◌+◌, ◌<◌, ◌≤◌, max, Bool, true, false, ◌==◌, List, [], ◌∷◌, length, count_by}
 use Rattle.pe_stacks.specs.Holdings.{Holdings, stack_at, stack_count, len_at, lent, given_up, pushed, popped, RaisesCounts}
 
 -- a record is lent, given up, pushed on a stack or popped from it
@@ -67,9 +67,10 @@ module _ {X : Type 0} where
     pub fresh : held'.fresh ≡ held.fresh + count_by is_lend ops
     pub spent : held'.spent ≡ held.spent + count_by is_give_up ops
     pub out : held'.out + count_by puts_back ops ≡ held.out + count_by takes_out ops
+    pub most : held'.most ≤ max held.most (held.out + count_by takes_out ops)
     pub raises : RaisesCounts held held' (length ops)
 
-  -- a call that fails leaves as many records out as were out before, and the same number of stacks
-  pub record Abandons (held held' : Holdings X) : Type 0 where
-    pub out : held'.out ≡ held.out
+  -- a call that fails leaves so many records less out, and the same number of stacks
+  pub record Abandons (n : ℕ) (held held' : Holdings X) : Type 0 where
+    pub out : held'.out + n ≡ held.out
     pub stacks : stack_count held' ≡ stack_count held

@@ -1,5 +1,5 @@
 -- What the walk of level 1 over depots does: what it prints, and what it does with the records.
-use Rattle.std.specs.Prelude.{ℕ, ◌+◌, ◌*◌, ◌/◌, ◌%◌, ◌^◌, Bool, not, ◌&&◌, ◌==◌, List, [], ◌∷◌, ◌++◌, map, filter, reverse, replicate, if◌then◌else◌}
+use Rattle.std.specs.Prelude.{◌≡◌, ℕ, true, false, ◌+◌, ◌*◌, ◌/◌, ◌%◌, ◌^◌, Bool, not, ◌&&◌, ◌==◌, List, [], ◌∷◌, ◌++◌, map, filter, reverse, replicate, if◌then◌else◌}
 use Rattle.std.specs.List.{flat_map, range_with_len}
 use Rattle.pe_base.specs.declared.place.Place.{Place}
 use Rattle.pe_base.specs.Places.{root, corner}
@@ -13,6 +13,8 @@ use Rattle.pe_stacks.specs.Grid.{input_stack, output_stack, cell_input_stack, ce
 use Rattle.pe_run.specs.declared.walk.traversal.Traversal.{Traversal}
 use Rattle.pe_run.specs.Trace.{traces}
 use Rattle.pe_run.specs.LevelOne.{is_first, is_last}
+use Rattle.pe_access.specs.declared.route.Route.{Route}
+use Rattle.pe_access.specs.declared.route.Route.TheVariants.{Stream, Temp}
 use Rattle.pe_run.specs.Traffic.{Op, lends, gives_up, pushes, pops}
 
 -- the streams of a traversal
@@ -52,6 +54,24 @@ stacks_to traversal vertex cell = filter (comes_on traversal vertex cell) (range
 unfoldable pub stacks_from : Traversal → Place → Place → List ℕ
 stacks_from traversal vertex cell = filter (goes_on traversal vertex cell) (range_with_len 0 (2 * traversal.dim))
 
+abbrev pub stacks_of : Route → List ℕ
+stacks_of Stream = []
+stacks_of (Temp s) = s ∷ []
+
+abbrev pub is_stream : Route → Bool
+is_stream Stream = true
+is_stream (Temp s) = false
+
+-- a route names the stack by which a vertex comes to a cell, and is the stream at its first touch
+pub record ComesBy (traversal : Traversal) (vertex cell : Place) (route : Route) : Type 0 where
+  pub stacks : stacks_to traversal vertex cell ≡ stacks_of route
+  pub first : is_first traversal.dim traversal.number vertex cell ≡ is_stream route
+
+-- it names the stack by which the vertex goes from the cell, and is the stream at its last touch
+pub record GoesBy (traversal : Traversal) (vertex cell : Place) (route : Route) : Type 0 where
+  pub stacks : stacks_from traversal vertex cell ≡ stacks_of route
+  pub last : is_last traversal.dim traversal.number vertex cell ≡ is_stream route
+
 -- what is done with a vertex at its first touch: it is born in traversal 1, and read afterwards
 abbrev pub first_ops : Traversal → List Op
 first_ops traversal = if traversal.number == 1 then lends ∷ [] else (pops (input_of traversal) ∷ [])
@@ -82,9 +102,11 @@ abbrev pub vertex_ops : Traversal → Place → List Op
 vertex_ops traversal cell = cell_loads traversal cell ++ cell_stores traversal cell
 
 -- what is done with the cell's own record
-abbrev pub cell_ops : Traversal → Place → List Op
-cell_ops traversal cell =
-    (if traversal.number == 1 then lends ∷ [] else (pops (cell_input_of traversal) ∷ [])) ++ pushes (cell_output_of traversal) ∷ []
+abbrev pub birth_ops : Traversal → List Op
+birth_ops traversal = if traversal.number == 1 then lends ∷ [] else (pops (cell_input_of traversal) ∷ [])
+
+abbrev pub cell_ops : Traversal → List Op
+cell_ops traversal = birth_ops traversal ++ pushes (cell_output_of traversal) ∷ []
 
 -- what a traversal does with vertices, and with cells
 abbrev pub traversal_vertex_ops : Traversal → List Op
@@ -94,4 +116,4 @@ traversal_vertex_ops traversal =
     ++ replicate (2 ^ traversal.dim) gives_up
 
 abbrev pub traversal_cell_ops : Traversal → List Op
-traversal_cell_ops traversal = flat_map (cell_ops traversal) (children traversal.dim (way_of traversal.number) root)
+traversal_cell_ops traversal = flat_map (λ cell. cell_ops traversal) (children traversal.dim (way_of traversal.number) root)

@@ -1,6 +1,7 @@
 // Places of level 1.
 ghost use Rattle.std.specs.Prelude.{◌≡◌, ◌<◌, ◌≤◌, ◌^◌, length};
 ghost use Rattle.pe_base.specs.Places.{IsDigits, IsCellPlace, child_at, root, corner};
+ghost use Rattle.pe_base.specs.Dim.{IsDim};
 ghost use Rattle.pe_base.specs.Kinds.{is_inside};
 
 use pe_base::{Digits, Dim, Place};
@@ -31,8 +32,10 @@ pub fn corner_of(dim: Dim, cell: &Place, k: u8) -> Place
     requires level { cell.now.level ≡ 1 }
     requires corner { k < 2 ^ dim }
     ensures place { result ≡ corner dim cell.now k }
+    ensures dim { IsDim dim }
     ensures level { result.level ≡ 1 }
 {
+    let _axes = dim.axes();
     let [x, y, z, w] = cell.pos;
     Place {
         level: cell.level,

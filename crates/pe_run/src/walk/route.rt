@@ -1,12 +1,29 @@
 // By which stack a corner comes, and by which it goes.
+ghost use Rattle.std.specs.Prelude.{◌≡◌, ◌<◌, ◌^◌, true};
+ghost use Rattle.pe_base.specs.declared.place.Place.{Place as APlace};
+ghost use Rattle.pe_base.specs.Places.{IsCellPlace, corner};
+ghost use Rattle.pe_base.specs.Kinds.{is_inside};
+ghost use Rattle.pe_base.specs.Ways.{way_of};
+ghost use Rattle.pe_access.specs.States.{StandsFor};
+ghost use Rattle.pe_run.specs.Walked.{ComesBy, GoesBy};
+ghost use Rattle.pe_run.specs.declared.walk.traversal.Traversal.{Traversal as ATraversal};
+
 use pe_access::{CellState, Route};
 
 /// The route by which a cell takes a corner that lies inside the root cube.
-pub fn comes_by(state: &CellState, k: u8) -> Route {
+pub fn comes_by(state: &CellState, k: u8) -> Route
+    ensures { (traversal : ATraversal) (cell : APlace) → StandsFor traversal.dim (way_of traversal.number) cell state.now
+        → IsCellPlace traversal.dim cell → cell.level ≡ 1 → k < 2 ^ traversal.dim → is_inside traversal.dim (corner traversal.dim cell k) ≡ true
+        → ComesBy traversal (corner traversal.dim cell k) cell result }
+{
     state.route_in(k)
 }
 
 /// The route by which a cell puts a corner that lies inside the root cube.
-pub fn goes_by(state: &CellState, k: u8) -> Route {
+pub fn goes_by(state: &CellState, k: u8) -> Route
+    ensures { (traversal : ATraversal) (cell : APlace) → StandsFor traversal.dim (way_of traversal.number) cell state.now
+        → IsCellPlace traversal.dim cell → cell.level ≡ 1 → k < 2 ^ traversal.dim → is_inside traversal.dim (corner traversal.dim cell k) ≡ true
+        → GoesBy traversal (corner traversal.dim cell k) cell result }
+{
     state.route_out(k)
 }

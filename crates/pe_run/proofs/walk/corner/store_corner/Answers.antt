@@ -1,0 +1,15 @@
+use Rattle.std.proofs.Common.{◌≡◌, ◌+◌, ◌*◌, ◌<◌, ◌≤◌, true, sym, ap, ◌∙◌, arith}
+use Rattle.pe_base.specs.Places.{corner}
+use Rattle.pe_base.specs.Kinds.{is_inside}
+use Rattle.pe_access.specs.declared.route.Route.TheVariants.{Temp}
+use Rattle.pe_run.specs.Walked.{GoesBy}
+use Rattle.pe_run.proofs.LoadStore.{goes_below}
+use Rattle.pe_run.proofs.walk.corner.store_corner.Goals as goal
+
+pub push_or_give_up-requires-clause-stack : goal.push_or_give_up-requires-clause-stack
+push_or_give_up-requires-clause-stack g c =
+    let t = c.args.traversal.now in
+    let cell = c.args.cell.now in
+    let inside : is_inside t.dim (corner t.dim cell c.args.k) ≡ true = ap (is_inside t.dim) (sym c.corner_of-place.ensures.place) ∙ sym c.if-not-is_inside.ensures in
+    let by : GoesBy t (corner t.dim cell c.args.k) cell (Temp c.in-Temp.s) = c.in-Temp.ensures t cell c.requires.state c.requires.cell c.requires.level c.requires.corner inside in
+    omega (arith, goes_below t (corner t.dim cell c.args.k) cell c.in-Temp.s by, c.corner_of-place.ensures.dim.1, c.requires.stacks)

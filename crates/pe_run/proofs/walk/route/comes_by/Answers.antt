@@ -1,0 +1,4 @@
+use Rattle.pe_run.proofs.walk.route.comes_by.Goals as goal
+
+pub returns : goal.returns
+returns c = ?

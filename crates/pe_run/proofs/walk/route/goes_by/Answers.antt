@@ -1,0 +1,4 @@
+use Rattle.pe_run.proofs.walk.route.goes_by.Goals as goal
+
+pub returns : goal.returns
+returns c = ?
