@@ -384,3 +384,16 @@ round axes w (suc level) ss h =
         ends = entry-outside (suc w) level ss above.last last (parents-start (suc (w + sum above.last)) ss above.last fine') (leave-shift w ss above.last last None back.ends) ∙ walk.ends;
       };
     }
+
+-- what holds a point on a level is in what holds it on the level above
+pub fits-parents : (ss : List Spot) (cs : List ℕ) → fits_all ss cs ≡ true → fits_all (map coarse ss) (parents cs) ≡ true
+fits-parents [] [] h = refl
+fits-parents [] (c ∷ cs) h = absurd (false≢true h)
+fits-parents (s ∷ ss) [] h = absurd (false≢true h)
+fits-parents (s ∷ ss) (c ∷ cs) h =
+    let both = and_parts (fits s c) (fits_all ss cs) h in
+    let here : fits (coarse s) (c / 3) ≡ true = elim (cases_Bool (fits (coarse s) (c / 3))) [
+        | inl e ↦ e
+        | inr e ↦ absurd (false≢true (sym (apart s.x (c / 3) c s.on (omega arith) (omega arith) e) ∙ both.0))
+      ] in
+    ap (λ v. v && fits_all (map coarse ss) (parents cs)) here ∙ fits-parents ss cs both.1

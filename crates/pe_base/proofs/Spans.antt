@@ -116,7 +116,7 @@ pub record Fit (x : ℕ) (on : Bool) (p lo : ℕ) (pair : Bool) : Type 0 where
   pub plane : pair ≡ true → (on ≡ true) × (x ≡ lo + 1) × (digit < 2)
   pub holds : (c : ℕ) → 3 * p ≤ c → c < 3 * p + 3 → fits (record { x = x; on = on }) c ≡ (c == lo || (pair && c == lo + 1))
 
-same_test : (a b c d : ℕ) → (a ≡ b → c ≡ d) → (c ≡ d → a ≡ b) → (a == b) ≡ (c == d)
+pub same_test : (a b c d : ℕ) → (a ≡ b → c ≡ d) → (c ≡ d → a ≡ b) → (a == b) ≡ (c == d)
 same_test a b c d to from = elim (cases_eq a b) [
     | inl e ↦ eq-eqb a b e ∙ sym (eq-eqb c d (to e))
     | inr e ↦ ne_eqb a b e ∙ sym (ne_eqb c d (λ h. e (from h)))
