@@ -237,3 +237,72 @@ pick-child relation level a b (s ∷ ss) (c ∷ cs) (line ∷ lines) sees h e sm
     ap (λ n. stronger n (pick (marks relation ss cs (child_lines (suc level) (a + c % 3) (parents cs) cs lines)))) head
     ∙ ap (stronger (marked (suc level) t m)) tail
     ∙ step-pick level inner t m (pick above) small.0 (pick-low level above small.1)
+
+-- lines whose faces appeared on no greater level
+LowLines : ℕ → List Line → Type 0
+LowLines level [] = Unit
+LowLines level (line ∷ lines) = (line.near.level ≤ level) × (line.far.level ≤ level) × LowLines level lines
+
+if-low : (v : Bool) (a b : Face) (level : ℕ) → a.level ≤ level → b.level ≤ level → (if v then a else b).level ≤ level
+if-low true a b level h k = h
+if-low false a b level h k = k
+
+child_lines-low : (level turns : ℕ) (ps xs : List ℕ) (lines : List Line) → LowLines level lines → LowLines (suc level) (child_lines (suc level) turns ps xs lines)
+unfolding LowLines
+child_lines-low level turns [] xs lines h = tt
+child_lines-low level turns (p ∷ ps) [] lines h = tt
+child_lines-low level turns (p ∷ ps) (x ∷ xs) [] h = tt
+child_lines-low level turns (p ∷ ps) (x ∷ xs) (line ∷ lines) h =
+    let near = h.0 in
+    let far = h.1 in
+    (if-low (x % 3 == 0) line.near (near_face (suc level) (turns + p)) (suc level) (omega arith) (omega arith), if-low (x % 3 == 2) line.far (far_face (suc level) (turns + p)) (suc level) (omega arith) (omega arith), child_lines-low level (turns + x % 3) ps xs lines h.2)
+
+lines_of-low : (way : Way) (level : ℕ) (pos : List ℕ) → LowLines level (lines_of way level pos)
+unfolding LowLines
+lines_of-low way zero [] = tt
+lines_of-low way zero (x ∷ pos) = (omega arith, omega arith, lines_of-low way zero pos)
+lines_of-low way (suc level) pos = child_lines-low level (way_turns way + sum (parents pos)) (parents pos) pos (lines_of way level (parents pos)) (lines_of-low way level (parents pos))
+
+mark-low : (relation : Relation) (face : Face) (level : ℕ) → face.level ≤ level → LowMark level (mark relation face)
+mark-low relation face level h = elim (is_relation face.relation relation) as (λ v. LowMark level (if v then Some face.level else None)) [ true ↦ h | false ↦ tt ]
+
+mark_at-low : (relation : Relation) (x : ℕ) (on : Bool) (c : ℕ) (line : Line) (level : ℕ) → line.near.level ≤ level → line.far.level ≤ level → LowMark level (mark_at relation x on c line)
+mark_at-low relation x false c line level h k = tt
+mark_at-low relation x true c line level h k = mark-low relation (if x == c then line.near else line.far) level (if-low (x == c) line.near line.far level h k)
+
+marks-low : (relation : Relation) (level : ℕ) (ss : List Spot) (cs : List ℕ) (lines : List Line) → LowLines level lines → LowMarks level (marks relation ss cs lines)
+unfolding LowLines
+marks-low relation level [] cs lines h = tt
+marks-low relation level (s ∷ ss) [] lines h = tt
+marks-low relation level (s ∷ ss) (c ∷ cs) [] h = tt
+marks-low relation level (s ∷ ss) (c ∷ cs) (line ∷ lines) h = (mark_at-low relation s.x s.on c line level h.0 h.1, marks-low relation level ss cs lines h.2)
+
+-- no face of the root has a neighbour
+root-mark : (relation : Relation) (x : ℕ) (on : Bool) (c : ℕ) (a b : ℕ) → Sees relation a b → mark_at relation x on c root_line ≡ None
+root-mark relation x false c a b h = refl
+root-mark Earlier x true c a b h = elim (x == c) as (λ v. mark Earlier (if v then root_face else root_face) ≡ None) [ true ↦ refl | false ↦ refl ]
+root-mark Later x true c a b h = elim (x == c) as (λ v. mark Later (if v then root_face else root_face) ≡ None) [ true ↦ refl | false ↦ refl ]
+root-mark Outside x true c a b h = absurd h
+
+root-pick : (relation : Relation) (a b : ℕ) → Sees relation a b → (ss : List Spot) (cs : List ℕ) → (pick (marks relation ss cs (map (λ x. root_line) cs))).axis ≡ None
+root-pick relation a b h [] cs = refl
+root-pick relation a b h (s ∷ ss) [] = refl
+root-pick relation a b h (s ∷ ss) (c ∷ cs) =
+    let p = pick (marks relation ss cs (map (λ x. root_line) cs)) in
+    ap (λ m. (stronger m p).axis) (root-mark relation s.x s.on c a b h) ∙ ap (option_map suc) (root-pick relation a b h ss cs)
+
+joined-axis : (level : ℕ) (inner : Option ℕ) (p : Pick) → (joined level inner p).axis ≡ or_else inner p.axis
+joined-axis level None p = refl
+joined-axis level (Some i) p = refl
+
+-- the pick among a cell's faces is the axis across which it is entered, or left
+pub pick-entry : (relation : Relation) (way : Way) (b level : ℕ) → Sees relation (way_turns way) b → (ss : List Spot) (cs : List ℕ) → fits_all ss cs ≡ true → (pick (marks relation ss cs (lines_of way level cs))).axis ≡ entry b level ss cs
+pick-entry relation way b zero sees ss cs h = root-pick relation (way_turns way) b sees ss cs
+pick-entry relation way b (suc level) sees ss cs h =
+    let ps = parents cs in
+    let a = way_turns way in
+    let lines = lines_of way level ps in
+    let above = pick (marks relation (map coarse ss) ps lines) in
+    ap (λ p. p.axis) (pick-child relation level (a + sum ps) (b + sum ps) ss cs lines (sees-at relation a b (sum ps) sees) h (length-lines_of way level ps ∙ length-parents cs) (marks-low relation level (map coarse ss) ps lines (lines_of-low way level ps)))
+    ∙ joined-axis (suc level) (enter (b + sum ps) ss ps cs) above
+    ∙ ap (or_else (enter (b + sum ps) ss ps cs)) (pick-entry relation way b level sees (map coarse ss) ps (fits-parents ss cs h))
