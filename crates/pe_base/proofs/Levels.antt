@@ -279,7 +279,7 @@ sum-crosses (s ∷ ss) (suc i) (u ∷ us) [] h = absurd h
 sum-crosses (s ∷ ss) (suc i) (u ∷ us) (v ∷ vs) h = let same = h.0 in omega (arith, sum-cons u us, sum-cons v vs, sum-crosses ss i us vs h.1)
 
 -- a child of a cell is entered as it is among its siblings, or else as the cell is
-entry-child : (w level : ℕ) (ss : List Spot) (a cs : List ℕ) → parents cs ≡ a → entry w (suc level) ss cs ≡ or_else (enter (w + sum a) ss a cs) (entry w level (map coarse ss) a)
+pub entry-child : (w level : ℕ) (ss : List Spot) (a cs : List ℕ) → parents cs ≡ a → entry w (suc level) ss cs ≡ or_else (enter (w + sum a) ss a cs) (entry w level (map coarse ss) a)
 entry-child w level ss a cs e = ap (λ ps. or_else (enter (w + sum ps) ss ps cs) (entry w level (map coarse ss) ps)) e
 
 entry-inside : (w level i : ℕ) (ss : List Spot) (a cs : List ℕ) → parents cs ≡ a → enter (w + sum a) ss a cs ≡ Some i → entry w (suc level) ss cs ≡ Some i

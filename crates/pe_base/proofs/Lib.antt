@@ -8,3 +8,4 @@ pub mod Levels
 pub mod Rounds
 pub mod RouteLaws
 pub mod StackLaws
+pub mod CrossingLaws

@@ -89,7 +89,7 @@ fits_coarsest axes (suc level) ss e h =
     let bound : 3 ^ suc level ≡ 3 * 3 ^ level = omega (arith, pow-suc 3 level) in
     fits_coarsest axes level (map coarse ss) (length-coarse ss ∙ e) (below-coarse (3 ^ level) ss (subst P bound h))
 
-length-spots : (qs : List ℕ) → length (spots qs) ≡ length qs
+pub length-spots : (qs : List ℕ) → length (spots qs) ≡ length qs
 length-spots [] = refl
 length-spots (q ∷ qs) = ap suc (length-spots qs)
 
@@ -159,7 +159,7 @@ shares_face ss level i us vs h =
         along = λ j apart. crosses-along ss i us vs zs h j apart;
       }))
 
-abbrev Shares : Place × Place → Type 0
+abbrev pub Shares : Place × Place → Type 0
 Shares step = SharesFace (axis_of step) step.0 step.1
 
 path-shares : (f g : List ℕ → Option ℕ) (ss : List Spot) (level : ℕ) (a : List ℕ) (xs : List (List ℕ)) (z : List ℕ) → Path f g (Crosses ss) a xs z → All Shares (zip (map (at level) (a ∷ xs)) (map (at level) xs))
