@@ -2,12 +2,13 @@
 use Rattle.std.proofs.Common.{◌≡◌, ℕ, zero, suc, ◌+◌, ◌-◌, ◌*◌, ◌/◌, ◌%◌, ◌^◌, ◌<◌, ◌≤◌, Bool, true, false, ◌&&◌, ◌||◌, List, [], ◌∷◌, ◌++◌, map, length, Option, Some, None, sym, ap, ◌∙◌, subst, refl, inl, inr, ◌⊎◌, arith, pow-suc}
 use Rattle.std.specs.Prelude.{◌==◌, if◌then◌else◌, filter, sum, replicate, All, not}
 use Rattle.std.specs.List.{flat_map}
+use Rattle.std.proofs.lemmas.Nat.{pow-add}
 use Rattle.std.proofs.lemmas.Bool.{and_parts, eqb-true, eqb-false, eq-eqb, ne_eqb, false≢true, cases_lt, cases_Bool}
 use Rattle.std.proofs.lemmas.List.{length-append, length-map}
 use Rattle.std.proofs.lemmas.List.Elements.{All-head, All-tail, filter_passes}
 use Rattle.pe_base.proofs.Walks.{Step, Path, Walk}
 use Rattle.pe_base.proofs.Spans.{Spot, Fit, fit, fits, fits_all, coarse, two, two_on, low, low_on, lead, other, split, is_even, is_other, gray, start, enter, deeper, Within, parents, same_test, gray_walk, parents-start}
-use Rattle.pe_base.proofs.Levels.{cells, holders, holders-suc, entry, entry-child, or_else}
+use Rattle.pe_base.proofs.Levels.{cells, holders, holders-suc, entry, entry-child, or_else, coarsest}
 
 abbrev pub one : Bool → ℕ
 one v = if v then 1 else 0
@@ -199,3 +200,142 @@ crossed-suc axes w level i ss =
 holders-length : (axes w level : ℕ) (ss : List Spot) → length (holders axes w (suc level) ss) ≡ length (holders axes w level (map coarse ss)) * count_inside ss
 holders-length axes w level ss =
     ap length (holders-suc axes w level ss) ∙ blocks-length w ss (holders axes w level (map coarse ss)) (filter_passes (fits_all (map coarse ss)) (cells axes w level))
+
+-- the planes of a point, and those that split the cell around it
+abbrev pub ons : List Spot → ℕ
+ons ss = tally (λ s. s.on) ss
+
+abbrev pub twos : List Spot → ℕ
+twos ss = tally (λ s. two s.x s.on) ss
+
+abbrev pub on_at : ℕ → List Spot → Bool
+on_at i [] = false
+on_at zero (s ∷ ss) = s.on
+on_at (suc i) (s ∷ ss) = on_at i ss
+
+abbrev pub two_at : ℕ → List Spot → Bool
+two_at i [] = false
+two_at zero (s ∷ ss) = two s.x s.on
+two_at (suc i) (s ∷ ss) = two_at i ss
+
+-- how many axes before an axis split the cell
+abbrev pub before : ℕ → List Spot → ℕ
+before i [] = 0
+before zero (s ∷ ss) = 0
+before (suc i) (s ∷ ss) = one (two s.x s.on) + before i ss
+
+-- each plane of a point lies strictly inside the root
+abbrev pub Strict : ℕ → List Spot → Type 0
+Strict level [] = Unit
+Strict level (s ∷ ss) = (s.on ≡ true → (0 < s.x) × (s.x < 3 ^ level)) × Strict level ss
+
+strict-coarse : (level : ℕ) (ss : List Spot) → Strict (suc level) ss → Strict level (map coarse ss)
+strict-coarse level [] h = tt
+strict-coarse level (s ∷ ss) h =
+    let bound : 3 ^ suc level ≡ 3 * 3 ^ level = omega (arith, pow-suc 3 level) in
+    (λ e.
+        let both = and_parts s.on (s.x % 3 == 0) e in
+        let third : s.x % 3 ≡ 0 = eqb-true (s.x % 3) 0 both.1 in
+        let here = h.0 both.0 in
+        let positive = here.0 in
+        let below = here.1 in
+        (omega arith, omega arith), strict-coarse level ss h.1)
+
+strict-off : (s : Spot) → (s.on ≡ true → (0 < s.x) × (s.x < 3 ^ 0)) → s.on ≡ false
+strict-off s h = elim (cases_Bool s.on) [ inl e ↦ absurd (let here = h e in let a = here.0 in let b = here.1 in omega arith) | inr e ↦ e ]
+
+strict-none : (ss : List Spot) → Strict 0 ss → ons ss ≡ 0
+strict-none [] h = refl
+strict-none (s ∷ ss) h = ap (λ v. one v + ons ss) (strict-off s h.0) ∙ omega (arith, strict-none ss h.1)
+
+strict-at : (i : ℕ) (ss : List Spot) → Strict 0 ss → on_at i ss ≡ false
+strict-at i [] h = refl
+strict-at zero (s ∷ ss) h = strict-off s h.0
+strict-at (suc i) (s ∷ ss) h = strict-at i ss h.1
+
+on-split : (on whole : Bool) → one on ≡ one (on && whole) + one (two_on on whole)
+on-split true true = refl
+on-split true false = refl
+on-split false whole = refl
+
+ons-coarse : (ss : List Spot) → ons ss ≡ ons (map coarse ss) + twos ss
+ons-coarse [] = refl
+ons-coarse (s ∷ ss) = omega (arith, on-split s.on (s.x % 3 == 0), ons-coarse ss)
+
+count_inside-pow : (ss : List Spot) → count_inside ss ≡ 2 ^ twos ss
+count_inside-pow [] = refl
+count_inside-pow (s ∷ ss) =
+    ap (double (two s.x s.on)) (count_inside-pow ss)
+    ∙ elim (two s.x s.on) as (λ v. double v (2 ^ twos ss) ≡ 2 ^ (one v + twos ss)) [
+      | true ↦ let next : 1 + twos ss ≡ suc (twos ss) = omega arith in omega (arith, pow-suc 2 (twos ss), ap (λ (n : ℕ). 2 ^ n) next)
+      | false ↦ ap (λ (n : ℕ). 2 ^ n) (let same : twos ss ≡ 0 + twos ss = omega arith in same)
+    ]
+
+-- two cells for each plane
+size : (axes w level : ℕ) (ss : List Spot) → fits_all (coarsest level ss) (replicate axes 0) ≡ true → Strict level ss → length (holders axes w level ss) ≡ 2 ^ ons ss
+size axes w zero ss h strict = ap (λ v. length (if v then replicate {A = ℕ} axes 0 ∷ [] else [])) h ∙ ap (λ (n : ℕ). 2 ^ n) (sym (strict-none ss strict))
+size axes w (suc level) ss h strict =
+    holders-length axes w level ss
+    ∙ ap (λ (n : ℕ). n * count_inside ss) (size axes w level (map coarse ss) h (strict-coarse level ss strict))
+    ∙ ap (λ (n : ℕ). 2 ^ ons (map coarse ss) * n) (count_inside-pow ss)
+    ∙ sym (pow-add 2 (ons (map coarse ss)) (twos ss))
+    ∙ ap (λ (n : ℕ). 2 ^ n) (sym (ons-coarse ss))
+
+inner-step : (v t : Bool) (n : ℕ) → double v (if t then 2 ^ n else 0) ≡ (if t then 2 ^ (one v + n) else 0)
+inner-step true true n = let next : 1 + n ≡ suc n = omega arith in omega (arith, pow-suc 2 n, ap (λ (n : ℕ). 2 ^ n) next)
+inner-step true false n = refl
+inner-step false true n = ap (λ (n : ℕ). 2 ^ n) (let same : n ≡ 0 + n = omega arith in same)
+inner-step false false n = refl
+
+inner-pow : (i : ℕ) (ss : List Spot) → inner i ss ≡ (if two_at i ss then 2 ^ before i ss else 0)
+inner-pow i [] = refl
+inner-pow zero (s ∷ ss) = refl
+inner-pow (suc i) (s ∷ ss) = ap (double (two s.x s.on)) (inner-pow i ss) ∙ inner-step (two s.x s.on) (two_at i ss) (before i ss)
+
+two-new : (on whole : Bool) → two_on on whole ≡ true → (on ≡ true) × ((on && whole) ≡ false)
+two-new false whole e = absurd (false≢true e)
+two-new true true e = absurd (false≢true e)
+two-new true false e = (refl, refl)
+
+two-old : (on whole : Bool) → two_on on whole ≡ false → (on && whole) ≡ on
+two-old false whole e = refl
+two-old true true e = refl
+two-old true false e = absurd (false≢true (sym e))
+
+at-new : (i : ℕ) (ss : List Spot) → two_at i ss ≡ true → (on_at i ss ≡ true) × (on_at i (map coarse ss) ≡ false)
+at-new i [] e = absurd (false≢true e)
+at-new zero (s ∷ ss) e = two-new s.on (s.x % 3 == 0) e
+at-new (suc i) (s ∷ ss) e = at-new i ss e
+
+at-old : (i : ℕ) (ss : List Spot) → two_at i ss ≡ false → on_at i (map coarse ss) ≡ on_at i ss
+at-old i [] e = refl
+at-old zero (s ∷ ss) e = two-old s.on (s.x % 3 == 0) e
+at-old (suc i) (s ∷ ss) e = at-old i ss e
+
+-- how many axes are slower: those whose planes appeared on a smaller level, or on the same one and before
+abbrev pub slow : ℕ → List Spot → ℕ → ℕ
+slow zero ss i = 0
+slow (suc level) ss i = if two_at i ss then ons (map coarse ss) + before i ss else slow level (map coarse ss) i
+
+pub crossed-slow : (axes w level i : ℕ) (ss : List Spot) → fits_all (coarsest level ss) (replicate axes 0) ≡ true → Strict level ss → crossed axes w level ss i ≡ (if on_at i ss then 2 ^ slow level ss i else 0)
+crossed-slow axes w zero i ss h strict =
+    tally-none (λ c. is_axis i (entry w zero ss c)) (holders axes w zero ss) (λ c. refl) ∙ ap (λ v. if v then 2 ^ 0 else 0) (sym (strict-at i ss strict))
+crossed-slow axes w (suc level) i ss h strict =
+    let above = map coarse ss in
+    let rest : crossed axes w level above i ≡ (if on_at i above then 2 ^ slow level above i else 0) = crossed-slow axes w level i above h (strict-coarse level ss strict) in
+    let many : length (holders axes w level above) ≡ 2 ^ ons above = size axes w level above h (strict-coarse level ss strict) in
+    let sum : crossed axes w (suc level) ss i ≡ 2 ^ ons above * (if two_at i ss then 2 ^ before i ss else 0) + (if on_at i above then 2 ^ slow level above i else 0) =
+    crossed-suc axes w level i ss ∙ ap (λ (n : ℕ). n * inner i ss + crossed axes w level above i) many ∙ ap (λ (n : ℕ). 2 ^ ons above * n + crossed axes w level above i) (inner-pow i ss) ∙ ap (λ (n : ℕ). 2 ^ ons above * (if two_at i ss then 2 ^ before i ss else 0) + n) rest in
+    let total : Bool → Bool → Bool → Type 0 = λ t o v. 2 ^ ons above * (if t then 2 ^ before i ss else 0) + (if o then 2 ^ slow level above i else 0) ≡ (if v then 2 ^ (if t then ons above + before i ss else slow level above i) else 0) in
+    sum ∙ elim (cases_Bool (two_at i ss)) [
+      | inl e ↦
+          let new = at-new i ss e in
+          let P : Bool → Type 0 = λ t. total t (on_at i above) (on_at i ss) in
+          let Q : Bool → Type 0 = λ o. total true o (on_at i ss) in
+          let R : Bool → Type 0 = λ v. total true false v in
+          subst P (sym e) (subst Q (sym new.1) (subst R (sym new.0) (omega (arith, pow-add 2 (ons above) (before i ss)))))
+      | inr e ↦
+          let P : Bool → Type 0 = λ t. total t (on_at i above) (on_at i ss) in
+          let Q : Bool → Type 0 = λ o. total false o (on_at i ss) in
+          subst P (sym e) (subst Q (sym (at-old i ss e)) (omega arith))
+    ]
