@@ -229,7 +229,7 @@ abbrev pub Strict : ℕ → List Spot → Type 0
 Strict level [] = Unit
 Strict level (s ∷ ss) = (s.on ≡ true → (0 < s.x) × (s.x < 3 ^ level)) × Strict level ss
 
-strict-coarse : (level : ℕ) (ss : List Spot) → Strict (suc level) ss → Strict level (map coarse ss)
+pub strict-coarse : (level : ℕ) (ss : List Spot) → Strict (suc level) ss → Strict level (map coarse ss)
 strict-coarse level [] h = tt
 strict-coarse level (s ∷ ss) h =
     let bound : 3 ^ suc level ≡ 3 * 3 ^ level = omega (arith, pow-suc 3 level) in
@@ -248,7 +248,7 @@ strict-none : (ss : List Spot) → Strict 0 ss → ons ss ≡ 0
 strict-none [] h = refl
 strict-none (s ∷ ss) h = ap (λ v. one v + ons ss) (strict-off s h.0) ∙ omega (arith, strict-none ss h.1)
 
-strict-at : (i : ℕ) (ss : List Spot) → Strict 0 ss → on_at i ss ≡ false
+pub strict-at : (i : ℕ) (ss : List Spot) → Strict 0 ss → on_at i ss ≡ false
 strict-at i [] h = refl
 strict-at zero (s ∷ ss) h = strict-off s h.0
 strict-at (suc i) (s ∷ ss) h = strict-at i ss h.1
@@ -302,12 +302,12 @@ two-old false whole e = refl
 two-old true true e = refl
 two-old true false e = absurd (false≢true (sym e))
 
-at-new : (i : ℕ) (ss : List Spot) → two_at i ss ≡ true → (on_at i ss ≡ true) × (on_at i (map coarse ss) ≡ false)
+pub at-new : (i : ℕ) (ss : List Spot) → two_at i ss ≡ true → (on_at i ss ≡ true) × (on_at i (map coarse ss) ≡ false)
 at-new i [] e = absurd (false≢true e)
 at-new zero (s ∷ ss) e = two-new s.on (s.x % 3 == 0) e
 at-new (suc i) (s ∷ ss) e = at-new i ss e
 
-at-old : (i : ℕ) (ss : List Spot) → two_at i ss ≡ false → on_at i (map coarse ss) ≡ on_at i ss
+pub at-old : (i : ℕ) (ss : List Spot) → two_at i ss ≡ false → on_at i (map coarse ss) ≡ on_at i ss
 at-old i [] e = refl
 at-old zero (s ∷ ss) e = two-old s.on (s.x % 3 == 0) e
 at-old (suc i) (s ∷ ss) e = at-old i ss e

@@ -9,3 +9,4 @@ pub mod Rounds
 pub mod RouteLaws
 pub mod StackLaws
 pub mod CrossingLaws
+pub mod SlowerLaws

@@ -93,9 +93,12 @@ pub length-spots : (qs : List ℕ) → length (spots qs) ≡ length qs
 length-spots [] = refl
 length-spots (q ∷ qs) = ap suc (length-spots qs)
 
+pub fits_vertex : (axes level : ℕ) (qs : List ℕ) → length qs ≡ axes → Below (3 ^ level) qs → fits_all (coarsest level (spots qs)) (replicate axes 0) ≡ true
+fits_vertex axes level qs e h = fits_coarsest axes level (spots qs) (length-spots qs ∙ e) (below-spots (3 ^ level) qs h)
+
 -- the walk around a vertex
 pub round_at : (axes w level : ℕ) (qs : List ℕ) → length qs ≡ axes → Below (3 ^ level) qs → Round axes w level (spots qs)
-round_at axes w level qs e h = round axes w level (spots qs) (fits_coarsest axes level (spots qs) (length-spots qs ∙ e) (below-spots (3 ^ level) qs h))
+round_at axes w level qs e h = round axes w level (spots qs) (fits_vertex axes level qs e h)
 
 crosses-axis : (ss : List Spot) (i : ℕ) (us vs zs : List ℕ) → Crosses ss i us vs → axis_between (us ++ zs) (vs ++ zs) ≡ i
 crosses-axis [] i us vs zs h = absurd h
