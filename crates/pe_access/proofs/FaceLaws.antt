@@ -1,8 +1,8 @@
 -- The fastest face at a corner is that across which the cell is entered, or left.
-use Rattle.std.proofs.Common.{◌≡◌, ℕ, zero, suc, ◌+◌, ◌-◌, ◌*◌, ◌/◌, ◌%◌, ◌^◌, ◌<◌, ◌≤◌, Bool, true, false, ◌&&◌, ◌||◌, List, [], ◌∷◌, ◌++◌, map, length, Option, Some, None, sym, ap, ◌∙◌, subst, refl, inl, inr, ◌⊎◌, arith, pow-suc}
+use Rattle.std.proofs.Common.{◌≡◌, ℕ, zero, suc, ◌+◌, ◌-◌, ◌*◌, ◌/◌, ◌%◌, ◌<◌, ◌≤◌, Bool, true, false, ◌&&◌, List, [], ◌∷◌, map, length, Option, Some, None, sym, ap, ◌∙◌, refl, inl, inr, ◌⊎◌, arith}
 use Rattle.std.specs.Prelude.{◌==◌, if◌then◌else◌, sum, slice_index, nat_lt, not}
 use Rattle.std.specs.Option.{option_map}
-use Rattle.std.proofs.lemmas.Bool.{or_cases, and_parts, eqb-true, eqb-false, eq-eqb, ne_eqb, lt-ltb, le-ltb, false≢true, cases_lt, cases_Bool}
+use Rattle.std.proofs.lemmas.Bool.{or_cases, and_parts, eqb-true, eqb-false, eq-eqb, ne_eqb, lt-ltb, le-ltb, false≢true, cases_lt}
 use Rattle.pe_base.specs.declared.way.Way.{Way}
 use Rattle.pe_base.specs.Places.{moved}
 use Rattle.pe_base.specs.Routes.{way_turns}
@@ -15,8 +15,7 @@ use Rattle.pe_access.specs.declared.face.Face.{Face}
 use Rattle.pe_access.specs.declared.face.Relation.{Relation}
 use Rattle.pe_access.specs.declared.face.Relation.TheVariants.{Earlier, Later, Outside}
 use Rattle.pe_access.specs.declared.line.Line.{Line}
-use Rattle.pe_access.specs.declared.route.Route.{Route}
-use Rattle.pe_access.specs.declared.route.Route.TheVariants.{Stream, Temp}
+use Rattle.pe_access.specs.declared.route.Route.TheVariants.{Temp}
 use Rattle.pe_access.specs.declared.route.Choice.{Choice}
 use Rattle.pe_access.specs.Lines.{bit_of, is_relation, root_line, root_face, child_line, near_face, far_face, face_at, faster, fastest}
 use Rattle.pe_access.specs.States.{child_lines, lines_of, route_of}
@@ -58,9 +57,9 @@ choice_of stack p = record { route = route_of (option_map stack p.axis); level =
 
 choice-behind : (f g : ℕ → ℕ) (p : Pick) → ((i : ℕ) → f (suc i) ≡ g i) → choice_of g p ≡ choice_of f (behind p)
 choice-behind f g p same = elim (p.axis) as (λ o. (let a : Choice = record { route = route_of (option_map g o); level = p.level } in a) ≡ (let b : Choice = record { route = route_of (option_map f (option_map suc o)); level = p.level } in b)) [
-    | None ↦ refl
-    | Some i ↦ ap (λ (n : ℕ). let a : Choice = record { route = Temp n; level = p.level } in a) (sym (same i))
-  ]
+  | None ↦ refl
+  | Some i ↦ ap (λ (n : ℕ). let a : Choice = record { route = Temp n; level = p.level } in a) (sym (same i))
+]
 
 abbrev Bits : List ℕ → Type 0
 Bits bs = Below 2 bs
@@ -86,9 +85,9 @@ fastest-pick relation axis (side ∷ bs) (c ∷ cs) (line ∷ lines) e f odd =
     let side-is : (side == 0) ≡ (c + side == c) = same_test side 0 (c + side) c (λ k. omega arith) (λ k. omega arith) in
     ap (λ b. faster relation axis side line b) more
     ∙ elim (is_relation face.relation relation) as (λ v. (if v && nat_lt p.level face.level then found else choice_of g p) ≡ choice_of h (stronger (if v then Some face.level else None) p)) [
-        | true ↦ elim (nat_lt p.level face.level) as (λ v. (if v then found else choice_of g p) ≡ choice_of h (if v then record { axis = Some 0; level = face.level } else behind p)) [ true ↦ same | false ↦ shift ]
-        | false ↦ shift
-      ]
+      | true ↦ elim (nat_lt p.level face.level) as (λ v. (if v then found else choice_of g p) ≡ choice_of h (if v then record { axis = Some 0; level = face.level } else behind p)) [ true ↦ same | false ↦ shift ]
+      | false ↦ shift
+    ]
     ∙ ap (λ (v : Bool). choice_of h (stronger (mark relation (if v then line.near else line.far)) p)) side-is
 
 -- a walk that is turned so often meets the neighbours with the relation first
@@ -102,9 +101,9 @@ even-same m n e = ap (λ (r : ℕ). r == 0) e
 
 even-next : (m n : ℕ) → m % 2 ≡ suc n % 2 → is_even m ≡ not (is_even n)
 even-next m n e = elim (cases_lt (n % 2) 1) [
-    | inl h ↦ ne_eqb (m % 2) 0 (λ k. omega arith) ∙ ap not (sym (eq-eqb (n % 2) 0 (omega arith)))
-    | inr h ↦ eq-eqb (m % 2) 0 (omega arith) ∙ ap not (sym (ne_eqb (n % 2) 0 (λ k. omega arith)))
-  ]
+  | inl h ↦ ne_eqb (m % 2) 0 (λ k. omega arith) ∙ ap not (sym (eq-eqb (n % 2) 0 (omega arith)))
+  | inr h ↦ eq-eqb (m % 2) 0 (omega arith) ∙ ap not (sym (ne_eqb (n % 2) 0 (λ k. omega arith)))
+]
 
 near-seen : (relation : Relation) (a b : ℕ) → Sees relation a b → is_relation (if is_even a then Earlier else Later) relation ≡ is_even b
 near-seen Earlier a b h = elim (is_even a) as (λ v. is_relation (if v then Earlier else Later) Earlier ≡ v) [ true ↦ refl | false ↦ refl ] ∙ even-same a b (sym h)

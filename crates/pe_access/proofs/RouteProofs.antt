@@ -1,33 +1,31 @@
 -- The routes of a cell state are those around the vertex.
-use Rattle.std.proofs.Common.{◌≡◌, ℕ, zero, suc, ◌+◌, ◌-◌, ◌*◌, ◌/◌, ◌%◌, ◌^◌, ◌<◌, ◌≤◌, Bool, true, false, ◌&&◌, ◌||◌, List, [], ◌∷◌, ◌++◌, map, take, length, Option, Some, None, sym, ap, ◌∙◌, subst, refl, inl, inr, ◌⊎◌, arith, pow-suc}
+use Rattle.std.proofs.Common.{◌≡◌, ℕ, zero, suc, ◌+◌, ◌-◌, ◌*◌, ◌/◌, ◌%◌, ◌^◌, ◌<◌, ◌≤◌, Bool, true, false, ◌&&◌, ◌||◌, List, [], ◌∷◌, ◌++◌, map, take, length, Option, Some, None, sym, ap, ◌∙◌, subst, refl, inl, inr, arith, pow-suc}
 use Rattle.std.specs.Prelude.{◌==◌, if◌then◌else◌, sum, slice_index, replicate, nat_lt}
 use Rattle.std.specs.Option.{option_map}
 use Rattle.std.proofs.Math.Seq.{take-append_seam}
 use Rattle.std.proofs.lemmas.Bool.{or_left, or_right, eq-eqb, cases_lt}
-use Rattle.std.proofs.lemmas.List.{map-append, length-append, length-replicate}
+use Rattle.std.proofs.lemmas.List.{map-append}
 use Rattle.std.proofs.lemmas.List.Folds.{sum_by-replicate}
 use Rattle.std.proofs.lemmas.List.Sums.{sum_by-append}
 use Rattle.pe_base.specs.declared.place.Place.{Place}
 use Rattle.pe_base.specs.declared.way.Way.{Way}
-use Rattle.pe_base.specs.Dim.{IsDim}
 use Rattle.pe_base.specs.Places.{IsCellPlace, IsInside, bits, moved, corner, padded, at}
 use Rattle.pe_base.specs.Routes.{way_turns, stack_of, stack_in, stack_out}
 use Rattle.pe_base.proofs.PlaceLaws.{length-bits, bits-suc}
 use Rattle.pe_base.proofs.RouteLaws.{Below, Below-front, length-front, padded-front, at-front}
-use Rattle.pe_base.proofs.Spans.{Spot, fits_all, parents}
+use Rattle.pe_base.proofs.Spans.{fits_all, parents}
 use Rattle.pe_base.proofs.Levels.{entry}
 use Rattle.pe_base.proofs.Rounds.{spots}
 use Rattle.pe_base.proofs.StackLaws.{Touches, stack_in-entry, stack_out-entry, length-parents}
 use Rattle.pe_access.specs.declared.face.Relation.{Relation}
 use Rattle.pe_access.specs.declared.face.Relation.TheVariants.{Earlier, Later, Outside}
 use Rattle.pe_access.specs.declared.line.Line.{Line}
-use Rattle.pe_access.specs.declared.route.Route.{Route}
 use Rattle.pe_access.specs.declared.route.Route.TheVariants.{Stream, Temp}
 use Rattle.pe_access.specs.declared.route.Choice.{Choice}
-use Rattle.pe_access.specs.Lines.{bit_of, is_relation, root_line, root_face, child_line, face_at, faster, fastest}
+use Rattle.pe_access.specs.Lines.{bit_of, is_relation, root_line, root_face, child_line, faster, fastest}
 use Rattle.pe_access.specs.States.{child_lines, lines_of, route_of}
 use Rattle.pe_access.proofs.LineLaws.{length-lines_of, lines_of-odd}
-use Rattle.pe_access.proofs.FaceLaws.{Sees, Pick, pick, marks, choice_of, fastest-pick, pick-entry}
+use Rattle.pe_access.proofs.FaceLaws.{Sees, pick, marks, choice_of, fastest-pick, pick-entry}
 
 -- axes that the grid does not have: no neighbour at the near end
 Idle : List Line → Type 0
@@ -151,9 +149,9 @@ moved-fits (c ∷ cs) [] e h = absurd (omega arith)
 moved-fits (c ∷ cs) (b ∷ bs) e h =
     let small = h.0 in
     let here : (c + b == c || c + b == c + 1) ≡ true = elim (cases_lt b 1) [
-        | inl k ↦ or_left (c + b == c) (c + b == c + 1) (eq-eqb (c + b) c (omega arith))
-        | inr k ↦ or_right (c + b == c) (c + b == c + 1) (eq-eqb (c + b) (c + 1) (omega arith))
-      ] in
+      | inl k ↦ or_left (c + b == c) (c + b == c + 1) (eq-eqb (c + b) c (omega arith))
+      | inr k ↦ or_right (c + b == c) (c + b == c + 1) (eq-eqb (c + b) (c + 1) (omega arith))
+    ] in
     ap (λ v. v && fits_all (spots (moved cs bs)) cs) here ∙ moved-fits cs bs (omega arith) h.1
 
 index-padded : (qs : List ℕ) (n i : ℕ) → slice_index (qs ++ replicate n 0) i ≡ slice_index qs i

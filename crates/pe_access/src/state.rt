@@ -24,7 +24,8 @@ pub struct CellState {
 impl CellState {
     /// The state of the root in a traversal that goes this way.
     pub fn root(dim: Dim, way: Way) -> CellState
-        ensures { StandsFor dim way root result }
+        ensures stands { StandsFor dim way root result }
+        ensures level { level_of result ≡ 0 }
     {
         CellState {
             axes: dim.axes(),
@@ -38,8 +39,10 @@ impl CellState {
     pub fn descend(&self, k: Digits) -> CellState
         requires level { level_of self.now < 20 }
         requires digits { IsDigits (axes_of self.now) k }
-        ensures { (axes : ℕ) (way : AWay) (cell : APlace) → IsCellPlace axes cell → StandsFor axes way cell self.now
+        ensures stands { (axes : ℕ) (way : AWay) (cell : APlace) → IsCellPlace axes cell → StandsFor axes way cell self.now
             → StandsFor axes way (child_at cell k) result }
+        ensures axes { axes_of result ≡ axes_of self.now }
+        ensures level { level_of result ≡ level_of self.now + 1 }
     {
         let [x, y, z, w] = self.lines;
         let [i, j, k, l] = k.k;

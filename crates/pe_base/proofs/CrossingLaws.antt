@@ -1,13 +1,13 @@
 -- How often each axis is crossed around a point.
-use Rattle.std.proofs.Common.{◌≡◌, ℕ, zero, suc, ◌+◌, ◌-◌, ◌*◌, ◌/◌, ◌%◌, ◌^◌, ◌<◌, ◌≤◌, Bool, true, false, ◌&&◌, ◌||◌, List, [], ◌∷◌, ◌++◌, map, length, Option, Some, None, sym, ap, ◌∙◌, subst, refl, inl, inr, ◌⊎◌, arith, pow-suc}
-use Rattle.std.specs.Prelude.{◌==◌, if◌then◌else◌, filter, sum, replicate, All, not}
+use Rattle.std.proofs.Common.{◌≡◌, ℕ, zero, suc, ◌+◌, ◌*◌, ◌%◌, ◌^◌, ◌<◌, Bool, true, false, ◌&&◌, List, [], ◌∷◌, ◌++◌, map, length, Option, Some, None, sym, ap, ◌∙◌, subst, refl, inl, inr, arith, pow-suc}
+use Rattle.std.specs.Prelude.{◌==◌, if◌then◌else◌, sum, replicate, All}
 use Rattle.std.specs.List.{flat_map}
 use Rattle.std.proofs.lemmas.Nat.{pow-add}
-use Rattle.std.proofs.lemmas.Bool.{and_parts, eqb-true, eqb-false, eq-eqb, ne_eqb, false≢true, cases_lt, cases_Bool}
+use Rattle.std.proofs.lemmas.Bool.{and_parts, eqb-true, eq-eqb, ne_eqb, false≢true, cases_Bool}
 use Rattle.std.proofs.lemmas.List.{length-append, length-map}
 use Rattle.std.proofs.lemmas.List.Elements.{All-head, All-tail, filter_passes}
-use Rattle.pe_base.proofs.Walks.{Step, Path, Walk}
-use Rattle.pe_base.proofs.Spans.{Spot, Fit, fit, fits, fits_all, coarse, two, two_on, low, low_on, lead, other, split, is_even, is_other, gray, start, enter, deeper, Within, parents, same_test, gray_walk, parents-start}
+use Rattle.pe_base.proofs.Walks.{Path, Walk}
+use Rattle.pe_base.proofs.Spans.{Spot, fits, fits_all, coarse, two, two_on, low, lead, other, split, is_even, is_other, gray, start, enter, deeper, Within, parents, same_test, gray_walk, parents-start}
 use Rattle.pe_base.proofs.Levels.{cells, holders, holders-suc, entry, entry-child, or_else, coarsest}
 
 abbrev pub one : Bool → ℕ
@@ -99,10 +99,10 @@ gray-inner zero b (s ∷ ss) (p ∷ ps) h =
     let test : List ℕ → Bool = λ cs. is_axis 0 (enter b (s ∷ ss) (p ∷ ps) cs) in
     let at : ℕ → List (List ℕ) = λ c. map (λ cs. c ∷ cs) (gray (b + p + c) ss ps) in
     let each : (c : ℕ) → tally test (at c) ≡ one (is_other tw even lo c) = λ c.
-        tally-map test (λ cs. c ∷ cs) (gray (b + p + c) ss ps)
-        ∙ tally-same (λ cs. test (c ∷ cs)) (λ cs. is_first (enter (b + p + c) ss ps cs) && is_other tw even lo c) (gray (b + p + c) ss ps) (λ cs. deeper-zero (enter (b + p + c) ss ps cs) (is_other tw even lo c))
-        ∙ first-and (λ cs. is_first (enter (b + p + c) ss ps cs)) (is_other tw even lo c) (gray (b + p + c) ss ps)
-        (Walk-first (enter (b + p + c) ss ps) (enter (suc (b + p + c)) ss ps) (Within ss ps) (gray (b + p + c) ss ps) _ _ (gray_walk (b + p + c) ss ps fine)) in
+    tally-map test (λ cs. c ∷ cs) (gray (b + p + c) ss ps)
+    ∙ tally-same (λ cs. test (c ∷ cs)) (λ cs. is_first (enter (b + p + c) ss ps cs) && is_other tw even lo c) (gray (b + p + c) ss ps) (λ cs. deeper-zero (enter (b + p + c) ss ps cs) (is_other tw even lo c))
+    ∙ first-and (λ cs. is_first (enter (b + p + c) ss ps cs)) (is_other tw even lo c) (gray (b + p + c) ss ps)
+    (Walk-first (enter (b + p + c) ss ps) (enter (suc (b + p + c)) ss ps) (Within ss ps) (gray (b + p + c) ss ps) _ _ (gray_walk (b + p + c) ss ps fine)) in
     split-tally test tw even lo at 0 1
     (λ e. each lo ∙ ap (λ t. one (is_other t even lo lo)) e)
     (λ e. each (lead true even lo) ∙ ap (λ t. one (is_other t even lo (lead true even lo))) e ∙ ap one (lead-test even lo))
@@ -115,9 +115,9 @@ gray-inner (suc i) b (s ∷ ss) (p ∷ ps) h =
     let test : List ℕ → Bool = λ cs. is_axis (suc i) (enter b (s ∷ ss) (p ∷ ps) cs) in
     let at : ℕ → List (List ℕ) = λ c. map (λ cs. c ∷ cs) (gray (b + p + c) ss ps) in
     let each : (c : ℕ) → tally test (at c) ≡ inner i ss = λ c.
-        tally-map test (λ cs. c ∷ cs) (gray (b + p + c) ss ps)
-        ∙ tally-same (λ cs. test (c ∷ cs)) (λ cs. is_axis i (enter (b + p + c) ss ps cs)) (gray (b + p + c) ss ps) (λ cs. deeper-suc i (enter (b + p + c) ss ps cs) (is_other tw even lo c))
-        ∙ gray-inner i (b + p + c) ss ps fine in
+    tally-map test (λ cs. c ∷ cs) (gray (b + p + c) ss ps)
+    ∙ tally-same (λ cs. test (c ∷ cs)) (λ cs. is_axis i (enter (b + p + c) ss ps cs)) (gray (b + p + c) ss ps) (λ cs. deeper-suc i (enter (b + p + c) ss ps cs) (is_other tw even lo c))
+    ∙ gray-inner i (b + p + c) ss ps fine in
     split-tally test tw even lo at (inner i ss) (inner i ss) (λ e. each lo) (λ e. each (lead true even lo)) (λ e. each (other even lo))
 
 -- how many children of one cell hold the point
@@ -232,14 +232,16 @@ Strict level (s ∷ ss) = (s.on ≡ true → (0 < s.x) × (s.x < 3 ^ level)) × 
 pub strict-coarse : (level : ℕ) (ss : List Spot) → Strict (suc level) ss → Strict level (map coarse ss)
 strict-coarse level [] h = tt
 strict-coarse level (s ∷ ss) h =
-    let bound : 3 ^ suc level ≡ 3 * 3 ^ level = omega (arith, pow-suc 3 level) in
-    (λ e.
-        let both = and_parts s.on (s.x % 3 == 0) e in
-        let third : s.x % 3 ≡ 0 = eqb-true (s.x % 3) 0 both.1 in
-        let here = h.0 both.0 in
-        let positive = here.0 in
-        let below = here.1 in
-        (omega arith, omega arith), strict-coarse level ss h.1)
+    let bound : 3 ^ suc level ≡ 3 * 3 ^ level = omega (arith, pow-suc 3 level) in (
+      λ e.
+          let both = and_parts s.on (s.x % 3 == 0) e in
+          let third : s.x % 3 ≡ 0 = eqb-true (s.x % 3) 0 both.1 in
+          let here = h.0 both.0 in
+          let positive = here.0 in
+          let below = here.1 in
+          (omega arith, omega arith),
+      strict-coarse level ss h.1,
+    )
 
 strict-off : (s : Spot) → (s.on ≡ true → (0 < s.x) × (s.x < 3 ^ 0)) → s.on ≡ false
 strict-off s h = elim (cases_Bool s.on) [ inl e ↦ absurd (let here = h e in let a = here.0 in let b = here.1 in omega arith) | inr e ↦ e ]
@@ -272,7 +274,7 @@ count_inside-pow (s ∷ ss) =
     ]
 
 -- two cells for each plane
-size : (axes w level : ℕ) (ss : List Spot) → fits_all (coarsest level ss) (replicate axes 0) ≡ true → Strict level ss → length (holders axes w level ss) ≡ 2 ^ ons ss
+pub size : (axes w level : ℕ) (ss : List Spot) → fits_all (coarsest level ss) (replicate axes 0) ≡ true → Strict level ss → length (holders axes w level ss) ≡ 2 ^ ons ss
 size axes w zero ss h strict = ap (λ v. length (if v then replicate {A = ℕ} axes 0 ∷ [] else [])) h ∙ ap (λ (n : ℕ). 2 ^ n) (sym (strict-none ss strict))
 size axes w (suc level) ss h strict =
     holders-length axes w level ss

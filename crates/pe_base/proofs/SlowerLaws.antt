@@ -1,22 +1,22 @@
 -- The planes that are slower than one are those of the axes that are slower at the vertex.
-use Rattle.std.proofs.Common.{◌≡◌, ℕ, zero, suc, ◌+◌, ◌-◌, ◌*◌, ◌/◌, ◌%◌, ◌^◌, ◌<◌, ◌≤◌, Bool, true, false, ◌&&◌, ◌||◌, List, [], ◌∷◌, ◌++◌, map, take, length, Option, Some, None, sym, ap, ◌∙◌, subst, refl, inl, inr, ◌⊎◌, arith, pow-suc}
-use Rattle.std.specs.Prelude.{◌==◌, if◌then◌else◌, nat_lt, count_by, slice_index, replicate, sum_by}
+use Rattle.std.proofs.Common.{◌≡◌, ℕ, zero, suc, ◌+◌, ◌*◌, ◌/◌, ◌%◌, ◌^◌, ◌<◌, ◌≤◌, Bool, true, false, ◌&&◌, ◌||◌, List, [], ◌∷◌, map, take, length, Option, sym, ap, ◌∙◌, subst, refl, inl, inr, arith, pow-suc}
+use Rattle.std.specs.Prelude.{◌==◌, if◌then◌else◌, nat_lt, count_by, slice_index}
 use Rattle.std.specs.List.{range_with_len, zip}
 use Rattle.std.proofs.Math.Nat.{mul-mod_right, div-add-mod}
-use Rattle.std.proofs.lemmas.Bool.{and_parts, eqb-true, eqb-false, eq-eqb, ne_eqb, ltb-true, ltb-false, lt-ltb, le-ltb, false≢true, cases_lt, cases_Bool}
-use Rattle.std.proofs.lemmas.List.{get_or-take}
+use Rattle.std.proofs.lemmas.Bool.{eqb-true, eqb-false, ne_eqb, lt-ltb, le-ltb, false≢true, cases_lt, cases_Bool}
+use Rattle.std.proofs.lemmas.List.{get_or-take, length-map}
 use Rattle.std.proofs.lemmas.List.Sums.{sum_by-cons}
 use Rattle.pe_base.specs.declared.place.Place.{Place}
 use Rattle.pe_base.specs.declared.way.Way.{Way}
-use Rattle.pe_base.specs.Places.{IsInside, padded, at}
+use Rattle.pe_base.specs.Places.{IsInside, at}
 use Rattle.pe_base.specs.Around.{around, steps, threes, is_slower, crossings}
 use Rattle.pe_base.specs.Routes.{way_turns, axis_of}
-use Rattle.pe_base.proofs.Walks.{Step, Path}
+use Rattle.pe_base.proofs.Walks.{Path}
 use Rattle.pe_base.proofs.Spans.{Spot, coarse, two, two_on, Crosses, same_test}
-use Rattle.pe_base.proofs.Levels.{holders, entry, Round}
-use Rattle.pe_base.proofs.Rounds.{spots}
-use Rattle.pe_base.proofs.RouteLaws.{Below, Below-front, length-front, padded-front, at-front, round_at, steps-round, axis_of-step, fits_vertex}
-use Rattle.pe_base.proofs.CrossingLaws.{one, tally, is_axis, ons, on_at, two_at, before, Strict, strict-at, strict-coarse, slow, crossed, crossed-slow, at-new, at-old}
+use Rattle.pe_base.proofs.Levels.{holders, entry}
+use Rattle.pe_base.proofs.Rounds.{spots, around-holders}
+use Rattle.pe_base.proofs.RouteLaws.{Below-front, length-front, at-front, round_at, steps-round, axis_of-step, fits_vertex}
+use Rattle.pe_base.proofs.CrossingLaws.{one, tally, is_axis, ons, on_at, two_at, before, Strict, strict-at, strict-coarse, slow, crossed-slow, at-old, size}
 
 -- how often a plane of a point goes on to the level above
 abbrev pub times : ℕ → Spot → ℕ
@@ -72,9 +72,9 @@ new-slowers level k i (s ∷ ss) = omega (arith, new-slower s.on (s.x % 3 == 0) 
 
 lt-suc : (a b : ℕ) → nat_lt (suc a) (suc b) ≡ nat_lt a b
 lt-suc a b = elim (cases_lt a b) [
-    | inl h ↦ lt-ltb (suc a) (suc b) (omega arith) ∙ sym (lt-ltb a b h)
-    | inr h ↦ le-ltb (suc a) (suc b) (omega arith) ∙ sym (le-ltb a b h)
-  ]
+  | inl h ↦ lt-ltb (suc a) (suc b) (omega arith) ∙ sym (lt-ltb a b h)
+  | inr h ↦ le-ltb (suc a) (suc b) (omega arith) ∙ sym (le-ltb a b h)
+]
 
 -- at an axis whose plane goes on
 old-slower : (on whole first : Bool) (d e : ℕ) → let n = if on && whole then suc e else 0 in (on && (nat_lt (suc d) n || (n == suc d && first))) ≡ ((on && whole) && (nat_lt d e || (e == d && first)))
@@ -143,11 +143,11 @@ third-divided q n h =
     let whole = div-add-mod q (m * 3) in
     let part = div-add-mod (q / 3) m in
     let there : q % (m * 3) ≡ 0 → q / 3 % m ≡ 0 = λ e.
-        let third : q / 3 ≡ m * (q / (m * 3)) = omega (arith, whole, e) in
-        ap (λ (k : ℕ). k % m) third ∙ mul-mod_right m (q / (m * 3)) in
+    let third : q / 3 ≡ m * (q / (m * 3)) = omega (arith, whole, e) in
+    ap (λ (k : ℕ). k % m) third ∙ mul-mod_right m (q / (m * 3)) in
     let back : q / 3 % m ≡ 0 → q % (m * 3) ≡ 0 = λ e.
-        let all : q ≡ (m * 3) * (q / 3 / m) = omega (arith, part, e, h) in
-        ap (λ (k : ℕ). k % (m * 3)) all ∙ mul-mod_right (m * 3) (q / 3 / m) in
+    let all : q ≡ (m * 3) * (q / 3 / m) = omega (arith, part, e, h) in
+    ap (λ (k : ℕ). k % (m * 3)) all ∙ mul-mod_right (m * 3) (q / 3 / m) in
     ap (λ (k : ℕ). q % k == 0) power ∙ same_test (q % (m * 3)) 0 (q / 3 % m) 0 there back
 
 not-divided : (q n : ℕ) → (q % 3 ≡ 0 → ⊥) → (q % 3 ^ (n + 1) == 0) ≡ false
@@ -156,8 +156,8 @@ not-divided q n h =
     let power : 3 ^ (n + 1) ≡ m * 3 = let next : n + 1 ≡ suc n = omega arith in ap (λ (k : ℕ). 3 ^ k) next ∙ pow-suc 3 n in
     let whole = div-add-mod q (m * 3) in
     ap (λ (k : ℕ). q % k == 0) power ∙ ne_eqb (q % (m * 3)) 0 (λ e.
-        let all : q ≡ 3 * (m * (q / (m * 3))) = omega (arith, whole, e) in
-        h (ap (λ (k : ℕ). k % 3) all ∙ mul-mod_right 3 (m * (q / (m * 3)))))
+    let all : q ≡ 3 * (m * (q / (m * 3))) = omega (arith, whole, e) in
+    h (ap (λ (k : ℕ). k % 3) all ∙ mul-mod_right 3 (m * (q / (m * 3)))))
 
 divided-more : (q k level : ℕ) → q % 3 ≡ 0 → tally (λ n. q % 3 ^ n == 0) (range_with_len (k + 1) level) ≡ tally (λ n. q / 3 % 3 ^ n == 0) (range_with_len k level)
 divided-more q k zero h = refl
@@ -235,8 +235,8 @@ crossings-count axes way vertex axis few within h =
     let strict : Strict level ss = strict-spots level axes vertex.pos h.above h.pos.inside in
     let degree : ℕ → ℕ = λ j. threes level (slice_index vertex.pos j) in
     let same : (m : ℕ) → m < length qs → degree (0 + m) ≡ times level (record { x = slice_index qs m; on = true }) = λ m k.
-        let coordinate : slice_index vertex.pos (0 + m) ≡ slice_index qs m = (let none : 0 + m ≡ m = omega arith in ap (slice_index vertex.pos) none) ∙ sym (get_or-take axes vertex.pos m 0 (omega arith)) in
-        ap (threes level) coordinate ∙ count-tally (λ n. slice_index qs m % 3 ^ n == 0) (range_with_len 1 level) ∙ threes-times level (slice_index qs m) in
+    let coordinate : slice_index vertex.pos (0 + m) ≡ slice_index qs m = (let none : 0 + m ≡ m = omega arith in ap (slice_index vertex.pos) none) ∙ sym (get_or-take axes vertex.pos m 0 (omega arith)) in
+    ap (threes level) coordinate ∙ count-tally (λ n. slice_index qs m % 3 ^ n == 0) (range_with_len 1 level) ∙ threes-times level (slice_index qs m) in
     let here : degree axis ≡ times_at level axis ss = (let none : axis ≡ 0 + axis = omega arith in ap degree none) ∙ same axis inside ∙ sym (times_at-spots level axis qs inside) in
     let slower-count : slow level ss axis ≡ count_by (λ j. is_slower vertex j axis) (range_with_len 0 axes) =
     slow-slowers level axis ss on strict
@@ -255,3 +255,22 @@ crossings-count axes way vertex axis few within h =
     ∙ crossed-slow axes w level axis ss (fits_vertex axes level qs len below) strict
     ∙ ap (λ v. if v then 2 ^ slow level ss axis else 0) on
     ∙ ap (λ (n : ℕ). 2 ^ n) slower-count
+
+-- as many cells as corners
+ons-spots : (qs : List ℕ) → ons (spots qs) ≡ length qs
+ons-spots [] = refl
+ons-spots (q ∷ qs) = omega (arith, ons-spots qs)
+
+pub length-around : (axes : ℕ) (way : Way) (vertex : Place) → axes ≤ 4 → IsInside axes vertex → length (around axes way vertex) ≡ 2 ^ axes
+length-around axes way vertex few h =
+    let level = vertex.level in
+    let bound = 3 ^ level in
+    let qs = take axes vertex.pos in
+    let len : length qs ≡ axes = length-front axes bound vertex.pos few h.pos in
+    let below = Below-front axes bound vertex.pos h.pos.inside in
+    let w = way_turns way in
+    ap (λ (v : Place). length (around axes way v)) (at-front axes bound vertex few h.pos)
+    ∙ ap length (around-holders axes level way qs len few)
+    ∙ length-map (holders axes w level (spots qs)) (at level)
+    ∙ size axes w level (spots qs) (fits_vertex axes level qs len below) (strict-spots level axes vertex.pos h.above h.pos.inside)
+    ∙ ap (λ (n : ℕ). 2 ^ n) (ons-spots qs ∙ len)

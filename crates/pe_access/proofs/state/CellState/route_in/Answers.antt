@@ -1,5 +1,5 @@
 -- The fastest face is that to the cell before.
-use Rattle.std.proofs.Common.{ℕ, ◌^◌, ◌<◌, List, sym, ap, ◌∙◌, subst, arith}
+use Rattle.std.proofs.Common.{ℕ, ◌^◌, ◌<◌, List, ap, ◌∙◌, subst}
 use Rattle.pe_base.specs.Places.{bits}
 use Rattle.pe_access.specs.declared.face.Relation.TheVariants.{Earlier}
 use Rattle.pe_access.specs.declared.line.Line.{Line}
