@@ -1,22 +1,21 @@
 -- Lines from a cell to its child, and the flips of a cell.
-use Rattle.std.proofs.Common.{◌≡◌, ℕ, zero, suc, ◌+◌, ◌-◌, ◌*◌, ◌/◌, ◌%◌, ◌^◌, ◌<◌, ◌≤◌, Bool, true, false, List, [], ◌∷◌, map, length, get_or, sym, ap, ◌∙◌, subst, refl, inl, inr, arith, pow-suc, add-one}
+use Rattle.std.proofs.Common.{◌≡◌, ℕ, zero, suc, ◌+◌, ◌*◌, ◌/◌, ◌%◌, ◌^◌, ◌<◌, true, false, List, [], ◌∷◌, map, length, get_or, sym, ap, ◌∙◌, subst, refl, inl, inr, arith, pow-suc, add-one}
 use Rattle.std.specs.Prelude.{◌==◌, if◌then◌else◌, sum, slice_index}
 use Rattle.std.proofs.Math.Nat.{one-le-pow}
-use Rattle.std.proofs.lemmas.Bool.{eqb-true, eqb-false, false≢true, cases_lt}
+use Rattle.std.proofs.lemmas.Bool.{eqb-true, eqb-false, cases_lt}
 use Rattle.pe_base.specs.declared.way.Way.{Way}
 use Rattle.pe_base.specs.declared.place.Place.{Place}
 use Rattle.pe_base.specs.Places.{IsCellPlace, finer}
 use Rattle.pe_base.specs.Curve.{flip}
 use Rattle.pe_base.specs.Routes.{way_turns}
 use Rattle.pe_base.proofs.PlaceLaws.{four, IsPosition-below}
-use Rattle.pe_base.proofs.CurveLaws.{sum-cons}
 use Rattle.pe_base.proofs.RouteLaws.{Below}
 use Rattle.pe_base.proofs.StackLaws.{Below-parents, length-parents}
 use Rattle.std.proofs.lemmas.List.{length-map, get_or-map}
 use Rattle.pe_access.specs.declared.face.Face.{Face}
 use Rattle.pe_access.specs.declared.face.Relation.TheVariants.{Earlier, Later}
 use Rattle.pe_access.specs.declared.line.Line.{Line}
-use Rattle.pe_access.specs.Lines.{bit_of, root_line, child_line, near_face, far_face}
+use Rattle.pe_access.specs.Lines.{bit_of, root_line, child_line}
 use Rattle.pe_access.specs.States.{parent_pos, child_lines, lines_of, odd_count}
 
 pub child_line-parity : (level a b k : ℕ) (line : Line) → a % 2 ≡ b % 2 → child_line level a k line ≡ child_line level b k line
@@ -32,9 +31,9 @@ child_line-parity level a b k line e =
 
 bit-parity : (n : ℕ) → bit_of (n % 2 == 1) ≡ n % 2
 bit-parity n = elim (n % 2 == 1) as (λ v. (n % 2 == 1) ≡ v → bit_of v ≡ n % 2) [
-    | true ↦ λ e. let one : n % 2 ≡ 1 = eqb-true (n % 2) 1 e in omega arith
-    | false ↦ λ e. let apart = eqb-false (n % 2) 1 e in elim (cases_lt (n % 2) 1) [ inl h ↦ omega arith | inr h ↦ absurd (apart (omega arith)) ]
-  ] refl
+  | true ↦ λ e. let one : n % 2 ≡ 1 = eqb-true (n % 2) 1 e in omega arith
+  | false ↦ λ e. let apart = eqb-false (n % 2) 1 e in elim (cases_lt (n % 2) 1) [ inl h ↦ omega arith | inr h ↦ absurd (apart (omega arith)) ]
+] refl
 
 child_lines-odd : (level turns : ℕ) (xs : List ℕ) (lines : List Line) → map (λ line. bit_of line.odd) lines ≡ map (λ x. x % 2) (parent_pos xs) → map (λ line. bit_of line.odd) (child_lines level turns (parent_pos xs) xs lines) ≡ map (λ x. x % 2) xs
 child_lines-odd level turns [] lines e = refl
@@ -150,7 +149,7 @@ descends pos ks lines e f g way level t b₀ b₁ b₂ b₃ d =
     let B : List ℕ → Type 0 = λ xs. Descends (slice_index pos 0 ∷ slice_index pos 1 ∷ slice_index pos 2 ∷ slice_index pos 3 ∷ []) xs lines in
     let C : List Line → Type 0 = λ xs. Descends (slice_index pos 0 ∷ slice_index pos 1 ∷ slice_index pos 2 ∷ slice_index pos 3 ∷ []) (slice_index ks 0 ∷ slice_index ks 1 ∷ slice_index ks 2 ∷ slice_index ks 3 ∷ []) xs in
     subst A (sym (four pos e)) (subst B (sym (four ks f)) (subst C (sym (four_lines lines d g))
-        (four_descend (slice_index pos 0) (slice_index pos 1) (slice_index pos 2) (slice_index pos 3) (slice_index ks 0) (slice_index ks 1) (slice_index ks 2) (slice_index ks 3) (get_or lines 0 d) (get_or lines 1 d) (get_or lines 2 d) (get_or lines 3 d))))
+    (four_descend (slice_index pos 0) (slice_index pos 1) (slice_index pos 2) (slice_index pos 3) (slice_index ks 0) (slice_index ks 1) (slice_index ks 2) (slice_index ks 3) (get_or lines 0 d) (get_or lines 1 d) (get_or lines 2 d) (get_or lines 3 d))))
     way level t b₀ b₁ b₂ b₃ d
 
 -- each flip, from the parities of the coordinates

@@ -1,10 +1,9 @@
 -- Cells along one axis: their parities and their faces, from parent to child.
-use Rattle.std.specs.Prelude.{ℕ, zero, suc, ◌+◌, ◌*◌, ◌/◌, ◌%◌, Bool, true, false, ◌&&◌, ◌==◌, nat_lt, if◌then◌else◌, List, [], ◌∷◌, Option, Some, None, map, sum}
+use Rattle.std.specs.Prelude.{ℕ, ◌+◌, ◌*◌, ◌%◌, Bool, true, false, ◌&&◌, ◌==◌, nat_lt, if◌then◌else◌, List, [], ◌∷◌}
 use Rattle.pe_access.specs.declared.face.Face.{Face}
 use Rattle.pe_access.specs.declared.face.Relation.{Relation}
 use Rattle.pe_access.specs.declared.face.Relation.TheVariants.{Earlier, Later, Outside}
 use Rattle.pe_access.specs.declared.line.Line.{Line}
-use Rattle.pe_access.specs.declared.route.Route.{Route}
 use Rattle.pe_access.specs.declared.route.Route.TheVariants.{Stream, Temp}
 use Rattle.pe_access.specs.declared.route.Choice.{Choice}
 

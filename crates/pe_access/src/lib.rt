@@ -4,6 +4,7 @@
 #![tactic(auto)]
 
 mod face;
+mod laws;
 mod line;
 mod route;
 #[cfg(test)]
@@ -11,6 +12,7 @@ mod rows;
 mod state;
 
 pub use face::{Face, Relation};
+pub use laws::order_around;
 pub use line::Line;
 pub use route::Route;
 pub use state::CellState;

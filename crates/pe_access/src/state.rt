@@ -1,11 +1,11 @@
 ghost use Rattle.std.specs.Prelude.{◌≡◌, ℕ, ◌+◌, ◌<◌, ◌≤◌, ◌^◌};
 ghost use Rattle.pe_base.specs.declared.place.Place.{Place as APlace};
 ghost use Rattle.pe_base.specs.declared.way.Way.{Way as AWay};
-ghost use Rattle.pe_base.specs.Places.{IsDigits, IsCellPlace, bits, child_at, root};
+ghost use Rattle.pe_base.specs.Places.{IsDigits, IsCellPlace, IsInside, bits, child_at, corner as corner_at, root};
 ghost use Rattle.pe_base.specs.Curve.{flips};
-ghost use Rattle.pe_base.specs.Routes.{way_turns};
+ghost use Rattle.pe_base.specs.Routes.{stack_in, stack_out, way_turns};
 ghost use Rattle.pe_access.specs.Lines.{fastest};
-ghost use Rattle.pe_access.specs.States.{StandsFor, axes_of, level_of, odd_count};
+ghost use Rattle.pe_access.specs.States.{StandsFor, axes_of, level_of, odd_count, route_of};
 
 use crate::face::Relation;
 use crate::line::{Line, bit};
@@ -24,7 +24,8 @@ pub struct CellState {
 impl CellState {
     /// The state of the root in a traversal that goes this way.
     pub fn root(dim: Dim, way: Way) -> CellState
-        ensures { StandsFor dim way root result }
+        ensures stands { StandsFor dim way root result }
+        ensures level { level_of result ≡ 0 }
     {
         CellState {
             axes: dim.axes(),
@@ -38,8 +39,10 @@ impl CellState {
     pub fn descend(&self, k: Digits) -> CellState
         requires level { level_of self.now < 20 }
         requires digits { IsDigits (axes_of self.now) k }
-        ensures { (axes : ℕ) (way : AWay) (cell : APlace) → IsCellPlace axes cell → StandsFor axes way cell self.now
+        ensures stands { (axes : ℕ) (way : AWay) (cell : APlace) → IsCellPlace axes cell → StandsFor axes way cell self.now
             → StandsFor axes way (child_at cell k) result }
+        ensures axes { axes_of result ≡ axes_of self.now }
+        ensures level { level_of result ≡ level_of self.now + 1 }
     {
         let [x, y, z, w] = self.lines;
         let [i, j, k, l] = k.k;
@@ -89,7 +92,11 @@ impl CellState {
     /// vertex, else the stack of the face to the cell before.
     ///
     /// `corner` is below `2^d`, and that corner lies strictly inside the root cube.
-    pub fn route_in(&self, corner: u8) -> Route {
+    pub fn route_in(&self, corner: u8) -> Route
+        requires { corner < 2 ^ axes_of self.now }
+        ensures { (axes : ℕ) (way : AWay) (cell : APlace) → IsCellPlace axes cell → StandsFor axes way cell self.now
+            → let vertex = corner_at axes cell corner in IsInside axes vertex → result ≡ route_of (stack_in axes way vertex cell) }
+    {
         self.route(Relation::Earlier, corner)
     }
 
@@ -97,7 +104,11 @@ impl CellState {
     /// else the stack of the face to the next cell.
     ///
     /// `corner` is below `2^d`, and that corner lies strictly inside the root cube.
-    pub fn route_out(&self, corner: u8) -> Route {
+    pub fn route_out(&self, corner: u8) -> Route
+        requires { corner < 2 ^ axes_of self.now }
+        ensures { (axes : ℕ) (way : AWay) (cell : APlace) → IsCellPlace axes cell → StandsFor axes way cell self.now
+            → let vertex = corner_at axes cell corner in IsInside axes vertex → result ≡ route_of (stack_out axes way vertex cell) }
+    {
         self.route(Relation::Later, corner)
     }
 

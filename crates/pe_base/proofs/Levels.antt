@@ -1,13 +1,13 @@
 -- The cells of a level around a point, in the order of the walk, from level to level.
-use Rattle.std.proofs.Common.{◌≡◌, ℕ, zero, suc, ◌+◌, ◌-◌, ◌*◌, ◌/◌, ◌%◌, ◌<◌, ◌≤◌, Bool, true, false, ◌&&◌, ◌||◌, List, [], ◌∷◌, ◌++◌, map, Option, Some, None, sym, ap, ◌∙◌, subst, refl, inl, inr, ◌⊎◌, arith}
+use Rattle.std.proofs.Common.{◌≡◌, ℕ, zero, suc, ◌+◌, ◌-◌, ◌*◌, ◌/◌, ◌%◌, ◌<◌, ◌≤◌, Bool, true, false, ◌&&◌, ◌||◌, List, [], ◌∷◌, ◌++◌, map, Option, Some, None, sym, ap, ◌∙◌, subst, refl, inl, inr, arith}
 use Rattle.std.specs.Prelude.{◌==◌, if◌then◌else◌, filter, sum, replicate, All}
 use Rattle.std.specs.List.{flat_map}
-use Rattle.std.proofs.lemmas.Bool.{and_parts, and_cases, or_parts, or_left, or_right, or_from, and_left, and_right, eqb-true, eqb-false, eq-eqb, ne_eqb, false≢true, cases_lt, cases_Bool}
+use Rattle.std.proofs.lemmas.Bool.{and_parts, and_cases, or_parts, or_left, or_right, or_from, eqb-true, eqb-false, eq-eqb, ne_eqb, false≢true, cases_lt, cases_Bool}
 use Rattle.std.proofs.lemmas.List.{append-nil}
 use Rattle.std.proofs.lemmas.List.Elements.{filter-append, filter_passes, All-head, All-tail}
 use Rattle.pe_base.specs.Curve.{mirrored}
 use Rattle.pe_base.proofs.CurveLaws.{sum-cons}
-use Rattle.pe_base.proofs.Walks.{Step, Path, Walk, Path-join, Path-map, Path-weaker}
+use Rattle.pe_base.proofs.Walks.{Step, Path, Walk, Path-join, Path-weaker}
 use Rattle.pe_base.proofs.Spans.{Spot, Fit, fit, fits, fits_all, coarse, two, low, two_on, low_on, lead, other, split, is_even, gray, start, enter, Crosses, parents, Within, start-parity, parents-start, gray_walk}
 
 at_plane : (on whole near even : Bool) (x : ℕ) → on ≡ true → whole ≡ true → near ≡ true → lead (two_on on whole) even (low_on on whole near x) ≡ x
@@ -170,9 +170,9 @@ filter-kids b (s ∷ ss) (p ∷ ps) h =
     let block : ℕ → List (List ℕ) = λ t. map (λ cs. child t ∷ cs) (kids (b + t) ps) in
     let part : (t : ℕ) → t < 3 → filter (fits_all (s ∷ ss)) (block t) ≡ when (among tw lo (child t)) (at (child t)) =
     λ t within.
-        let range = child-range p t (is_even (b + p)) within in
-        filter-under s ss (child t) (kids (b + t) ps) (among tw lo (child t)) (f.holds (child t) range.0 range.1)
-        ∙ ap (λ ls. when (among tw lo (child t)) (map (λ cs. child t ∷ cs) ls)) (filter-kids (b + t) ss ps both.1 ∙ gray-parity (b + t) (b + p + child t) ss ps (child-parity b p t (is_even (b + p)) within)) in
+    let range = child-range p t (is_even (b + p)) within in
+    filter-under s ss (child t) (kids (b + t) ps) (among tw lo (child t)) (f.holds (child t) range.0 range.1)
+    ∙ ap (λ ls. when (among tw lo (child t)) (map (λ cs. child t ∷ cs) ls)) (filter-kids (b + t) ss ps both.1 ∙ gray-parity (b + t) (b + p + child t) ss ps (child-parity b p t (is_even (b + p)) within)) in
     let zeroth = part 0 (omega arith) in
     let first = part 1 (omega arith) in
     let second = part 2 (omega arith) in
@@ -190,9 +190,9 @@ apart x p c true from to h =
     let parts = or_parts (x / 3 == p) (x % 3 == 0 && x / 3 == p + 1) h in
     let far = eqb-false (x / 3) p parts.0 in
     let second : x ≡ c + 1 → ⊥ = λ e. elim (and_cases (x % 3 == 0) (x / 3 == p + 1) parts.1) [
-        | inl q ↦ let part = eqb-false (x % 3) 0 q in elim (cases_lt (c + 1) (3 * p + 3)) [ inl k ↦ far (omega arith) | inr k ↦ part (omega arith) ]
-        | inr q ↦ let next = eqb-false (x / 3) (p + 1) q in elim (cases_lt (c + 1) (3 * p + 3)) [ inl k ↦ far (omega arith) | inr k ↦ next (omega arith) ]
-      ] in
+      | inl q ↦ let part = eqb-false (x % 3) 0 q in elim (cases_lt (c + 1) (3 * p + 3)) [ inl k ↦ far (omega arith) | inr k ↦ part (omega arith) ]
+      | inr q ↦ let next = eqb-false (x / 3) (p + 1) q in elim (cases_lt (c + 1) (3 * p + 3)) [ inl k ↦ far (omega arith) | inr k ↦ next (omega arith) ]
+    ] in
     or_from (x == c) (x == c + 1) (ne_eqb x c (λ e. far (omega arith))) (ne_eqb x (c + 1) second)
 
 filter_none : {X : Type 0} (test : X → Bool) (xs ys : List X) → filter test xs ≡ [] → filter test ys ≡ [] → filter test (xs ++ ys) ≡ []
@@ -219,14 +219,14 @@ kids-apart b (s ∷ ss) (p ∷ ps) h =
     let child : ℕ → ℕ = λ t. 3 * p + mirrored (b + p) t in
     let block : ℕ → List (List ℕ) = λ t. map (λ cs. child t ∷ cs) (kids (b + t) ps) in
     let part : (t : ℕ) → t < 3 → filter (fits_all (s ∷ ss)) (block t) ≡ [] = λ t within.
-        let range = child-range p t (is_even (b + p)) within in
-        elim (and_cases (fits (coarse s) p) (fits_all (map coarse ss) ps) h) [
-          | inl e ↦ filter-under s ss (child t) (kids (b + t) ps) false (apart s.x p (child t) s.on range.0 range.1 e)
-          | inr e ↦
-              filter-under s ss (child t) (kids (b + t) ps) (fits s (child t)) refl
-              ∙ ap (λ ls. when (fits s (child t)) (map (λ cs. child t ∷ cs) ls)) (kids-apart (b + t) ss ps e)
-              ∙ when-nil (fits s (child t))
-        ] in
+    let range = child-range p t (is_even (b + p)) within in
+    elim (and_cases (fits (coarse s) p) (fits_all (map coarse ss) ps) h) [
+      | inl e ↦ filter-under s ss (child t) (kids (b + t) ps) false (apart s.x p (child t) s.on range.0 range.1 e)
+      | inr e ↦
+          filter-under s ss (child t) (kids (b + t) ps) (fits s (child t)) refl
+          ∙ ap (λ ls. when (fits s (child t)) (map (λ cs. child t ∷ cs) ls)) (kids-apart (b + t) ss ps e)
+          ∙ when-nil (fits s (child t))
+    ] in
     filter_none (fits_all (s ∷ ss)) (block 0) (block 1 ++ (block 2 ++ [])) (part 0 (omega arith))
     (filter_none (fits_all (s ∷ ss)) (block 1) (block 2 ++ []) (part 1 (omega arith))
     (filter_none (fits_all (s ∷ ss)) (block 2) [] (part 2 (omega arith)) refl))
@@ -279,7 +279,7 @@ sum-crosses (s ∷ ss) (suc i) (u ∷ us) [] h = absurd h
 sum-crosses (s ∷ ss) (suc i) (u ∷ us) (v ∷ vs) h = let same = h.0 in omega (arith, sum-cons u us, sum-cons v vs, sum-crosses ss i us vs h.1)
 
 -- a child of a cell is entered as it is among its siblings, or else as the cell is
-entry-child : (w level : ℕ) (ss : List Spot) (a cs : List ℕ) → parents cs ≡ a → entry w (suc level) ss cs ≡ or_else (enter (w + sum a) ss a cs) (entry w level (map coarse ss) a)
+pub entry-child : (w level : ℕ) (ss : List Spot) (a cs : List ℕ) → parents cs ≡ a → entry w (suc level) ss cs ≡ or_else (enter (w + sum a) ss a cs) (entry w level (map coarse ss) a)
 entry-child w level ss a cs e = ap (λ ps. or_else (enter (w + sum ps) ss ps cs) (entry w level (map coarse ss) ps)) e
 
 entry-inside : (w level i : ℕ) (ss : List Spot) (a cs : List ℕ) → parents cs ≡ a → enter (w + sum a) ss a cs ≡ Some i → entry w (suc level) ss cs ≡ Some i
@@ -343,8 +343,8 @@ blocks w level ss a (b ∷ xs) z fine all path =
     let P : List (List ℕ) → Type 0 = λ ys. Path enters leaves (Crosses ss) (start (w + sum a) ss a) (rest ++ (ys ++ more)) (start (suc (w + sum z)) ss z) in
     subst P (sym next.is)
     (Path-join enters leaves (Crosses ss) (start (w + sum a) ss a) rest (start (suc (w + sum a)) ss a) (start (w + sum b) ss b) (next.rest ++ more) (start (suc (w + sum z)) ss z)
-        (block w level ss a fine) (junction w level ss a b fine fine' path.0)
-        (blocks w level ss b xs z fine' (All-tail (λ b. fits_all (map coarse ss) b ≡ true) b xs all) path.1))
+    (block w level ss a fine) (junction w level ss a b fine fine' path.0)
+    (blocks w level ss b xs z fine' (All-tail (λ b. fits_all (map coarse ss) b ≡ true) b xs all) path.1))
 
 -- the last of the cells holds the point too
 Path-last : {X : Type 0} (f g : X → Option ℕ) (R : ℕ → X → X → Type 0) (P : X → Type 0) (a : X) (xs : List X) (z : X) → P a → All P xs → Path f g R a xs z → P z
@@ -384,3 +384,16 @@ round axes w (suc level) ss h =
         ends = entry-outside (suc w) level ss above.last last (parents-start (suc (w + sum above.last)) ss above.last fine') (leave-shift w ss above.last last None back.ends) ∙ walk.ends;
       };
     }
+
+-- what holds a point on a level is in what holds it on the level above
+pub fits-parents : (ss : List Spot) (cs : List ℕ) → fits_all ss cs ≡ true → fits_all (map coarse ss) (parents cs) ≡ true
+fits-parents [] [] h = refl
+fits-parents [] (c ∷ cs) h = absurd (false≢true h)
+fits-parents (s ∷ ss) [] h = absurd (false≢true h)
+fits-parents (s ∷ ss) (c ∷ cs) h =
+    let both = and_parts (fits s c) (fits_all ss cs) h in
+    let here : fits (coarse s) (c / 3) ≡ true = elim (cases_Bool (fits (coarse s) (c / 3))) [
+      | inl e ↦ e
+      | inr e ↦ absurd (false≢true (sym (apart s.x (c / 3) c s.on (omega arith) (omega arith) e) ∙ both.0))
+    ] in
+    ap (λ v. v && fits_all (map coarse ss) (parents cs)) here ∙ fits-parents ss cs both.1

@@ -22,3 +22,5 @@ pub mod RouteLaws
 pub mod StackLaws
 pub mod InnerVertices
 pub mod Crossing
+pub mod CrossingLaws
+pub mod SlowerLaws

@@ -1,24 +1,21 @@
 -- The cells around a vertex as positions on the grid's axes.
-use Rattle.std.proofs.Common.{◌≡◌, ℕ, zero, suc, ◌+◌, ◌-◌, ◌*◌, ◌/◌, ◌%◌, ◌^◌, ◌<◌, ◌≤◌, Bool, true, false, ◌&&◌, ◌||◌, List, [], ◌∷◌, ◌++◌, map, take, drop, length, get_or, Option, Some, None, sym, ap, ◌∙◌, subst, refl, inl, inr, ◌⊎◌, arith, add-one}
-use Rattle.std.specs.Prelude.{◌==◌, if◌then◌else◌, filter, sum, replicate, All, slice_index, slice_get}
-use Rattle.std.specs.List.{flat_map, range_with_len, remove}
-use Rattle.std.proofs.lemmas.Bool.{and_parts, eqb-true, eqb-false, eq-eqb, ne_eqb, false≢true, cases_lt, cases_Bool}
-use Rattle.std.proofs.lemmas.List.{append-nil, append_assoc, map-append, length-append, length-map, length-replicate, length-take-le, get_or-map, get_or-take, get_or_append_left}
-use Rattle.std.proofs.lemmas.List.Concat.{flat_map-append}
+use Rattle.std.proofs.Common.{◌≡◌, ℕ, zero, suc, ◌+◌, ◌-◌, ◌*◌, ◌%◌, ◌^◌, ◌<◌, ◌≤◌, Bool, true, false, ◌&&◌, ◌||◌, List, [], ◌∷◌, ◌++◌, map, length, get_or, sym, ap, ◌∙◌, refl, arith, add-one}
+use Rattle.std.specs.Prelude.{◌==◌, if◌then◌else◌, filter, sum, replicate, All, slice_index}
+use Rattle.std.specs.List.{flat_map}
+use Rattle.std.proofs.lemmas.Bool.{eq-eqb}
+use Rattle.std.proofs.lemmas.List.{map-append, length-append, length-map, length-replicate, get_or-map, get_or_append_left}
 use Rattle.std.proofs.lemmas.List.Folds.{flat_map-map, sum_by-replicate}
-use Rattle.std.proofs.lemmas.List.FromFn.{get_or-map-range_with_len, length-map-range_with_len}
+use Rattle.std.proofs.lemmas.List.FromFn.{get_or-map-range_with_len}
 use Rattle.std.proofs.lemmas.List.Sums.{sum_by-append, sum_by-remove}
 use Rattle.std.proofs.lemmas.List.Elements.{All-head, All-tail, All-nil, All-cons, All-append, All-map, All-weaker}
 use Rattle.std.proofs.lemmas.Option.{get_or_from_slice_get}
 use Rattle.pe_base.specs.declared.place.Place.{Place}
-use Rattle.pe_base.specs.declared.place.Digits.{Digits}
 use Rattle.pe_base.specs.declared.way.Way.{Way}
 use Rattle.pe_base.specs.declared.way.Way.TheVariants.{Forward, Inverted}
-use Rattle.pe_base.specs.Places.{IsPosition, padded, finer, at, root, child_at}
+use Rattle.pe_base.specs.Places.{padded, finer, at, child_at}
 use Rattle.pe_base.specs.Curve.{flip, flips, mirrored, turned, digit_lists, digits_of, child_digits, children, order}
 use Rattle.pe_base.specs.Around.{is_corner, is_corner_pos, around}
 use Rattle.pe_base.specs.Routes.{way_turns}
-use Rattle.pe_base.proofs.PlaceLaws.{four}
 use Rattle.pe_base.proofs.CurveLaws.{ternary, length-ternary, length-turned, length-digit_lists, slice_get-digit_lists, complement_flips, child_digits-inverted, flips-below, length-flips, map_same}
 use Rattle.pe_base.proofs.Spans.{Spot, fits_all}
 use Rattle.pe_base.proofs.Levels.{kids, cells, holders}
@@ -48,8 +45,8 @@ kids-turned (e₁ ∷ es) (p ∷ ps) before b a len e turns =
     let here = turns 0 (omega arith) in
     let rest : Turns a es ps = λ i h. turns (suc i) (omega arith) in
     let part : (t : ℕ) → map f (map (λ ts. t ∷ ts) (digit_lists (length ps))) ≡ map (λ cs. child t ∷ cs) (kids (b + t) ps) = λ t.
-        map-block f (λ ts. finer ps (turned es (before + t) ts)) t (child t) (digit_lists (length ps)) (λ ts. ap (λ (m : ℕ). (3 * p + m) ∷ finer ps (turned es (before + t) ts)) (mirrored-same (e₁ + before) (b + p) t (omega arith)))
-        ∙ ap (map (λ cs. child t ∷ cs)) (kids-turned es ps (before + t) (b + t) a (omega arith) (omega arith) rest) in
+    map-block f (λ ts. finer ps (turned es (before + t) ts)) t (child t) (digit_lists (length ps)) (λ ts. ap (λ (m : ℕ). (3 * p + m) ∷ finer ps (turned es (before + t) ts)) (mirrored-same (e₁ + before) (b + p) t (omega arith)))
+    ∙ ap (map (λ cs. child t ∷ cs)) (kids-turned es ps (before + t) (b + t) a (omega arith) (omega arith) rest) in
     let zeroth = part 0 in
     let first = part 1 in
     let second = part 2 in
@@ -114,11 +111,11 @@ children-turned axes level a es ps len len' turns =
     let whole : List ℕ → Place = λ ts. at (suc level) (finer ps (turned es 0 ts)) in
     map_both (child_at (at level ps)) (λ ts. digits_of (turned es 0 ts)) (digit_lists axes)
     ∙ map_same (λ ts. child_at (at level ps) (digits_of (turned es 0 ts))) whole (digit_lists axes) (λ n d h.
-        let ts = get_or (digit_lists axes) n d in
-        let long : length ts ≡ axes = digit_lists-long axes n d h in
-        let same : length ps ≡ length (turned es 0 ts) = len ∙ sym long ∙ sym (length-turned es 0 ts (len' ∙ sym long)) in
-        ap (λ (l : ℕ). let p : Place = record { level = l; pos = finer (padded ps) (padded (turned es 0 ts)) } in p) (add-one level)
-        ∙ ap (λ (xs : List ℕ). let p : Place = record { level = suc level; pos = xs } in p) (finer-padded ps (turned es 0 ts) same))
+    let ts = get_or (digit_lists axes) n d in
+    let long : length ts ≡ axes = digit_lists-long axes n d h in
+    let same : length ps ≡ length (turned es 0 ts) = len ∙ sym long ∙ sym (length-turned es 0 ts (len' ∙ sym long)) in
+    ap (λ (l : ℕ). let p : Place = record { level = l; pos = finer (padded ps) (padded (turned es 0 ts)) } in p) (add-one level)
+    ∙ ap (λ (xs : List ℕ). let p : Place = record { level = suc level; pos = xs } in p) (finer-padded ps (turned es 0 ts) same))
     ∙ sym (map_both (at (suc level)) (λ ts. finer ps (turned es 0 ts)) (digit_lists axes))
     ∙ ap (map (at (suc level))) (ap (λ (k : ℕ). map (λ ts. finer ps (turned es 0 ts)) (digit_lists k)) (sym len) ∙ kids-turned es ps 0 a a (len' ∙ sym len) (omega arith) turns)
 
@@ -136,7 +133,7 @@ kids-long b [] = All-cons (λ cs. length cs ≡ 0) [] [] refl (All-nil (λ cs. l
 kids-long b (p ∷ ps) =
     let Long : List ℕ → Type 0 = λ cs. length cs ≡ length (p ∷ ps) in
     let part : (t : ℕ) → All Long (map (λ cs. (3 * p + mirrored (b + p) t) ∷ cs) (kids (b + t) ps)) = λ t.
-        All-map Long (λ cs. (3 * p + mirrored (b + p) t) ∷ cs) (kids (b + t) ps) (All-weaker (λ cs. length cs ≡ length ps) (λ cs. length ((3 * p + mirrored (b + p) t) ∷ cs) ≡ length (p ∷ ps)) (λ cs e. ap suc e) (kids (b + t) ps) (kids-long (b + t) ps)) in
+    All-map Long (λ cs. (3 * p + mirrored (b + p) t) ∷ cs) (kids (b + t) ps) (All-weaker (λ cs. length cs ≡ length ps) (λ cs. length ((3 * p + mirrored (b + p) t) ∷ cs) ≡ length (p ∷ ps)) (λ cs e. ap suc e) (kids (b + t) ps) (kids-long (b + t) ps)) in
     All-append Long _ _ (part 0) (All-append Long _ _ (part 1) (All-append Long _ _ (part 2) (All-nil Long)))
 
 flat_map-all : {X Y : Type 0} (P : X → Type 0) (Q : Y → Type 0) (f : X → List Y) (xs : List X) → ((x : X) → P x → All Q (f x)) → All P xs → All Q (flat_map f xs)

@@ -1,21 +1,19 @@
 -- The steps around a vertex, and the stacks by which it goes.
-use Rattle.std.proofs.Common.{◌≡◌, ◌≢◌, ℕ, zero, suc, ◌+◌, ◌-◌, ◌*◌, ◌/◌, ◌%◌, ◌^◌, ◌<◌, ◌≤◌, Bool, true, false, ◌&&◌, ◌||◌, List, [], ◌∷◌, ◌++◌, map, take, drop, length, get_or, Option, Some, None, sym, ap, ◌∙◌, subst, refl, inl, inr, ◌⊎◌, arith, pow-suc}
-use Rattle.std.specs.Prelude.{◌==◌, if◌then◌else◌, filter, find, sum, replicate, All, slice_index}
-use Rattle.std.specs.List.{flat_map, zip}
-use Rattle.std.specs.Option.{option_map}
-use Rattle.std.proofs.lemmas.Bool.{and_parts, eqb-true, eqb-false, eq-eqb, ne_eqb, false≢true, cases_lt, cases_Bool, cases_eq}
-use Rattle.std.proofs.lemmas.List.{append-nil, length-append, length-replicate, length-take-le, get_or-take, take-append-drop, take-append-le}
-use Rattle.std.proofs.lemmas.List.Elements.{All-head, All-tail, All-nil, All-cons}
+use Rattle.std.proofs.Common.{◌≡◌, ℕ, zero, suc, ◌+◌, ◌-◌, ◌*◌, ◌^◌, ◌<◌, ◌≤◌, true, ◌&&◌, ◌||◌, List, [], ◌∷◌, ◌++◌, map, take, drop, length, Option, sym, ap, ◌∙◌, subst, refl, inl, inr, ◌⊎◌, arith, pow-suc}
+use Rattle.std.specs.Prelude.{◌==◌, if◌then◌else◌, replicate, All, slice_index}
+use Rattle.std.specs.List.{zip}
+use Rattle.std.proofs.lemmas.Bool.{eq-eqb, ne_eqb}
+use Rattle.std.proofs.lemmas.List.{length-take-le}
+use Rattle.std.proofs.lemmas.List.Elements.{All-nil, All-cons}
 use Rattle.pe_base.specs.declared.place.Place.{Place}
 use Rattle.pe_base.specs.declared.way.Way.{Way}
-use Rattle.pe_base.specs.Places.{IsPosition, IsCellPlace, IsInside, padded, at}
-use Rattle.pe_base.specs.Curve.{mirrored}
-use Rattle.pe_base.specs.Around.{is_corner, around, steps}
-use Rattle.pe_base.specs.Routes.{way_turns, is_same, is_same_pos, axis_between, axis_of, SharesFace, stack_of, step_to, step_from, stack_in, stack_out}
-use Rattle.pe_base.proofs.Walks.{Step, Path, Walk}
-use Rattle.pe_base.proofs.Spans.{Spot, fits, fits_all, coarse, Crosses, parents, is_even}
-use Rattle.pe_base.proofs.Levels.{kids, cells, holders, entry, coarsest, Round, round}
-use Rattle.pe_base.proofs.Rounds.{spots, cells-long, around-holders, is_corner-at}
+use Rattle.pe_base.specs.Places.{IsPosition, padded, at}
+use Rattle.pe_base.specs.Around.{around, steps}
+use Rattle.pe_base.specs.Routes.{way_turns, axis_between, axis_of, SharesFace}
+use Rattle.pe_base.proofs.Walks.{Path}
+use Rattle.pe_base.proofs.Spans.{Spot, fits_all, coarse, Crosses}
+use Rattle.pe_base.proofs.Levels.{entry, coarsest, Round, round}
+use Rattle.pe_base.proofs.Rounds.{spots, around-holders}
 
 -- a position is that on the grid's axes, and 0 behind it
 replicate-rest : (xs : List ℕ) (n : ℕ) → length xs ≡ n → ((i : ℕ) → slice_index xs i ≡ 0) → xs ≡ replicate n 0
@@ -89,13 +87,16 @@ fits_coarsest axes (suc level) ss e h =
     let bound : 3 ^ suc level ≡ 3 * 3 ^ level = omega (arith, pow-suc 3 level) in
     fits_coarsest axes level (map coarse ss) (length-coarse ss ∙ e) (below-coarse (3 ^ level) ss (subst P bound h))
 
-length-spots : (qs : List ℕ) → length (spots qs) ≡ length qs
+pub length-spots : (qs : List ℕ) → length (spots qs) ≡ length qs
 length-spots [] = refl
 length-spots (q ∷ qs) = ap suc (length-spots qs)
 
+pub fits_vertex : (axes level : ℕ) (qs : List ℕ) → length qs ≡ axes → Below (3 ^ level) qs → fits_all (coarsest level (spots qs)) (replicate axes 0) ≡ true
+fits_vertex axes level qs e h = fits_coarsest axes level (spots qs) (length-spots qs ∙ e) (below-spots (3 ^ level) qs h)
+
 -- the walk around a vertex
 pub round_at : (axes w level : ℕ) (qs : List ℕ) → length qs ≡ axes → Below (3 ^ level) qs → Round axes w level (spots qs)
-round_at axes w level qs e h = round axes w level (spots qs) (fits_coarsest axes level (spots qs) (length-spots qs ∙ e) (below-spots (3 ^ level) qs h))
+round_at axes w level qs e h = round axes w level (spots qs) (fits_vertex axes level qs e h)
 
 crosses-axis : (ss : List Spot) (i : ℕ) (us vs zs : List ℕ) → Crosses ss i us vs → axis_between (us ++ zs) (vs ++ zs) ≡ i
 crosses-axis [] i us vs zs h = absurd h
@@ -154,12 +155,12 @@ shares_face ss level i us vs h =
     let Q : ℕ → Type 0 = λ j. SharesFace j (at level us) (at level vs) in
     subst Q (sym (axis_of-step ss level i us vs h))
     (subst P (padded-step ss i us vs h) (record {
-        level = refl;
-        across = crosses-across ss i us vs zs h;
-        along = λ j apart. crosses-along ss i us vs zs h j apart;
-      }))
+      level = refl;
+      across = crosses-across ss i us vs zs h;
+      along = λ j apart. crosses-along ss i us vs zs h j apart;
+    }))
 
-abbrev Shares : Place × Place → Type 0
+abbrev pub Shares : Place × Place → Type 0
 Shares step = SharesFace (axis_of step) step.0 step.1
 
 path-shares : (f g : List ℕ → Option ℕ) (ss : List Spot) (level : ℕ) (a : List ℕ) (xs : List (List ℕ)) (z : List ℕ) → Path f g (Crosses ss) a xs z → All Shares (zip (map (at level) (a ∷ xs)) (map (at level) xs))
@@ -182,4 +183,4 @@ steps-share axes way vertex within h =
     let Q : Place → Type 0 = λ v. All Shares (steps (around axes way v)) in
     subst Q (sym (at-front axes (3 ^ level) vertex within h))
     (subst P (sym (steps-round axes level way qs len within r))
-        (path-shares (entry (way_turns way) level (spots qs)) (entry (suc (way_turns way)) level (spots qs)) (spots qs) level r.first r.walk.rest r.last r.walk.path))
+    (path-shares (entry (way_turns way) level (spots qs)) (entry (suc (way_turns way)) level (spots qs)) (spots qs) level r.first r.walk.rest r.last r.walk.path))

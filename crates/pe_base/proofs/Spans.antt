@@ -1,9 +1,9 @@
 -- The children of a cell around a point, in the order of the walk: a reflected code over the axes on whose
 -- planes the point lies inside the cell.
 use Rattle.std.proofs.Common.{◌≡◌, ℕ, zero, suc, ◌+◌, ◌-◌, ◌*◌, ◌/◌, ◌%◌, ◌<◌, ◌≤◌, Bool, true, false, ◌&&◌, ◌||◌, List, [], ◌∷◌, ◌++◌, map, Option, Some, None, sym, ap, ◌∙◌, subst, refl, inl, inr, ◌⊎◌, arith}
-use Rattle.std.specs.Prelude.{◌==◌, if◌then◌else◌, not}
+use Rattle.std.specs.Prelude.{◌==◌, not}
 use Rattle.std.proofs.lemmas.Bool.{or_cases, and_parts, eqb-true, eqb-false, eq-eqb, ne_eqb, false≢true, cases_lt, cases_eq}
-use Rattle.pe_base.proofs.Walks.{Step, Path, Walk, Path-join, Path-map, Path-weaker}
+use Rattle.pe_base.proofs.Walks.{Step, Walk, Path-join, Path-map}
 
 -- where a point lies along an axis of a level: on the plane at a coordinate, or else inside the cell there
 pub record Spot : Type 0 where
@@ -116,11 +116,11 @@ pub record Fit (x : ℕ) (on : Bool) (p lo : ℕ) (pair : Bool) : Type 0 where
   pub plane : pair ≡ true → (on ≡ true) × (x ≡ lo + 1) × (digit < 2)
   pub holds : (c : ℕ) → 3 * p ≤ c → c < 3 * p + 3 → fits (record { x = x; on = on }) c ≡ (c == lo || (pair && c == lo + 1))
 
-same_test : (a b c d : ℕ) → (a ≡ b → c ≡ d) → (c ≡ d → a ≡ b) → (a == b) ≡ (c == d)
+pub same_test : (a b c d : ℕ) → (a ≡ b → c ≡ d) → (c ≡ d → a ≡ b) → (a == b) ≡ (c == d)
 same_test a b c d to from = elim (cases_eq a b) [
-    | inl e ↦ eq-eqb a b e ∙ sym (eq-eqb c d (to e))
-    | inr e ↦ ne_eqb a b e ∙ sym (ne_eqb c d (λ h. e (from h)))
-  ]
+  | inl e ↦ eq-eqb a b e ∙ sym (eq-eqb c d (to e))
+  | inr e ↦ ne_eqb a b e ∙ sym (ne_eqb c d (λ h. e (from h)))
+]
 
 or_none : (v : Bool) → (v || false) ≡ v
 or_none true = refl
@@ -135,38 +135,58 @@ or_swap false false = refl
 fit_off : (x p : ℕ) → fits (coarse (record { x = x; on = false })) p ≡ true → Fit x false p x false
 fit_off x p h =
     let parent : x / 3 ≡ p = elim (or_cases (x / 3 == p) false h) [ inl e ↦ eqb-true (x / 3) p e | inr e ↦ absurd (false≢true e) ] in
-    record { digit = x % 3; below = omega arith; least = omega arith; plane = λ e. absurd (false≢true e);
-      holds = λ c from to. ap (λ v. v || false) (same_test x c c x (λ e. sym e) (λ e. sym e)) }
+    record {
+      digit = x % 3;
+      below = omega arith;
+      least = omega arith;
+      plane = λ e. absurd (false≢true e);
+      holds = λ c from to. ap (λ v. v || false) (same_test x c c x (λ e. sym e) (λ e. sym e));
+    }
 
 fit_on : (x p : ℕ) (whole near : Bool) → (x % 3 == 0) ≡ whole → (x == 3 * p) ≡ near → (x / 3 == p || (whole && x / 3 == p + 1)) ≡ true → Fit x true p (low_on true whole near x) (two_on true whole)
 fit_on x p true true w n h =
     let at : x ≡ 3 * p = eqb-true x (3 * p) n in
-    record { digit = 0; below = omega arith; least = omega arith; plane = λ e. absurd (false≢true e);
+    record {
+      digit = 0;
+      below = omega arith;
+      least = omega arith;
+      plane = λ e. absurd (false≢true e);
       holds = λ c from to.
           let here : (x == c) ≡ (c == x) = same_test x c c x (λ e. sym e) (λ e. sym e) in
           let there : (x == c + 1) ≡ false = ne_eqb x (c + 1) (λ e. omega arith) in
-          ap (λ v. v || x == c + 1) here ∙ ap (λ v. c == x || v) there }
+          ap (λ v. v || x == c + 1) here ∙ ap (λ v. c == x || v) there;
+    }
 fit_on x p true false w n h =
     let whole : x % 3 ≡ 0 = eqb-true (x % 3) 0 w in
     let apart : x ≡ 3 * p → ⊥ = eqb-false x (3 * p) n in
     let next : x ≡ 3 * p + 3 = elim (or_cases (x / 3 == p) (x / 3 == p + 1) h) [
-        | inl e ↦ absurd (apart (let q : x / 3 ≡ p = eqb-true (x / 3) p e in omega arith))
-        | inr e ↦ let q : x / 3 ≡ p + 1 = eqb-true (x / 3) (p + 1) e in omega arith
-      ] in
-    record { digit = 2; below = omega arith; least = omega arith; plane = λ e. absurd (false≢true e);
+      | inl e ↦ absurd (apart (let q : x / 3 ≡ p = eqb-true (x / 3) p e in omega arith))
+      | inr e ↦ let q : x / 3 ≡ p + 1 = eqb-true (x / 3) (p + 1) e in omega arith
+    ] in
+    record {
+      digit = 2;
+      below = omega arith;
+      least = omega arith;
+      plane = λ e. absurd (false≢true e);
       holds = λ c from to.
           let here : (x == c) ≡ false = ne_eqb x c (λ e. omega arith) in
           let there : (x == c + 1) ≡ (c == x - 1) = same_test x (c + 1) c (x - 1) (λ e. omega arith) (λ e. omega arith) in
-          ap (λ v. v || x == c + 1) here ∙ there ∙ sym (or_none (c == x - 1)) }
+          ap (λ v. v || x == c + 1) here ∙ there ∙ sym (or_none (c == x - 1));
+    }
 fit_on x p false near w n h =
     let part : x % 3 ≡ 0 → ⊥ = eqb-false (x % 3) 0 w in
     let parent : x / 3 ≡ p = elim (or_cases (x / 3 == p) false h) [ inl e ↦ eqb-true (x / 3) p e | inr e ↦ absurd (false≢true e) ] in
     let positive : 0 < x % 3 = elim (cases_lt 0 (x % 3)) [ inl e ↦ e | inr e ↦ absurd (part (omega arith)) ] in
-    record { digit = x % 3 - 1; below = omega arith; least = omega arith; plane = λ e. (refl, omega arith, omega arith);
+    record {
+      digit = x % 3 - 1;
+      below = omega arith;
+      least = omega arith;
+      plane = λ e. (refl, omega arith, omega arith);
       holds = λ c from to.
           let here : (x == c) ≡ (c == x - 1 + 1) = same_test x c c (x - 1 + 1) (λ e. omega arith) (λ e. omega arith) in
           let there : (x == c + 1) ≡ (c == x - 1) = same_test x (c + 1) c (x - 1) (λ e. omega arith) (λ e. omega arith) in
-          ap (λ v. v || x == c + 1) here ∙ ap (λ v. c == x - 1 + 1 || v) there ∙ or_swap (c == x - 1 + 1) (c == x - 1) }
+          ap (λ v. v || x == c + 1) here ∙ ap (λ v. c == x - 1 + 1 || v) there ∙ or_swap (c == x - 1 + 1) (c == x - 1);
+    }
 
 pub fit : (x : ℕ) (on : Bool) (p : ℕ) → fits (coarse (record { x = x; on = on })) p ≡ true → Fit x on p (low x on p) (two x on)
 fit x false p h = fit_off x p h
@@ -286,6 +306,6 @@ gray_walk b (s ∷ ss) (p ∷ ps) h =
     axis s ss p ps b (low s.x s.on p) (two s.x s.on) (is_even (b + p)) (is_even (suc b + p)) (fit s.x s.on p both.0)
     (odd_next (b + p) (is_even (b + p)) (is_even (suc b + p)) refl (ap (λ (r : ℕ). r == 0) next)) both.1
     (λ c.
-        let shift : suc (b + p + c) ≡ suc b + p + c = omega arith in
-        let P : ℕ → Type 0 = λ n. Walk (enter (b + p + c) ss ps) (enter n ss ps) (Within ss ps) (gray (b + p + c) ss ps) (start (b + p + c) ss ps) (start n ss ps) in
-        subst P shift (gray_walk (b + p + c) ss ps both.1))
+    let shift : suc (b + p + c) ≡ suc b + p + c = omega arith in
+    let P : ℕ → Type 0 = λ n. Walk (enter (b + p + c) ss ps) (enter n ss ps) (Within ss ps) (gray (b + p + c) ss ps) (start (b + p + c) ss ps) (start n ss ps) in
+    subst P shift (gray_walk (b + p + c) ss ps both.1))

@@ -1,23 +1,20 @@
 -- The stacks by which a vertex goes, by how its cells are entered and left.
-use Rattle.std.proofs.Common.{◌≡◌, ℕ, zero, suc, ◌+◌, ◌-◌, ◌*◌, ◌/◌, ◌%◌, ◌^◌, ◌<◌, ◌≤◌, Bool, true, false, ◌&&◌, ◌||◌, List, [], ◌∷◌, ◌++◌, map, take, length, Option, Some, None, sym, ap, ◌∙◌, subst, refl, inl, inr, ◌⊎◌, arith, pow-suc}
+use Rattle.std.proofs.Common.{◌≡◌, ℕ, zero, suc, ◌+◌, ◌-◌, ◌*◌, ◌/◌, ◌%◌, ◌^◌, ◌<◌, ◌≤◌, Bool, true, false, ◌&&◌, List, [], ◌∷◌, ◌++◌, map, length, Option, Some, None, sym, ap, ◌∙◌, subst, refl, inl, inr, ◌⊎◌, arith, pow-suc}
 use Rattle.std.specs.Prelude.{◌==◌, if◌then◌else◌, filter, find, sum, replicate, All}
 use Rattle.std.specs.List.{flat_map, zip}
 use Rattle.std.specs.Option.{option_map}
-use Rattle.std.proofs.lemmas.Bool.{and_parts, eqb-true, eq-eqb, false≢true, cases_lt, cases_Bool}
-use Rattle.std.proofs.lemmas.List.{length-append, length-replicate}
+use Rattle.std.proofs.lemmas.Bool.{and_parts, eqb-true, eq-eqb, false≢true, cases_Bool}
 use Rattle.std.proofs.lemmas.List.Elements.{All-head, All-tail, All-filter}
 use Rattle.pe_base.specs.declared.place.Place.{Place}
 use Rattle.pe_base.specs.declared.way.Way.{Way}
-use Rattle.pe_base.specs.declared.way.Way.TheVariants.{Forward, Inverted}
-use Rattle.pe_base.specs.Places.{IsPosition, padded, at}
+use Rattle.pe_base.specs.Places.{padded, at}
 use Rattle.pe_base.specs.Curve.{mirrored}
-use Rattle.pe_base.specs.Around.{is_corner, steps, around}
 use Rattle.pe_base.specs.Routes.{way_turns, is_same, is_same_pos, axis_of, stack_of, stack_in, stack_out}
-use Rattle.pe_base.proofs.Walks.{Step, Path}
+use Rattle.pe_base.proofs.Walks.{Path}
 use Rattle.pe_base.proofs.Spans.{Spot, fits_all, Crosses, parents, is_even}
 use Rattle.pe_base.proofs.Levels.{kids, cells, holders, entry}
-use Rattle.pe_base.proofs.Rounds.{spots, is_corner-at, cells-long}
-use Rattle.pe_base.proofs.RouteLaws.{Below, Below-front, length-front, at-front, round_at, steps-round, axis_of-step}
+use Rattle.pe_base.proofs.Rounds.{spots, cells-long}
+use Rattle.pe_base.proofs.RouteLaws.{Below, round_at, steps-round, axis_of-step}
 
 -- an item of a list
 abbrev pub Member : {X : Type 0} → X → List X → Type 0
@@ -156,9 +153,9 @@ find-to f g ss level n c a (b ∷ xs) z e long path m =
           ∙ ap Some (axis_of-step ss level path.0.axis a b path.0.crosses) ∙ sym path.0.entered ∙ ap f same
       | inr t ↦
           let left : Member c xs ⊎ (f c ≡ None) = elim m [
-              | inl k ↦ elim k [ inl q ↦ absurd (false≢true (sym t ∙ is_same-at level b c q)) | inr q ↦ inl q ]
-              | inr k ↦ inr k
-            ] in
+            | inl k ↦ elim k [ inl q ↦ absurd (false≢true (sym t ∙ is_same-at level b c q)) | inr q ↦ inl q ]
+            | inr k ↦ inr k
+          ] in
           ap (λ v. option_map axis_of (if v then Some (at level a, at level b) else find test rest)) t
           ∙ find-to f g ss level n c b xs z e more path.1 left
     ]

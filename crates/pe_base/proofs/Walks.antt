@@ -1,5 +1,5 @@
 -- Lists in which each member is entered from the one before it, and left for the one behind it.
-use Rattle.std.proofs.Common.{◌≡◌, ℕ, List, [], ◌∷◌, ◌++◌, map, Option, Some, None, sym, ap, ◌∙◌, subst, refl}
+use Rattle.std.proofs.Common.{◌≡◌, ℕ, List, [], ◌∷◌, ◌++◌, map, Option, Some, None, sym, ap, subst}
 
 -- a step from a member to the next: what enters the one leaves the other
 pub record Step {X : Type 0} (enters leaves : X → Option ℕ) (R : ℕ → X → X → Type 0) (a b : X) : Type 0 where

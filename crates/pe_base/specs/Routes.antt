@@ -6,12 +6,12 @@
 --
 --     2 3
 --     1 4
-use Rattle.std.specs.Prelude.{◌≡◌, ◌≢◌, ◌⊎◌, ℕ, ◌+◌, ◌*◌, ◌%◌, Bool, true, false, ◌&&◌, ◌==◌, if◌then◌else◌, List, [], ◌∷◌, Option, find, slice_index}
+use Rattle.std.specs.Prelude.{◌≡◌, ◌≢◌, ◌⊎◌, ℕ, ◌+◌, ◌*◌, ◌%◌, ◌^◌, ◌<◌, All, count_by, length, Bool, true, false, ◌&&◌, ◌==◌, if◌then◌else◌, List, [], ◌∷◌, Option, find, slice_index}
 use Rattle.std.specs.Option.{option_map}
 use Rattle.pe_base.specs.declared.place.Place.{Place}
 use Rattle.pe_base.specs.declared.way.Way.{Way}
 use Rattle.pe_base.specs.declared.way.Way.TheVariants.{Forward, Inverted}
-use Rattle.pe_base.specs.Around.{around, steps}
+use Rattle.pe_base.specs.Around.{around, crossings, steps}
 
 -- an inverted walk turns each axis once more than a forward one
 abbrev pub way_turns : Way → ℕ
@@ -63,3 +63,16 @@ stack_in axes way vertex cell = option_map (λ step. stack_of vertex (axis_of st
 -- the stack to which a cell gives a vertex; none for the last of the cells around it, which gives it to the stream
 abbrev pub stack_out : ℕ → Way → Place → Place → Option ℕ
 stack_out axes way vertex cell = option_map (λ step. stack_of vertex (axis_of step)) (step_from axes way vertex cell)
+
+-- around a vertex there are as many cells as a cell has corners
+abbrev pub HasCells : ℕ → Way → Place → Type 0
+HasCells axes way vertex = length (around axes way vertex) ≡ 2 ^ axes
+
+-- each step around a vertex goes across a face
+abbrev pub StepsAcrossFaces : ℕ → Way → Place → Type 0
+StepsAcrossFaces axes way vertex = All (λ step. SharesFace (axis_of step) step.0 step.1) (steps (around axes way vertex))
+
+-- the steps around a vertex cross each axis as often as it has slower axes to be doubled by
+abbrev pub CrossesEachAxis : ℕ → Way → Place → Type 0
+CrossesEachAxis axes way vertex =
+    (axis : ℕ) → axis < axes → count_by (λ step. axis_of step == axis) (steps (around axes way vertex)) ≡ crossings axes vertex axis

@@ -1,19 +1,16 @@
 -- The lines that are made are those of the child.
-use Rattle.std.proofs.Common.{◌≡◌, ℕ, ◌^◌, ◌<◌, ◌+◌, List, length, sym, ap, ◌∙◌, arith}
-use Rattle.std.specs.Prelude.{slice_index}
-use Rattle.std.proofs.Math.Nat.{one-le-pow}
+use Rattle.std.proofs.Common.{◌≡◌, ℕ, ◌+◌, length, sym, ap, ◌∙◌, arith}
 use Rattle.pe_base.specs.declared.way.Way.{Way}
 use Rattle.pe_base.specs.Places.{finer}
 use Rattle.pe_base.specs.Routes.{way_turns}
 use Rattle.pe_base.proofs.PlaceLaws.{IsPosition-below}
 use Rattle.pe_base.proofs.RouteLaws.{Below}
-use Rattle.pe_access.specs.declared.line.Line.{Line}
 use Rattle.pe_access.specs.States.{lines_of, odd_count}
-use Rattle.pe_access.proofs.LineLaws.{Below-all, descends, length-lines_of, lines_of-odd, lines-odd}
+use Rattle.pe_access.proofs.LineLaws.{Below-all, descends, length-lines_of, lines-odd}
 use Rattle.pe_access.proofs.state.CellState.descend.Goals as goal
 
-pub returns : goal.returns
-returns c axes way cell place h =
+pub returns-clause-stands : goal.returns-clause-stands
+returns-clause-stands c axes way cell place h =
     let self = c.args.self.now in
     let pos = cell.pos in
     let ks = c.args.k.k in

@@ -4,7 +4,6 @@ use Rattle.std.specs.Prelude.{slice_index}
 use Rattle.pe_base.specs.Curve.{flip}
 use Rattle.pe_base.proofs.PlaceLaws.{four}
 use Rattle.pe_base.proofs.CurveLaws.{bits-flips}
-use Rattle.pe_access.specs.declared.line.Line.{Line}
 use Rattle.pe_access.proofs.LineLaws.{flip-at, length-lines_of, lines-odd, odd-at}
 use Rattle.pe_access.proofs.state.CellState.flips.Goals as goal
 
