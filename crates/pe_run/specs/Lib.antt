@@ -6,3 +6,5 @@ pub mod LevelOne
 pub mod Filled
 pub mod Traffic
 pub mod Walked
+pub mod Tallies
+pub mod Flows
