@@ -1,5 +1,5 @@
 -- The parts of what is fired in a cell, and how much is done in it.
-use Rattle.std.proofs.Common.{◌≡◌, ℕ, ◌+◌, ◌*◌, ◌^◌, ◌≤◌, List, [], ◌∷◌, ◌++◌, reverse, length, count_by, refl, sym, ap, ◌∙◌, append_assoc, arith}
+use Rattle.std.proofs.Common.{◌≡◌, ℕ, ◌+◌, ◌*◌, ◌^◌, ◌≤◌, Bool, true, false, ◌==◌, cond, lit≤, List, [], ◌∷◌, ◌++◌, reverse, length, count_by, refl, sym, ap, ◌∙◌, append_assoc, arith}
 use Rattle.std.specs.List.{flat_map, range_with_len}
 use Rattle.std.proofs.lemmas.List.{length-append, length-reverse}
 use Rattle.std.proofs.lemmas.List.FromFn.{length-range_with_len}
@@ -10,7 +10,8 @@ use Rattle.pe_base.specs.Working.{Firing, fires}
 use Rattle.pe_stacks.proofs.CornerPlaces.{corners_range}
 use Rattle.pe_run.specs.declared.walk.traversal.Traversal.{Traversal}
 use Rattle.pe_run.specs.LevelOne.{load_firings, store_firings, birth_firings, cell_firings}
-use Rattle.pe_run.specs.Walked.{load_ops, store_ops, cell_loads, cell_stores, vertex_ops}
+use Rattle.pe_run.specs.Walked.{load_ops, store_ops, cell_loads, cell_stores, vertex_ops, cell_ops, cell_input_of, cell_output_of}
+use Rattle.pe_run.specs.Traffic.{lends, pops, pushes}
 use Rattle.pe_run.proofs.LoadStore.{load_few, store_few, few_each}
 
 abbrev pub corner_loads : ℕ → ℕ → Place → List Firing
@@ -33,3 +34,10 @@ stores_few t cell within = omega (arith, few_each (store_ops t cell) 8 (range_wi
 
 pub vertex_ops_few : (t : Traversal) (cell : Place) → IsDim t.dim → length (vertex_ops t cell) ≤ 256
 vertex_ops_few t cell within = omega (arith, length-append (cell_loads t cell) (cell_stores t cell), loads_few t cell within, stores_few t cell within)
+
+pub cell_ops_few : (t : Traversal) → length (cell_ops t) ≤ 2
+cell_ops_few t = go (t.number == 1)
+  where
+    go : (b : Bool) → length (cond b (lends ∷ []) (pops (cell_input_of t) ∷ []) ++ pushes (cell_output_of t) ∷ []) ≤ 2
+    go true = lit≤ tt
+    go false = lit≤ tt

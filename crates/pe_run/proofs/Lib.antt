@@ -12,3 +12,6 @@ pub mod FullCorners
 pub mod LoadStore
 pub mod CornerNumbers
 pub mod CellParts
+pub mod Counting
+pub mod TallyLines
+pub mod Children

@@ -11,3 +11,5 @@ pub mod Crossed
 pub mod Depots
 pub mod Run
 pub mod Stages
+pub mod Tallies
+pub mod Flows

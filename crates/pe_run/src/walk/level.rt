@@ -1,4 +1,22 @@
 // The traversals of level 1.
+ghost use Rattle.std.specs.Prelude.{max, ◌≡◌, ◌≢◌, ℕ, ◌+◌, ◌-◌, ◌*◌, ◌<◌, ◌≤◌, ◌^◌, [], ◌∷◌, ◌++◌, true, count_by, reverse, replicate, Err, OnOk, OnErr, IfOk};
+ghost use Rattle.std.specs.List.{flat_map, range_with_len};
+ghost use Rattle.pe_base.specs.declared.place.Place.{Place as APlace};
+ghost use Rattle.pe_base.specs.declared.event.Event.TheVariants.{BeginIteration, EndIteration, TouchVertexFirstTime, TouchVertexLastTime, CreateInnerVertex, CreateHangingVertex, DestroyHangingVertex, CreateCell, EnterCell, LeaveCell};
+ghost use Rattle.pe_base.specs.Places.{IsCellPlace, corner, root};
+ghost use Rattle.pe_base.specs.Curve.{children};
+ghost use Rattle.pe_base.specs.Ways.{way_of};
+ghost use Rattle.pe_base.specs.Working.{fires};
+ghost use Rattle.pe_stacks.specs.Holdings.{stack_count, stack_at, len_at, lent, given_up, CountsWithin};
+ghost use Rattle.pe_access.specs.States.{StandsFor};
+ghost use Rattle.pe_io.specs.Counts.{Rises};
+ghost use Rattle.pe_io.specs.Sink.{Appends, AppendsPrefix};
+ghost use Rattle.pe_run.specs.LevelOne.{first_firings, load_firings, store_firings, birth_firings, cell_firings, traversal_firings};
+ghost use Rattle.pe_run.specs.Traffic.{lends, gives_up, pushes, pops, is_pop_from, DoesAll, Abandons};
+ghost use Rattle.pe_run.specs.Filled.{FullFrom};
+ghost use Rattle.pe_run.specs.Flows.{Flows};
+ghost use Rattle.pe_run.specs.Walked.{fired, input_of, output_of, first_ops, load_ops, store_ops, cell_loads, cell_stores, vertex_ops, birth_ops, cell_ops, traversal_vertex_ops, traversal_cell_ops};
+
 use crate::scenario::Scenario;
 use crate::status::Stop;
 use crate::walk::cell::walk_cell;
@@ -19,7 +37,26 @@ fn walk_children<K: Sink, DV: Depot<Vertex<Fields>>, DC: Depot<CellRec<Fields>>>
     sink: &mut K,
     vertices: &mut DV,
     cells: &mut DC,
-) -> Result<(), Stop> {
+) -> Result<(), Stop>
+    requires stacks { stack_count (DV.holds vertices.old) ≡ 10 }
+    requires counts { CountsWithin (DV.holds vertices.old) (2 ^ 59) }
+    requires cell_stacks { stack_count (DC.holds cells.old) ≡ 2 }
+    requires cell_counts { CountsWithin (DC.holds cells.old) (2 ^ 59) }
+    requires flows { (s : ℕ) → Flows traversal.now s (children traversal.now.dim (way_of traversal.now.number) root) (len_at (DV.holds vertices.old) s) }
+    requires cell_safe { (s : ℕ) → count_by (is_pop_from s) (traversal_cell_ops traversal.now) ≤ len_at (DC.holds cells.old) s }
+    ensures ok { OnOk result (Appends (K.text sink.old) (fired traversal.now (flat_map (cell_firings traversal.now.dim traversal.now.number) (children traversal.now.dim (way_of traversal.now.number) root))) (K.text sink.new)) }
+    ensures err { OnErr result (AppendsPrefix (K.text sink.old) (fired traversal.now (flat_map (cell_firings traversal.now.dim traversal.now.number) (children traversal.now.dim (way_of traversal.now.number) root))) (K.text sink.new)) }
+    ensures faults { K.faults sink.old ≤ K.faults sink.new }
+    ensures failed { result ≡ Err Stop.Sink → Rises (K.faults sink.old) (K.faults sink.new) }
+    ensures moved { OnOk result (DoesAll (flat_map (vertex_ops traversal.now) (children traversal.now.dim (way_of traversal.now.number) root)) (DV.holds vertices.old) (DV.holds vertices.new)) }
+    ensures dropped { OnErr result (Abandons 0 (DV.holds vertices.old) (DV.holds vertices.new)) }
+    ensures out { OnOk result ((DV.holds vertices.new).out ≡ (DV.holds vertices.old).out) }
+    ensures most { OnOk result ((DV.holds vertices.new).most ≤ max (DV.holds vertices.old).most ((DV.holds vertices.old).out + 2 ^ traversal.now.dim)) }
+    ensures cell_moved { OnOk result (DoesAll (traversal_cell_ops traversal.now) (DC.holds cells.old) (DC.holds cells.new)) }
+    ensures cell_dropped { OnErr result (Abandons 0 (DC.holds cells.old) (DC.holds cells.new)) }
+    ensures cell_out { OnOk result ((DC.holds cells.new).out ≡ (DC.holds cells.old).out) }
+    ensures cell_most { OnOk result ((DC.holds cells.new).most ≤ max (DC.holds cells.old).most ((DC.holds cells.old).out + 1)) }
+{
     let root = CellState::root(traversal.dim, traversal.way());
     for digits in Cursor::new(traversal.dim, traversal.way(), 0) {
         let cell = child_of_root(traversal.dim, digits);
@@ -35,7 +72,26 @@ fn walk_root<K: Sink, DV: Depot<Vertex<Fields>>, DC: Depot<CellRec<Fields>>>(
     sink: &mut K,
     vertices: &mut DV,
     cells: &mut DC,
-) -> Result<(), Stop> {
+) -> Result<(), Stop>
+    requires stacks { stack_count (DV.holds vertices.old) ≡ 10 }
+    requires counts { CountsWithin (DV.holds vertices.old) (2 ^ 59) }
+    requires cell_stacks { stack_count (DC.holds cells.old) ≡ 2 }
+    requires cell_counts { CountsWithin (DC.holds cells.old) (2 ^ 59) }
+    requires flows { (s : ℕ) → Flows traversal.now s (children traversal.now.dim (way_of traversal.now.number) root) (len_at (DV.holds vertices.old) s) }
+    requires cell_safe { (s : ℕ) → count_by (is_pop_from s) (traversal_cell_ops traversal.now) ≤ len_at (DC.holds cells.old) s }
+    ensures ok { OnOk result (Appends (K.text sink.old) (fired traversal.now (traversal_firings traversal.now.dim traversal.now.number)) (K.text sink.new)) }
+    ensures err { OnErr result (AppendsPrefix (K.text sink.old) (fired traversal.now (traversal_firings traversal.now.dim traversal.now.number)) (K.text sink.new)) }
+    ensures faults { K.faults sink.old ≤ K.faults sink.new }
+    ensures failed { result ≡ Err Stop.Sink → Rises (K.faults sink.old) (K.faults sink.new) }
+    ensures moved { OnOk result (DoesAll (flat_map (vertex_ops traversal.now) (children traversal.now.dim (way_of traversal.now.number) root)) (DV.holds vertices.old) (DV.holds vertices.new)) }
+    ensures dropped { OnErr result (Abandons 0 (DV.holds vertices.old) (DV.holds vertices.new)) }
+    ensures out { OnOk result ((DV.holds vertices.new).out ≡ (DV.holds vertices.old).out) }
+    ensures most { OnOk result ((DV.holds vertices.new).most ≤ max (DV.holds vertices.old).most ((DV.holds vertices.old).out + 2 ^ traversal.now.dim)) }
+    ensures cell_moved { OnOk result (DoesAll (traversal_cell_ops traversal.now) (DC.holds cells.old) (DC.holds cells.new)) }
+    ensures cell_dropped { OnErr result (Abandons 0 (DC.holds cells.old) (DC.holds cells.new)) }
+    ensures cell_out { OnOk result ((DC.holds cells.new).out ≡ (DC.holds cells.old).out) }
+    ensures cell_most { OnOk result ((DC.holds cells.new).most ≤ max (DC.holds cells.old).most ((DC.holds cells.old).out + 1)) }
+{
     fire(traversal, Event::BeginIteration, &ROOT, sink)?;
     walk_children(traversal, sink, vertices, cells)?;
     fire(traversal, Event::EndIteration, &ROOT, sink)?;
@@ -48,7 +104,26 @@ fn walk_level<K: Sink, DV: Depot<Vertex<Fields>>, DC: Depot<CellRec<Fields>>>(
     sink: &mut K,
     vertices: &mut DV,
     cells: &mut DC,
-) -> Result<(), Stop> {
+) -> Result<(), Stop>
+    requires stacks { stack_count (DV.holds vertices.old) ≡ 10 }
+    requires counts { CountsWithin (DV.holds vertices.old) (2 ^ 58) }
+    requires cell_stacks { stack_count (DC.holds cells.old) ≡ 2 }
+    requires cell_counts { CountsWithin (DC.holds cells.old) (2 ^ 58) }
+    requires flows { (s : ℕ) → Flows traversal.now s (children traversal.now.dim (way_of traversal.now.number) root) (len_at (DV.holds vertices.old) s) }
+    requires cell_safe { (s : ℕ) → count_by (is_pop_from s) (traversal_cell_ops traversal.now) ≤ len_at (DC.holds cells.old) s }
+    ensures ok { OnOk result (Appends (K.text sink.old) (fired traversal.now (traversal_firings traversal.now.dim traversal.now.number)) (K.text sink.new)) }
+    ensures err { OnErr result (AppendsPrefix (K.text sink.old) (fired traversal.now (traversal_firings traversal.now.dim traversal.now.number)) (K.text sink.new)) }
+    ensures faults { K.faults sink.old ≤ K.faults sink.new }
+    ensures failed { result ≡ Err Stop.Sink → Rises (K.faults sink.old) (K.faults sink.new) }
+    ensures moved { OnOk result (DoesAll (traversal_vertex_ops traversal.now) (DV.holds vertices.old) (DV.holds vertices.new)) }
+    ensures dropped { OnErr result (Abandons 0 (DV.holds vertices.old) (DV.holds vertices.new)) }
+    ensures out { OnOk result ((DV.holds vertices.new).out ≡ (DV.holds vertices.old).out) }
+    ensures most { OnOk result ((DV.holds vertices.new).most ≤ max (DV.holds vertices.old).most ((DV.holds vertices.old).out + 2 * 2 ^ traversal.now.dim)) }
+    ensures cell_moved { OnOk result (DoesAll (traversal_cell_ops traversal.now) (DC.holds cells.old) (DC.holds cells.new)) }
+    ensures cell_dropped { OnErr result (Abandons 0 (DC.holds cells.old) (DC.holds cells.new)) }
+    ensures cell_out { OnOk result ((DC.holds cells.new).out ≡ (DC.holds cells.old).out) }
+    ensures cell_most { OnOk result ((DC.holds cells.new).most ≤ max (DC.holds cells.old).most ((DC.holds cells.old).out + 1)) }
+{
     let corners = lend_corners(traversal.dim, vertices);
     let walked = walk_root(traversal, sink, vertices, cells);
     give_up_from(traversal.dim, 0, corners, vertices);

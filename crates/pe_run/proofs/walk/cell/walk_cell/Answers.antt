@@ -1,10 +1,12 @@
-use Rattle.std.proofs.Common.{◌≡◌, ℕ, ◌+◌, ◌^◌, ◌≤◌, List, [], ◌∷◌, ◌++◌, OnOk, OnErr, sym, subst, ◌∙◌, arith}
+use Rattle.std.proofs.Common.{◌≡◌, ℕ, ◌+◌, ◌^◌, ◌≤◌, List, [], ◌∷◌, ◌++◌, OnOk, OnErr, refl, sym, subst, ◌∙◌, arith}
 use Rattle.std.proofs.lemmas.Result.{on_ok_weaker, on_err_weaker}
 use Rattle.pe_io.specs.Sink.{Appends, AppendsPrefix}
 use Rattle.pe_io.proofs.Appending.{OnErr-given}
 use Rattle.pe_run.specs.Walked.{fired, cell_loads, cell_stores}
 use Rattle.pe_run.proofs.FiredTexts.{fired_then, fired_then_part, fired_part}
 use Rattle.pe_run.proofs.TrafficLaws.{DoesAll-append, few_after, counted}
+use Rattle.pe_run.specs.Traffic.{takes_out, puts_back}
+use Rattle.pe_run.proofs.Counting.{loads_none, stores_none}
 use Rattle.pe_run.proofs.CellParts.{corner_loads, visit, corner_stores, cell_parts, loads_few}
 use Rattle.pe_run.proofs.walk.cell.walk_cell.Goals as goal
 
@@ -72,3 +74,14 @@ returns-in-Err-clause-dropped g c = record {
   out = omega (arith, c.in_ok-corners.ensures.out, c.give_up_from.ensures.dropped.out);
   stacks = c.give_up_from.ensures.dropped.stacks ∙ (counted (cell_loads c.args.traversal.now c.args.cell.now) (g.DV.Depot.holds c.args.vertices.now) (g.DV.Depot.holds c.load_corners.new.vertices) c.in_ok-corners.ensures.moved).stacks;
 }
+
+pub returns-in-Ok-clause-most : goal.returns-in-Ok-clause-most
+returns-in-Ok-clause-most g c =
+    let t = c.args.traversal.now in
+    let cell = c.args.cell.now in
+    on_ok_weaker c.store_corners.result
+    (λ stored.
+    let first = counted (cell_loads t cell) (g.DV.Depot.holds c.args.vertices.now) (g.DV.Depot.holds c.load_corners.new.vertices) c.in_ok-corners.ensures.moved in
+    let second = counted (cell_stores t cell) (g.DV.Depot.holds c.load_corners.new.vertices) (g.DV.Depot.holds c.store_corners.new.vertices) stored in
+    omega (arith, first.most, second.most, first.out, c.in_ok-corners.ensures.out, loads_none t cell puts_back refl (λ s. refl), stores_none t cell takes_out refl (λ s. refl)))
+    c.store_corners.ensures.moved
