@@ -224,7 +224,7 @@ pub and_right : (a b : Bool) → (a && b) ≡ true → b ≡ true
 and_right true b h = h
 and_right false b h = absurd (true≢false (sym h))
 
-same_list : (xs ys : List ℕ) → pointwise nat_eq xs ys ≡ true → xs ≡ ys
+pub same_list : (xs ys : List ℕ) → pointwise nat_eq xs ys ≡ true → xs ≡ ys
 same_list [] [] h = refl
 same_list [] (y ∷ ys) h = absurd (true≢false (sym h))
 same_list (x ∷ xs) [] h = absurd (true≢false (sym h))

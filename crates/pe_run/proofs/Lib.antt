@@ -5,6 +5,7 @@ pub mod LevelOneWalk
 pub mod Sums
 pub mod Totals
 pub mod Crossings
+pub mod Routed
 pub mod FiredTexts
 pub mod TrafficLaws
 pub mod Places

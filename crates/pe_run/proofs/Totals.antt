@@ -29,11 +29,11 @@ list_all-range p a (suc n) zero h e = subst (λ j. p j ≡ true) (let z : a ≡ 
 list_all-range p a (suc n) (suc i) h e =
     subst (λ j. p j ≡ true) (let z : (a + 1) + i ≡ a + suc i = omega arith in z) (list_all-range p (a + 1) n i (omega arith) (and_right (p a) (list_all p (range_with_len (a + 1) n)) e))
 
-list_all-Each : {X : Type 0} (p : X → Bool) (xs : List X) → list_all p xs ≡ true → Each (λ x. p x ≡ true) xs
+pub list_all-Each : {X : Type 0} (p : X → Bool) (xs : List X) → list_all p xs ≡ true → Each (λ x. p x ≡ true) xs
 list_all-Each p [] e = tt
 list_all-Each p (x ∷ xs) e = (and_left (p x) (list_all p xs) e, list_all-Each p xs (and_right (p x) (list_all p xs) e))
 
-list_all-below : (p : ℕ → Bool) (n i : ℕ) → i < n → list_all p (range_with_len 0 n) ≡ true → p i ≡ true
+pub list_all-below : (p : ℕ → Bool) (n i : ℕ) → i < n → list_all p (range_with_len 0 n) ≡ true → p i ≡ true
 list_all-below p n i h e = subst (λ j. p j ≡ true) (let z : 0 + i ≡ i = omega arith in z) (list_all-range p 0 n i h e)
 
 -- a table of numbers agrees with another on all axes and parities

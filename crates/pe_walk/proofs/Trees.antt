@@ -69,7 +69,7 @@ every_place axes way (suc level) pos four is =
 abbrev InRange : ℕ → ℕ → Place → Type 0
 InRange axes level cell = OnGrid axes level cell × ((axis : ℕ) → axis < axes → slice_index cell.pos axis < 3 ^ level)
 
-zeros_read : (n k : ℕ) (pos : List ℕ) → drop n pos ≡ replicate k 0 → (axis : ℕ) → n ≤ axis → slice_index pos axis ≡ 0
+pub zeros_read : (n k : ℕ) (pos : List ℕ) → drop n pos ≡ replicate k 0 → (axis : ℕ) → n ≤ axis → slice_index pos axis ≡ 0
 zeros_read zero k pos e axis h = ap (λ p. slice_index p axis) e ∙ zero_in k axis
   where
     zero_in : (m i : ℕ) → slice_index (replicate m 0) i ≡ 0

@@ -1,4 +1,4 @@
-use Rattle.std.proofs.Common.{◌≡◌, ◌+◌, ◌*◌, ◌<◌, ◌≤◌, true, OnOk, OnErr, sym, ap, subst, ◌∙◌, arith}
+use Rattle.std.proofs.Common.{◌≡◌, ◌+◌, ◌*◌, ◌<◌, ◌≤◌, ◌^◌, true, OnOk, OnErr, sym, ap, subst, ◌∙◌, arith}
 use Rattle.pe_base.specs.declared.place.Place.{Place}
 use Rattle.pe_base.specs.Places.{corner}
 use Rattle.pe_base.specs.Kinds.{is_inside}
@@ -35,3 +35,6 @@ returns-in-Stream-clause-err g c =
     subst (λ firings. OnErr c.load_first.result (AppendsPrefix (g.K.Sink.text c.args.sink.now) (fired t firings) (g.K.Sink.text c.load_first.new.sink)))
     (sym (first_load t.dim t.number cell c.corner_of-place.result c.args.k c.corner_of-place.ensures.place (sym c.if-not-is_inside.ensures) by.first))
     (c.load_first.ensures.err cell)
+
+pub comes_by-requires : goal.comes_by-requires
+comes_by-requires g c = subst (λ axes. c.args.k < 2 ^ axes) (sym c.requires.state.same_axes) c.requires.corner

@@ -1,4 +1,4 @@
-use Rattle.std.proofs.Common.{◌≡◌, ◌+◌, ◌*◌, ◌<◌, ◌≤◌, true, sym, ap, ◌∙◌, arith}
+use Rattle.std.proofs.Common.{◌≡◌, ◌+◌, ◌*◌, ◌<◌, ◌≤◌, ◌^◌, true, sym, ap, subst, ◌∙◌, arith}
 use Rattle.pe_base.specs.Places.{corner}
 use Rattle.pe_base.specs.Kinds.{is_inside}
 use Rattle.pe_access.specs.declared.route.Route.TheVariants.{Temp}
@@ -13,3 +13,6 @@ push_or_give_up-requires-clause-stack g c =
     let inside : is_inside t.dim (corner t.dim cell c.args.k) ≡ true = ap (is_inside t.dim) (sym c.corner_of-place.ensures.place) ∙ sym c.if-not-is_inside.ensures in
     let by : GoesBy t (corner t.dim cell c.args.k) cell (Temp c.in-Temp.s) = c.in-Temp.ensures t cell c.requires.state c.requires.cell c.requires.level c.requires.corner inside in
     omega (arith, goes_below t (corner t.dim cell c.args.k) cell c.in-Temp.s by, c.corner_of-place.ensures.dim.1, c.requires.stacks)
+
+pub goes_by-requires : goal.goes_by-requires
+goes_by-requires g c = subst (λ axes. c.args.k < 2 ^ axes) (sym c.requires.state.same_axes) c.requires.corner
