@@ -1,5 +1,5 @@
 -- The children of the root, walked one after another.
-use Rattle.std.proofs.Common.{◌≡◌, ℕ, zero, suc, ◌+◌, ◌*◌, ◌^◌, ◌<◌, ◌≤◌, List, [], ◌∷◌, ◌++◌, map, length, count_by, Option, refl, sym, ap, subst, ◌∙◌, append_assoc, arith}
+use Rattle.std.proofs.Common.{slice_index, ◌≡◌, ℕ, zero, suc, ◌+◌, ◌*◌, ◌^◌, ◌<◌, ◌≤◌, List, [], ◌∷◌, ◌++◌, map, length, count_by, Option, refl, sym, ap, subst, ◌∙◌, append_assoc, arith}
 use Rattle.std.specs.Prelude.{All}
 use Rattle.std.specs.List.{flat_map}
 use Rattle.std.proofs.Math.Nat.{pow-le-pow_right}
@@ -9,7 +9,7 @@ use Rattle.pe_base.specs.declared.place.Place.{Place}
 use Rattle.pe_base.specs.declared.place.Digits.{Digits}
 use Rattle.pe_base.specs.declared.way.Way.{Way}
 use Rattle.pe_base.specs.Dim.{IsDim}
-use Rattle.pe_base.specs.Places.{bits, child_at, root}
+use Rattle.pe_base.specs.Places.{IsCellPlace, bits, child_at, root}
 use Rattle.pe_base.specs.Curve.{flips, child_digits, children}
 use Rattle.pe_base.specs.Working.{Firing}
 use Rattle.pe_base.proofs.CurveLaws.{length-child_digits}
@@ -31,6 +31,23 @@ root_flips (suc (suc (suc zero))) within = refl
 root_flips (suc (suc (suc (suc zero)))) within = refl
 root_flips (suc (suc (suc (suc (suc n))))) within = absurd (omega (arith, within.1))
 
+-- the root's place
+pub root_place : (axes : ℕ) → IsCellPlace axes root
+root_place axes = record {
+  level = omega arith;
+  pos = record { four = refl; inside = λ axis below. zero_at axis 1 (omega arith); rest = λ axis above. none_at axis };
+}
+  where
+    none_at : (axis : ℕ) → slice_index root.pos axis ≡ 0
+    none_at zero = refl
+    none_at (suc zero) = refl
+    none_at (suc (suc zero)) = refl
+    none_at (suc (suc (suc zero))) = refl
+    none_at (suc (suc (suc (suc axis)))) = refl
+
+    zero_at : (axis n : ℕ) → 0 < n → slice_index root.pos axis < n
+    zero_at axis n some = omega (arith, none_at axis)
+
 pub all_children : (axes : ℕ) (way way' : Way) (digits digits' : List Digits) → IsDim axes → way' ≡ way → digits' ≡ digits → digits ≡ child_digits axes way' (bits axes 0)
     → map (child_at root) digits' ≡ children axes way root
 all_children axes way way' digits digits' within same kept is =
@@ -49,6 +66,9 @@ walked_more walked rest all cell digits left left' is step before =
 
 pub coming_is : (cell : Place) (digits : Digits) (left left' : List Digits) → cell ≡ child_at root digits → left ≡ digits ∷ left' → map (child_at root) left ≡ cell ∷ map (child_at root) left'
 coming_is cell digits left left' is step = ap (map (child_at root)) step ∙ ap (λ c. c ∷ map (child_at root) left') (sym is)
+
+pub all_head : {X : Type 0} (P : X → Type 0) (x : X) (xs ys : List X) → ys ≡ x ∷ xs → All P ys → P x
+all_head P x xs ys is all = let both : All P (x ∷ xs) = subst (All P) is all in both 0 x (omega arith)
 
 pub all_tail : {X : Type 0} (P : X → Type 0) (x : X) (xs ys : List X) → ys ≡ x ∷ xs → All P ys → All P xs
 all_tail P x xs ys is all = λ k d h. let both : All P (x ∷ xs) = subst (All P) is all in both (suc k) d (omega arith)

@@ -1,5 +1,5 @@
 -- How often each thing is done in a cell, and how often each event fires in it.
-use Rattle.std.proofs.Common.{◌≡◌, ◌≢◌, ℕ, zero, suc, ◌+◌, ◌*◌, ◌^◌, ◌<◌, ◌≤◌, Bool, true, false, ◌==◌, cond, List, [], ◌∷◌, ◌++◌, map, filter, reverse, length, count_by, refl, sym, ap, ap₂, ◌∙◌, arith}
+use Rattle.std.proofs.Common.{◌≡◌, ◌≢◌, ℕ, zero, suc, ◌+◌, ◌*◌, ◌^◌, ◌<◌, ◌≤◌, Bool, true, false, ◌==◌, cond, List, [], ◌∷◌, ◌++◌, map, filter, reverse, replicate, length, count_by, refl, sym, ap, ap₂, ◌∙◌, arith}
 use Rattle.std.specs.List.{flat_map, range_with_len}
 use Rattle.std.proofs.lemmas.Bool.{ne_eqb}
 use Rattle.pe_base.specs.declared.place.Place.{Place}
@@ -58,3 +58,14 @@ loads_none t cell p lend pop = count_none p (load_ops t cell) (reverse (range_wi
 pub stores_none : (t : Traversal) (cell : Place) (p : Op → Bool) → p gives_up ≡ false → ((s : ℕ) → p (pushes s) ≡ false) → count_by p (cell_stores t cell) ≡ 0
 stores_none t cell p give push = count_none p (store_ops t cell) (range_with_len 0 (2 ^ t.dim))
     (λ k. none_stored p give push (is_inside t.dim (corner t.dim cell k)) (is_last t.dim t.number (corner t.dim cell k) cell) (output_of t) (stacks_from t (corner t.dim cell k) cell))
+
+pub none_repeated : (p : Op → Bool) (op : Op) (n : ℕ) → p op ≡ false → count_by p (replicate n op) ≡ 0
+none_repeated p op zero absent = refl
+none_repeated p op (suc n) absent = omega (arith, count_by-append p (op ∷ []) (replicate n op), none_here p op absent, none_repeated p op n absent)
+
+one_here : {X : Type 0} (p : X → Bool) (x : X) → p x ≡ true → count_by p (x ∷ []) ≡ 1
+one_here p x present = ap (λ b. 0 + cond b 1 0) present
+
+pub all_repeated : (p : Op → Bool) (op : Op) (n : ℕ) → p op ≡ true → count_by p (replicate n op) ≡ n
+all_repeated p op zero present = refl
+all_repeated p op (suc n) present = omega (arith, count_by-append p (op ∷ []) (replicate n op), one_here p op present, all_repeated p op n present)

@@ -107,6 +107,7 @@ pub fn store_corners<K: Sink, D: Depot<Vertex<Fields>>>(
 pub fn lend_corners<D: Depot<Vertex<Fields>>>(dim: Dim, vertices: &mut D) -> Corners<Fields>
     requires { CountsWithin (D.holds vertices.old) (2 ^ 61) }
     ensures full { FullFrom dim 0 result }
+    ensures dim { IsDim dim }
     ensures moved { DoesAll (replicate (2 ^ dim) lends) (D.holds vertices.old) (D.holds vertices.new) }
     ensures out { (D.holds vertices.new).out ≡ (D.holds vertices.old).out + 2 ^ dim }
 {

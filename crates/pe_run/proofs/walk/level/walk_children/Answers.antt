@@ -7,6 +7,7 @@ use Rattle.pe_base.specs.Places.{IsDigits, child_at, root}
 use Rattle.pe_base.specs.Curve.{children}
 use Rattle.pe_base.specs.Ways.{way_of}
 use Rattle.pe_stacks.specs.Holdings.{len_at}
+use Rattle.pe_access.specs.States.{StandsFor}
 use Rattle.pe_io.specs.Sink.{Appends}
 use Rattle.pe_io.proofs.Appending.{Appends-nothing, OnErr-given}
 use Rattle.pe_run.specs.LevelOne.{cell_firings}
@@ -16,7 +17,7 @@ use Rattle.pe_run.specs.Walked.{fired, vertex_ops, cell_ops}
 use Rattle.pe_run.proofs.TrafficLaws.{counted, few_after}
 use Rattle.pe_run.proofs.LoadStore.{few_each}
 use Rattle.pe_run.proofs.CellParts.{vertex_ops_few, cell_ops_few}
-use Rattle.pe_run.proofs.Children.{all_children, few_walked, walked_more, coming_is, all_tail, fired_more, fired_more_part, DoesAll-more, flows_next, flows_safe, first_safe, rest_safe}
+use Rattle.pe_run.proofs.Children.{root_place, all_head, all_children, few_walked, walked_more, coming_is, all_tail, fired_more, fired_more_part, DoesAll-more, flows_next, flows_safe, first_safe, rest_safe}
 use Rattle.pe_run.proofs.walk.level.walk_children.Goals as goal
 
 pub loop-digits-init : goal.loop-digits-init
@@ -127,3 +128,13 @@ returns-in_err-walk_cell-clause-cell_dropped g c =
       out = omega (arith, c.in_err-walk_cell.ensures.cell_dropped.out, now.cell_out);
       stacks = c.in_err-walk_cell.ensures.cell_dropped.stacks ∙ (counted (flat_map (λ (cell : Place). cell_ops c.args.traversal.now) now.walked) (g.DC.Depot.holds c.args.cells.now) (g.DC.Depot.holds c.loop-digits.cells) now.cell_moved).stacks;
     })
+
+pub descend-state-requires-clause-digits : goal.descend-state-requires-clause-digits
+descend-state-requires-clause-digits g c =
+    subst (λ axes. IsDigits axes c.in-Some.digits) (sym c.root-root.ensures.stands.same_axes) (all_head (IsDigits c.args.traversal.now.dim) c.in-Some.digits c.next.new.self c.loop-digits.digits-iterator c.in-Some.ensures.steps c.loop-digits.invariant.places)
+
+pub walk_cell-requires-clause-state : goal.walk_cell-requires-clause-state
+walk_cell-requires-clause-state g c =
+    let t = c.args.traversal.now in
+    let stands : StandsFor t.dim (way_of t.number) root c.root-root.result = subst (λ way. StandsFor t.dim way root c.root-root.result) c.way.ensures c.root-root.ensures.stands in
+    subst (λ cell. StandsFor t.dim (way_of t.number) cell c.descend-state.result) (sym c.child_of_root-cell.ensures.place) (c.descend-state.ensures.stands t.dim (way_of t.number) root (root_place t.dim) stands)
