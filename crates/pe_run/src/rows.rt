@@ -1,6 +1,12 @@
 //! Worked rows: what words and contents write and answer, over a shelf and a sink in memory.
+ghost use Rattle.std.specs.Prelude.{◌≡◌, IfOk};
+ghost use Rattle.pe_stacks.specs.Holdings.{new_holdings};
+ghost use Rattle.pe_stacks.specs.VecDepot.{holdings_of};
+
 use crate::peano;
+use pe_base::Fields;
 use pe_io::{MemShelf, MemSink};
+use pe_stacks::{CellRec, Depot, VecDepot, Vertex};
 use std::alloc::{AllocError, Global};
 use std::process::Abort;
 use std::test::Fail;
@@ -11,11 +17,17 @@ const TWICE: &[u8] =
     b"dim = 2\ntraversals = 2\ntrace = [\"enter_cell\", \"end_iteration\", \"create_cell\"]\n";
 
 const PLAIN_TEXT: &str =
-    "enter_cell 1 0 0\nenter_cell 1 0 1\nenter_cell 1 0 2\nenter_cell 1 1 2\nenter_cell 1 1 1\nenter_cell 1 1 0\nenter_cell 1 2 0\nenter_cell 1 2 1\nenter_cell 1 2 2\ndone\n";
+    "enter_cell 1 0 0\nenter_cell 1 0 1\nenter_cell 1 0 2\nenter_cell 1 1 2\nenter_cell 1 1 1\nenter_cell 1 1 0\nenter_cell 1 2 0\nenter_cell 1 2 1\nenter_cell 1 2 2\ntraversal 1 forward cells 9 in 0 out 4 created 4 destroyed 0 hanging 20\ndone\n";
 
 // The first traversal creates the cells that it enters, and the second enters them in reversed order.
 const TWICE_TEXT: &str =
-    "create_cell 1 0 0\nenter_cell 1 0 0\ncreate_cell 1 0 1\nenter_cell 1 0 1\ncreate_cell 1 0 2\nenter_cell 1 0 2\ncreate_cell 1 1 2\nenter_cell 1 1 2\ncreate_cell 1 1 1\nenter_cell 1 1 1\ncreate_cell 1 1 0\nenter_cell 1 1 0\ncreate_cell 1 2 0\nenter_cell 1 2 0\ncreate_cell 1 2 1\nenter_cell 1 2 1\ncreate_cell 1 2 2\nenter_cell 1 2 2\nend_iteration 1\nenter_cell 1 2 2\nenter_cell 1 2 1\nenter_cell 1 2 0\nenter_cell 1 1 0\nenter_cell 1 1 1\nenter_cell 1 1 2\nenter_cell 1 0 2\nenter_cell 1 0 1\nenter_cell 1 0 0\nend_iteration 2\ndone\n";
+    "create_cell 1 0 0\nenter_cell 1 0 0\ncreate_cell 1 0 1\nenter_cell 1 0 1\ncreate_cell 1 0 2\nenter_cell 1 0 2\ncreate_cell 1 1 2\nenter_cell 1 1 2\ncreate_cell 1 1 1\nenter_cell 1 1 1\ncreate_cell 1 1 0\nenter_cell 1 1 0\ncreate_cell 1 2 0\nenter_cell 1 2 0\ncreate_cell 1 2 1\nenter_cell 1 2 1\ncreate_cell 1 2 2\nenter_cell 1 2 2\nend_iteration 1\ntraversal 1 forward cells 9 in 0 out 4 created 4 destroyed 0 hanging 20\nenter_cell 1 2 2\nenter_cell 1 2 1\nenter_cell 1 2 0\nenter_cell 1 1 0\nenter_cell 1 1 1\nenter_cell 1 1 2\nenter_cell 1 0 2\nenter_cell 1 0 1\nenter_cell 1 0 0\nend_iteration 2\ntraversal 2 inverted cells 9 in 4 out 4 created 0 destroyed 0 hanging 20\ndone\n";
+
+const HANGING: &str =
+    "create_hanging_vertex 1 0 1\ncreate_hanging_vertex 1 1 0\ncreate_hanging_vertex 1 0 0\n";
+
+const TALLIED: &str =
+    "traversal 1 forward cells 9 in 0 out 4 created 4 destroyed 0 hanging 20\ndone\n";
 
 /// One run: the words, what the shelf holds under `S`, the calls that fail, and what is to come of it.
 #[derive(Clone, Copy)]
@@ -50,17 +62,56 @@ fn words_of(alloc: Global, words: &[&str]) -> Result<Vec<String>, AllocError> {
     Ok(all)
 }
 
-fn check(rt: &impl Abort, alloc: Global, row: &Row) -> Result<(), AllocError> {
+// The depots of a run: ten stacks of vertices, and two of cells.
+struct Depots {
+    vertices: VecDepot<Vertex<Fields>>,
+    cells: VecDepot<CellRec<Fields>>,
+}
+
+fn new_depots(alloc: Global) -> Result<Depots, AllocError>
+    ensures vertices { IfOk result (λ depots. holdings_of depots.vertices ≡ new_holdings 10) }
+    ensures cells { IfOk result (λ depots. holdings_of depots.cells ≡ new_holdings 2) }
+{
+    Ok(Depots {
+        vertices: VecDepot::new(alloc, 10)?,
+        cells: VecDepot::new(alloc, 2)?,
+    })
+}
+
+// Whatever came of a run, nothing lies on a stack, nothing is out, and all that was lent was given up.
+fn check_settled(rt: &impl Abort, depots: &Depots) {
+    assert_eq!(rt; depots.vertices.out(), 0);
+    assert_eq!(rt; depots.vertices.fresh(), depots.vertices.spent());
+    assert_eq!(rt; depots.cells.out(), 0);
+    assert_eq!(rt; depots.cells.fresh(), depots.cells.spent());
+    for s in 0..depots.vertices.stacks() {
+        assert_eq!(rt; depots.vertices.len(s), 0);
+    }
+    for s in 0..depots.cells.stacks() {
+        assert_eq!(rt; depots.cells.len(s), 0);
+    }
+}
+
+fn check(rt: &impl Abort, alloc: Global, row: &Row) -> Result<Depots, AllocError> {
     let mut shelf = MemShelf::new(alloc, row.shelf_fails)?;
     if let Some(scenario) = row.scenario {
         shelf.add(alloc, "S", scenario)?;
     }
-    let mut sink = MemSink::new(alloc, 4096, row.sink_fails)?;
+    let mut sink = MemSink::new(alloc, 8192, row.sink_fails)?;
     let words = words_of(alloc, row.words)?;
-    let status = peano(alloc, words.as_slice(), &mut shelf, &mut sink);
+    let mut depots = new_depots(alloc)?;
+    let status = peano(
+        alloc,
+        words.as_slice(),
+        &mut shelf,
+        &mut sink,
+        &mut depots.vertices,
+        &mut depots.cells,
+    );
     assert_eq!(rt; status, row.status);
     assert_eq!(rt; sink.text(), row.text.as_bytes());
-    Ok(())
+    check_settled(rt, &depots);
+    Ok(depots)
 }
 
 #[test]
@@ -87,8 +138,100 @@ fn runs_and_interruptions(rt: HostRuntime) -> Result<(), Fail> {
         },
     ];
     for row in &rows {
-        check(&rt, rt.alloc(), row)?;
+        let _depots = check(&rt, rt.alloc(), row)?;
     }
+    Ok(())
+}
+
+#[test]
+fn the_traffic_of_one_traversal(rt: HostRuntime) -> Result<(), Fail> {
+    let depots = check(&rt, rt.alloc(), &plain(PLAIN, PLAIN_TEXT, 0))?;
+    for (s, pushes, pops) in [
+        (0, 2, 2),
+        (1, 2, 2),
+        (2, 4, 4),
+        (3, 4, 4),
+        (4, 0, 0),
+        (8, 0, 0),
+        (9, 4, 0),
+    ] {
+        assert_eq!(rt; depots.vertices.pushes(s), pushes);
+        assert_eq!(rt; depots.vertices.pops(s), pops);
+    }
+    assert_eq!(rt; depots.vertices.fresh(), 28);
+    assert_eq!(rt; depots.vertices.spent(), 28);
+    assert_eq!(rt; depots.vertices.most(), 8);
+    assert_eq!(rt; depots.cells.pushes(1), 9);
+    assert_eq!(rt; depots.cells.pops(1), 0);
+    assert_eq!(rt; depots.cells.fresh(), 9);
+    assert_eq!(rt; depots.cells.spent(), 9);
+    assert_eq!(rt; depots.cells.most(), 1);
+    Ok(())
+}
+
+#[test]
+fn more_axes(rt: HostRuntime) -> Result<(), Fail> {
+    let rows = [
+        plain(
+            b"dim = 3\ntraversals = 1\n",
+            "traversal 1 forward cells 27 in 0 out 8 created 8 destroyed 0 hanging 152\ndone\n",
+            0,
+        ),
+        plain(
+            b"dim = 4\ntraversals = 3\n",
+            "traversal 1 forward cells 81 in 0 out 16 created 16 destroyed 0 hanging 1040\ntraversal 2 inverted cells 81 in 16 out 16 created 0 destroyed 0 hanging 1040\ntraversal 3 forward cells 81 in 16 out 16 created 0 destroyed 0 hanging 1040\ndone\n",
+            0,
+        ),
+    ];
+    for row in &rows {
+        let _depots = check(&rt, rt.alloc(), row)?;
+    }
+    Ok(())
+}
+
+// Vertices are touched in the order of the cells around them, and none dies.
+#[test]
+fn vertex_events(rt: HostRuntime) -> Result<(), Fail> {
+    let rows = [
+        plain(
+            b"dim = 2\ntraversals = 2\ntrace = [\"create_inner_vertex\", \"destroy_vertex\"]\n",
+            "create_inner_vertex 1 1 1\ncreate_inner_vertex 1 1 2\ncreate_inner_vertex 1 2 2\ncreate_inner_vertex 1 2 1\ntraversal 1 forward cells 9 in 0 out 4 created 4 destroyed 0 hanging 20\ntraversal 2 inverted cells 9 in 4 out 4 created 0 destroyed 0 hanging 20\ndone\n",
+            0,
+        ),
+        plain(
+            b"dim = 2\ntraversals = 2\ntrace = [\"touch_vertex_first_time\", \"touch_vertex_last_time\"]\n",
+            "touch_vertex_first_time 1 1 1\n",
+            0,
+        ),
+    ];
+    for row in &rows {
+        let _depots = check(&rt, rt.alloc(), row)?;
+    }
+    Ok(())
+}
+
+#[test]
+fn the_first_hanging_vertices(rt: HostRuntime) -> Result<(), Fail> {
+    let alloc = rt.alloc();
+    let mut shelf = MemShelf::new(alloc, &[])?;
+    shelf.add(
+        alloc,
+        "S",
+        b"dim = 2\ntraversals = 1\ntrace = [\"create_hanging_vertex\"]\n",
+    )?;
+    let mut sink = MemSink::new(alloc, 4096, &[])?;
+    let words = words_of(alloc, RUN)?;
+    let mut depots = new_depots(alloc)?;
+    let status = peano(
+        alloc,
+        words.as_slice(),
+        &mut shelf,
+        &mut sink,
+        &mut depots.vertices,
+        &mut depots.cells,
+    );
+    assert_eq!(rt; status, 0);
+    assert!(rt; sink.text().starts_with(HANGING.as_bytes()));
     Ok(())
 }
 
@@ -108,7 +251,7 @@ fn words_that_name_no_job(rt: HostRuntime) -> Result<(), Fail> {
             words,
             ..plain(PLAIN, "fault words\n", 2)
         };
-        check(&rt, rt.alloc(), &row)?;
+        let _depots = check(&rt, rt.alloc(), &row)?;
     }
     Ok(())
 }
@@ -116,9 +259,9 @@ fn words_that_name_no_job(rt: HostRuntime) -> Result<(), Fail> {
 #[test]
 fn scenarios_that_are_refused(rt: HostRuntime) -> Result<(), Fail> {
     let unbuilt: [&[u8]; 11] = [
-        b"dim = 3\ntraversals = 1\ntrace = [\"enter_cell\"]\n",
         b"dim = 2\ntraversals = 1\ntrace = [\"enter_cell\"]\nmax_cells = 81\n",
-        b"dim = 2\ntraversals = 1\ntrace = [\"destroy_vertex\"]\n",
+        b"dim = 1\ntraversals = 1\n",
+        b"dim = 2\ntraversals = 1\ntrace = [\"destroy_nothing\"]\n",
         b"dim = 5\ntraversals = 1\ntrace = [\"enter_cell\"]\n",
         b"",
         b"dim = 2\n",
@@ -129,18 +272,18 @@ fn scenarios_that_are_refused(rt: HostRuntime) -> Result<(), Fail> {
         b"dim = 2\ntraversals = 1\ntrace = [1]\n",
     ];
     for scenario in unbuilt {
-        check(
+        let _depots = check(
             &rt,
             rt.alloc(),
             &plain(scenario, "fault scenario unbuilt form\n", 3),
         )?;
     }
-    check(
+    let _depots = check(
         &rt,
         rt.alloc(),
         &plain(b"\xff", "fault scenario not-toml\n", 3),
     )?;
-    check(
+    let _depots = check(
         &rt,
         rt.alloc(),
         &plain(b"dim = \n", "fault scenario not-toml\n", 3),
@@ -152,7 +295,7 @@ fn scenarios_that_are_refused(rt: HostRuntime) -> Result<(), Fail> {
 fn a_scenario_that_is_too_long(rt: HostRuntime) -> Result<(), Fail> {
     let alloc = rt.alloc();
     for (length, text, status) in [
-        (1_048_576, "done\n", 0),
+        (1_048_576, TALLIED, 0),
         (1_048_577, "fault scenario too-long\n", 3),
     ] {
         let mut scenario = Vec::from_slice(alloc, b"dim = 2\ntraversals = 1\n#")?;
@@ -161,8 +304,16 @@ fn a_scenario_that_is_too_long(rt: HostRuntime) -> Result<(), Fail> {
         shelf.add(alloc, "S", scenario.as_slice())?;
         let mut sink = MemSink::new(alloc, 4096, &[])?;
         let words = words_of(alloc, RUN)?;
+        let mut depots = new_depots(alloc)?;
         assert_eq!(rt;
-            peano(alloc, words.as_slice(), &mut shelf, &mut sink),
+            peano(
+                alloc,
+                words.as_slice(),
+                &mut shelf,
+                &mut sink,
+                &mut depots.vertices,
+                &mut depots.cells
+            ),
             status
         );
         assert_eq!(rt; sink.text(), text.as_bytes());
