@@ -5,6 +5,7 @@ pub mod Ways
 pub mod Curve
 pub mod Around
 pub mod Routes
+pub mod Faces
 pub mod Events
 pub mod Lines
 pub mod Firings
