@@ -1,3 +1,4 @@
 pub mod LineLaws
 pub mod FaceLaws
 pub mod RouteProofs
+pub mod OrderLaws
