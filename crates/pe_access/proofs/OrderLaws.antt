@@ -64,6 +64,10 @@ find-flat_map {X} {Y} test pass g (z ∷ xs) x y out e f =
           find-append test (g z) (flat_map g xs) ∙ ap (λ o. option_or o (find test (flat_map g xs))) (out z t) ∙ find-flat_map test pass g xs x y out rest f
     ]
 
+or_none : (v : Bool) → (v || false) ≡ v
+or_none true = refl
+or_none false = refl
+
 -- the first of three blocks that has one
 find-parts : {Y : Type 0} (test : Y → Bool) (f : ℕ → List Y) (t : ℕ) (y : Y) → t < 3 → ((k : ℕ) → k < t → find test (f k) ≡ None) → find test (f t) ≡ Some y → find test (f 0 ++ (f 1 ++ (f 2 ++ []))) ≡ Some y
 find-parts test f zero y h out e = find-append test (f 0) _ ∙ ap (λ o. option_or o (find test (f 1 ++ (f 2 ++ [])))) e
@@ -134,3 +138,145 @@ find-kids b (u ∷ us) (p ∷ ps) e =
     (find-under test (λ x. is_same_pos x us) (child t) (kids (b + t) ps) (λ cs. ap (λ v. v && is_same_pos cs us) (eq-eqb (child t) u at.1))
         ∙ ap (option_map (λ cs. child t ∷ cs)) (find-kids (b + t) us ps rest)
         ∙ ap (λ (c : ℕ). Some (c ∷ us)) at.1)
+
+-- of two children beside each other on the first axis
+first-zero : (v : Bool) (b p u w : ℕ) (us vs ps : List ℕ) → u / 3 ≡ p → u % 3 < 2 → w ≡ u + 1 → us ≡ vs → ps ≡ parents us → let block = λ (t : ℕ). map (λ cs. (3 * p + (if v then t else (2 - t))) ∷ cs) (kids (b + t) ps) in find (is_either (u ∷ us) (w ∷ vs)) (block 0 ++ (block 1 ++ (block 2 ++ []))) ≡ Some (first_of v (u ∷ us) (w ∷ vs))
+first-zero true b p u w us vs ps e h up same par =
+    let test = is_either (u ∷ us) (w ∷ vs) in
+    let here : 3 * p + u % 3 ≡ u = omega arith in
+    find-parts test (λ t. map (λ cs. (3 * p + t) ∷ cs) (kids (b + t) ps)) (u % 3) (u ∷ us) (omega arith)
+    (λ k less. find-nothing test (3 * p + k) (kids (b + k) ps) (λ cs. or_from _ _ (and_left (3 * p + k == u) (is_same_pos cs us) (ne_eqb (3 * p + k) u (λ q. omega arith))) (and_left (3 * p + k == w) (is_same_pos cs vs) (ne_eqb (3 * p + k) w (λ q. omega arith)))))
+    (find-under test (λ cs. is_same_pos cs us) (3 * p + u % 3) (kids (b + u % 3) ps) (λ cs.
+            ap (λ v. (v && is_same_pos cs us) || (3 * p + u % 3 == w && is_same_pos cs vs)) (eq-eqb (3 * p + u % 3) u here)
+            ∙ ap (λ v. is_same_pos cs us || (v && is_same_pos cs vs)) (ne_eqb (3 * p + u % 3) w (λ q. omega arith)) ∙ or_none (is_same_pos cs us))
+        ∙ ap (option_map (λ cs. (3 * p + u % 3) ∷ cs)) (find-kids (b + u % 3) us ps par)
+        ∙ ap (λ (c : ℕ). Some (c ∷ us)) here)
+first-zero false b p u w us vs ps e h up same par =
+    let test = is_either (u ∷ us) (w ∷ vs) in
+    let t = 2 - w % 3 in
+    let here : 3 * p + (2 - t) ≡ w = omega arith in
+    find-parts test (λ t. map (λ cs. (3 * p + (2 - t)) ∷ cs) (kids (b + t) ps)) t (w ∷ vs) (omega arith)
+    (λ k less. find-nothing test (3 * p + (2 - k)) (kids (b + k) ps) (λ cs. or_from _ _ (and_left (3 * p + (2 - k) == u) (is_same_pos cs us) (ne_eqb (3 * p + (2 - k)) u (λ q. omega arith))) (and_left (3 * p + (2 - k) == w) (is_same_pos cs vs) (ne_eqb (3 * p + (2 - k)) w (λ q. omega arith)))))
+    (find-under test (λ cs. is_same_pos cs vs) (3 * p + (2 - t)) (kids (b + t) ps) (λ cs.
+            ap (λ v. (v && is_same_pos cs us) || (3 * p + (2 - t) == w && is_same_pos cs vs)) (ne_eqb (3 * p + (2 - t)) u (λ q. omega arith))
+            ∙ ap (λ v. v && is_same_pos cs vs) (eq-eqb (3 * p + (2 - t)) w here))
+        ∙ ap (option_map (λ cs. (3 * p + (2 - t)) ∷ cs)) (find-kids (b + t) vs ps (par ∙ ap parents same))
+        ∙ ap (λ (c : ℕ). Some (c ∷ vs)) here)
+
+turns_at-parity : (a b : ℕ) (cs : List ℕ) (i : ℕ) → a % 2 ≡ b % 2 → turns_at a cs i % 2 ≡ turns_at b cs i % 2
+turns_at-parity a b [] i e = e
+turns_at-parity a b (c ∷ cs) zero e = omega arith
+turns_at-parity a b (c ∷ cs) (suc i) e = turns_at-parity (a + c % 3) (b + c % 3) cs i (omega arith)
+
+first_of-under : (v : Bool) (c : ℕ) (us vs : List ℕ) → c ∷ first_of v us vs ≡ first_of v (c ∷ us) (c ∷ vs)
+first_of-under true c us vs = refl
+first_of-under false c us vs = refl
+
+-- of two children of one cell, the one that comes first is told by the turns of their axis
+first-kids : (i b : ℕ) (us vs ps : List ℕ) → Beside i us vs → ps ≡ parents us → parents us ≡ parents vs → find (is_either us vs) (kids b ps) ≡ Some (first_of (is_even (turns_at b us i)) us vs)
+first-kids zero b [] vs ps h e f = absurd h
+first-kids (suc i) b [] vs ps h e f = absurd h
+first-kids zero b (u ∷ us) [] ps h e f = absurd h
+first-kids (suc i) b (u ∷ us) [] ps h e f = absurd h
+first-kids i b (u ∷ us) (v ∷ vs) [] h e f = cc
+first-kids zero b (u ∷ us) (v ∷ vs) (p ∷ ps) h e f =
+    let head : u / 3 ≡ p = cc in
+    let rest : ps ≡ parents us = cc in
+    let up : v ≡ u + 1 = h.0 in
+    let same : u / 3 ≡ v / 3 = cc in
+    ap (λ (q : ℕ). find (is_either (u ∷ us) (v ∷ vs)) (kids b (q ∷ ps))) (sym head)
+    ∙ first-zero (is_even (b + u / 3)) b (u / 3) u v us vs ps refl (omega arith) up h.1 rest
+first-kids (suc i) b (u ∷ us) (v ∷ vs) (p ∷ ps) h e f =
+    let head : u / 3 ≡ p = cc in
+    let rest : ps ≡ parents us = cc in
+    let pair : parents us ≡ parents vs = cc in
+    let same : u ≡ v = h.0 in
+    let test = is_either (u ∷ us) (v ∷ vs) in
+    let child : ℕ → ℕ = λ t. 3 * p + mirrored (b + p) t in
+    let t = digit-of (b + p) (u % 3) in
+    let at = digit-at (b + p) p u head in
+    let even = is_even (turns_at (b + u % 3) us i) in
+    let parity : (b + t) % 2 ≡ (b + u % 3) % 2 = omega (arith, digit-parity (b + p) (u % 3) (omega arith)) in
+    let turn : is_even (turns_at (b + t) us i) ≡ even = ap (λ (r : ℕ). r == 0) (turns_at-parity (b + t) (b + u % 3) us i parity) in
+    find-parts test (λ t. map (λ cs. child t ∷ cs) (kids (b + t) ps)) t (u ∷ first_of even us vs) at.0
+    (λ k less.
+        let off : child k ≡ u → ⊥ = digit-only (b + p) p u k head less in
+        find-nothing test (child k) (kids (b + k) ps) (λ cs. or_from _ _ (and_left (child k == u) (is_same_pos cs us) (ne_eqb (child k) u off)) (and_left (child k == v) (is_same_pos cs vs) (ne_eqb (child k) v (λ q. off (q ∙ sym same))))))
+    (find-under test (is_either us vs) (child t) (kids (b + t) ps) (λ cs.
+            ap (λ w. (w && is_same_pos cs us) || (child t == v && is_same_pos cs vs)) (eq-eqb (child t) u at.1)
+            ∙ ap (λ w. is_same_pos cs us || (w && is_same_pos cs vs)) (eq-eqb (child t) v (at.1 ∙ same)))
+        ∙ ap (option_map (λ cs. child t ∷ cs)) (first-kids i (b + t) us vs ps h.1 rest pair)
+        ∙ ap (λ (c : ℕ). Some (c ∷ first_of (is_even (turns_at (b + t) us i)) us vs)) at.1
+        ∙ ap (λ w. Some (u ∷ first_of w us vs)) turn)
+    ∙ ap Some (first_of-under even u us vs)
+    ∙ ap (λ (c : ℕ). Some (first_of even (u ∷ us) (c ∷ vs))) same
+
+-- two cells side by side are children of one cell, or of two cells side by side
+siblings : (i : ℕ) (us vs : List ℕ) → Beside i us vs → (parents us ≡ parents vs) ⊎ Beside i (parents us) (parents vs)
+siblings zero [] vs h = absurd h
+siblings (suc i) [] vs h = absurd h
+siblings zero (u ∷ us) [] h = absurd h
+siblings (suc i) (u ∷ us) [] h = absurd h
+siblings zero (u ∷ us) (v ∷ vs) h =
+    let up : v ≡ u + 1 = h.0 in
+    let rest : parents us ≡ parents vs = ap parents h.1 in
+    elim (cases_lt (u % 3) 2) [
+      | inl k ↦ inl (let head : u / 3 ≡ v / 3 = omega arith in cc)
+      | inr k ↦ inr (omega arith, rest)
+    ]
+siblings (suc i) (u ∷ us) (v ∷ vs) h =
+    let head : u / 3 ≡ v / 3 = ap (λ (x : ℕ). x / 3) h.0 in
+    elim (siblings i us vs h.1) [ inl e ↦ inl (cc) | inr e ↦ inr (head, e) ]
+
+far-inner : (i level b : ℕ) (us vs : List ℕ) (lines : List Line) → Beside i us vs → parents us ≡ parents vs → length lines ≡ length us → far_at i (child_lines level b (parents us) us lines) ≡ far_face level (turns_at b us i)
+far-inner zero level b [] vs lines h e len = absurd h
+far-inner (suc i) level b [] vs lines h e len = absurd h
+far-inner zero level b (u ∷ us) [] lines h e len = absurd h
+far-inner (suc i) level b (u ∷ us) [] lines h e len = absurd h
+far-inner i level b (u ∷ us) (v ∷ vs) [] h e len = absurd (omega arith)
+far-inner zero level b (u ∷ us) (v ∷ vs) (line ∷ lines) h e len =
+    let up : v ≡ u + 1 = h.0 in
+    let same : u / 3 ≡ v / 3 = cc in
+    ap (λ w. if w then line.far else far_face level (b + u / 3)) (ne_eqb (u % 3) 2 (λ q. omega arith))
+far-inner (suc i) level b (u ∷ us) (v ∷ vs) (line ∷ lines) h e len =
+    let rest : parents us ≡ parents vs = cc in
+    far-inner i level (b + u % 3) us vs lines h.1 rest (omega arith)
+
+near-inner : (i level b : ℕ) (us vs : List ℕ) (lines : List Line) → Beside i us vs → parents us ≡ parents vs → length lines ≡ length us → near_at i (child_lines level b (parents us) vs lines) ≡ near_face level (turns_at b us i)
+near-inner zero level b [] vs lines h e len = absurd h
+near-inner (suc i) level b [] vs lines h e len = absurd h
+near-inner zero level b (u ∷ us) [] lines h e len = absurd h
+near-inner (suc i) level b (u ∷ us) [] lines h e len = absurd h
+near-inner i level b (u ∷ us) (v ∷ vs) [] h e len = absurd (omega arith)
+near-inner zero level b (u ∷ us) (v ∷ vs) (line ∷ lines) h e len =
+    let up : v ≡ u + 1 = h.0 in
+    let same : u / 3 ≡ v / 3 = cc in
+    ap (λ w. if w then line.near else near_face level (b + u / 3)) (ne_eqb (v % 3) 0 (λ q. omega arith))
+near-inner (suc i) level b (u ∷ us) (v ∷ vs) (line ∷ lines) h e len =
+    let rest : parents us ≡ parents vs = cc in
+    ap (λ (d : ℕ). near_at i (child_lines level (b + d % 3) (parents us) vs lines)) (sym h.0)
+    ∙ near-inner i level (b + u % 3) us vs lines h.1 rest (omega arith)
+
+far-edge : (i level b : ℕ) (us vs : List ℕ) (lines : List Line) → Beside i us vs → Beside i (parents us) (parents vs) → length lines ≡ length us → far_at i (child_lines level b (parents us) us lines) ≡ far_at i lines
+far-edge zero level b [] vs lines h e len = absurd h
+far-edge (suc i) level b [] vs lines h e len = absurd h
+far-edge zero level b (u ∷ us) [] lines h e len = absurd h
+far-edge (suc i) level b (u ∷ us) [] lines h e len = absurd h
+far-edge i level b (u ∷ us) (v ∷ vs) [] h e len = absurd (omega arith)
+far-edge zero level b (u ∷ us) (v ∷ vs) (line ∷ lines) h e len =
+    let up : v ≡ u + 1 = h.0 in
+    let next : v / 3 ≡ u / 3 + 1 = e.0 in
+    ap (λ w. if w then line.far else far_face level (b + u / 3)) (eq-eqb (u % 3) 2 (omega arith))
+far-edge (suc i) level b (u ∷ us) (v ∷ vs) (line ∷ lines) h e len = far-edge i level (b + u % 3) us vs lines h.1 e.1 (omega arith)
+
+near-edge : (i level b : ℕ) (us vs : List ℕ) (lines : List Line) → Beside i us vs → Beside i (parents us) (parents vs) → length lines ≡ length vs → near_at i (child_lines level b (parents vs) vs lines) ≡ near_at i lines
+near-edge zero level b [] vs lines h e len = absurd h
+near-edge (suc i) level b [] vs lines h e len = absurd h
+near-edge zero level b (u ∷ us) [] lines h e len = absurd h
+near-edge (suc i) level b (u ∷ us) [] lines h e len = absurd h
+near-edge i level b (u ∷ us) (v ∷ vs) [] h e len = absurd (omega arith)
+near-edge zero level b (u ∷ us) (v ∷ vs) (line ∷ lines) h e len =
+    let up : v ≡ u + 1 = h.0 in
+    let next : v / 3 ≡ u / 3 + 1 = e.0 in
+    ap (λ w. if w then line.near else near_face level (b + v / 3)) (eq-eqb (v % 3) 0 (omega arith))
+near-edge (suc i) level b (u ∷ us) (v ∷ vs) (line ∷ lines) h e len = near-edge i level (b + v % 3) us vs lines h.1 e.1 (omega arith)
