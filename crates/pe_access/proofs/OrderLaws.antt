@@ -1,9 +1,10 @@
 -- The faces of a cell in the order of the walk: of two cells that share a face, which one comes first.
 use Rattle.std.proofs.Common.{◌≡◌, ℕ, zero, suc, ◌+◌, ◌-◌, ◌*◌, ◌/◌, ◌%◌, ◌^◌, ◌<◌, ◌≤◌, Bool, true, false, ◌&&◌, ◌||◌, List, [], ◌∷◌, ◌++◌, map, length, Option, Some, None, sym, ap, ◌∙◌, subst, refl, inl, inr, ◌⊎◌, arith, pow-suc}
-use Rattle.std.specs.Prelude.{◌==◌, if◌then◌else◌, find, sum, slice_index}
+use Rattle.std.specs.Prelude.{◌==◌, if◌then◌else◌, find, sum, slice_index, All}
 use Rattle.std.specs.List.{flat_map}
 use Rattle.std.specs.Option.{option_map, option_or}
-use Rattle.std.proofs.lemmas.Bool.{or_cases, or_from, and_parts, and_left, and_right, eqb-true, eqb-false, eq-eqb, ne_eqb, false≢true, cases_lt, cases_Bool}
+use Rattle.std.proofs.lemmas.Bool.{or_cases, or_parts, or_from, and_parts, and_left, and_right, eqb-true, eqb-false, eq-eqb, ne_eqb, false≢true, cases_lt, cases_Bool}
+use Rattle.std.proofs.lemmas.List.Elements.{All-head, All-tail, All-nil, All-cons, All-append, All-map, All-weaker}
 use Rattle.std.proofs.lemmas.List.Folds.{find-append}
 use Rattle.pe_base.specs.declared.way.Way.{Way}
 use Rattle.pe_base.specs.Curve.{mirrored}
@@ -280,3 +281,156 @@ near-edge zero level b (u ∷ us) (v ∷ vs) (line ∷ lines) h e len =
     let next : v / 3 ≡ u / 3 + 1 = e.0 in
     ap (λ w. if w then line.near else near_face level (b + v / 3)) (eq-eqb (v % 3) 0 (omega arith))
 near-edge (suc i) level b (u ∷ us) (v ∷ vs) (line ∷ lines) h e len = near-edge i level (b + v % 3) us vs lines h.1 e.1 (omega arith)
+
+child-third : (p t : ℕ) (even : Bool) → t < 3 → (3 * p + (if even then t else (2 - t))) / 3 ≡ p
+child-third p t true h = omega arith
+child-third p t false h = omega arith
+
+-- each child of a cell has it as its parent
+kids-parents : (b : ℕ) (ps : List ℕ) → All (λ cs. parents cs ≡ ps) (kids b ps)
+kids-parents b [] = All-cons (λ cs. parents cs ≡ []) [] [] refl (All-nil (λ cs. parents cs ≡ []))
+kids-parents b (p ∷ ps) =
+    let Of : List ℕ → Type 0 = λ cs. parents cs ≡ p ∷ ps in
+    let child : ℕ → ℕ = λ t. 3 * p + mirrored (b + p) t in
+    let part : (t : ℕ) → t < 3 → All Of (map (λ cs. child t ∷ cs) (kids (b + t) ps)) = λ t h.
+        let head : child t / 3 ≡ p = child-third p t (is_even (b + p)) h in
+        All-map Of (λ cs. child t ∷ cs) (kids (b + t) ps) (All-weaker (λ cs. parents cs ≡ ps) (λ cs. parents (child t ∷ cs) ≡ p ∷ ps) (λ cs e. cc) (kids (b + t) ps) (kids-parents (b + t) ps)) in
+    All-append Of _ _ (part 0 (omega arith)) (All-append Of _ _ (part 1 (omega arith)) (All-append Of _ _ (part 2 (omega arith)) (All-nil Of)))
+
+find-none : {X : Type 0} (test : X → Bool) (xs : List X) → All (λ x. test x ≡ false) xs → find test xs ≡ None
+find-none test [] all = refl
+find-none {X} test (x ∷ xs) all =
+    let Out : X → Type 0 = λ x. test x ≡ false in
+    ap (λ v. if v then Some x else find test xs) (All-head Out x xs all) ∙ find-none test xs (All-tail Out x xs all)
+
+find-same : {X : Type 0} (f g : X → Bool) (xs : List X) → All (λ x. f x ≡ g x) xs → find f xs ≡ find g xs
+find-same f g [] all = refl
+find-same {X} f g (x ∷ xs) all =
+    let Same : X → Type 0 = λ x. f x ≡ g x in
+    ap (λ v. if v then Some x else find f xs) (All-head Same x xs all) ∙ ap (λ o. if g x then Some x else o) (find-same f g xs (All-tail Same x xs all))
+
+-- a child of another cell is not this one
+other-child : (ps cs us : List ℕ) → parents cs ≡ ps → is_same_pos ps (parents us) ≡ false → is_same_pos cs us ≡ false
+other-child ps cs us e h = elim (cases_Bool (is_same_pos cs us)) [
+    | inl t ↦
+        let same : ps ≡ parents us = sym e ∙ ap parents (same_pos cs us t) in
+        absurd (false≢true (sym h ∙ ap (λ xs. is_same_pos ps xs) (sym same) ∙ is_same_pos-refl ps))
+    | inr t ↦ t
+  ]
+
+kids-out : (b : ℕ) (ps us vs : List ℕ) → is_same_pos ps (parents us) ≡ false → is_same_pos ps (parents vs) ≡ false → find (is_either us vs) (kids b ps) ≡ None
+kids-out b ps us vs h k =
+    find-none (is_either us vs) (kids b ps)
+    (All-weaker (λ cs. parents cs ≡ ps) (λ cs. is_either us vs cs ≡ false) (λ cs e. or_from (is_same_pos cs us) (is_same_pos cs vs) (other-child ps cs us e h) (other-child ps cs vs e k)) (kids b ps) (kids-parents b ps))
+
+beside-apart : (i : ℕ) (us vs : List ℕ) → Beside i us vs → us ≡ vs → ⊥
+beside-apart zero [] vs h e = absurd h
+beside-apart (suc i) [] vs h e = absurd h
+beside-apart zero (u ∷ us) [] h e = absurd h
+beside-apart (suc i) (u ∷ us) [] h e = absurd h
+beside-apart zero (u ∷ us) (v ∷ vs) h e = let up : v ≡ u + 1 = h.0 in let same : u ≡ v = cc in omega arith
+beside-apart (suc i) (u ∷ us) (v ∷ vs) h e = beside-apart i us vs h.1 (cc)
+
+not-same : (xs ys : List ℕ) → (xs ≡ ys → ⊥) → is_same_pos xs ys ≡ false
+not-same xs ys h = elim (cases_Bool (is_same_pos xs ys)) [ inl t ↦ absurd (h (same_pos xs ys t)) | inr t ↦ t ]
+
+-- among the children of one of two cells side by side only its own of the two children is found
+first-edge : (b : ℕ) (us vs : List ℕ) (v : Bool) → (parents us ≡ parents vs → ⊥) → find (is_either us vs) (kids b (first_of v (parents us) (parents vs))) ≡ Some (first_of v us vs)
+first-edge b us vs true differ =
+    find-same (is_either us vs) (λ x. is_same_pos x us) (kids b (parents us))
+    (All-weaker (λ cs. parents cs ≡ parents us) (λ cs. is_either us vs cs ≡ is_same_pos cs us) (λ cs e. ap (λ w. is_same_pos cs us || w) (other-child (parents us) cs vs e (not-same (parents us) (parents vs) differ)) ∙ or_none (is_same_pos cs us)) (kids b (parents us)) (kids-parents b (parents us)))
+    ∙ find-kids b us (parents us) refl
+first-edge b us vs false differ =
+    find-same (is_either us vs) (λ x. is_same_pos x vs) (kids b (parents vs))
+    (All-weaker (λ cs. parents cs ≡ parents vs) (λ cs. is_either us vs cs ≡ is_same_pos cs vs) (λ cs e. ap (λ w. w || is_same_pos cs vs) (other-child (parents vs) cs us e (not-same (parents vs) (parents us) (λ k. differ (sym k))))) (kids b (parents vs)) (kids-parents b (parents vs)))
+    ∙ find-kids b vs (parents vs) refl
+
+find-member : (us : List ℕ) (xs : List (List ℕ)) → Member us xs → find (λ x. is_same_pos x us) xs ≡ Some us
+find-member us [] m = absurd m
+find-member us (x ∷ xs) m =
+    elim (cases_Bool (is_same_pos x us)) [
+      | inl t ↦ ap (λ v. if v then Some x else find (λ x. is_same_pos x us) xs) t ∙ ap Some (same_pos x us t)
+      | inr t ↦
+          let rest : Member us xs = elim m [ inl e ↦ absurd (false≢true (sym t ∙ ap (λ y. is_same_pos x y) (sym e) ∙ is_same_pos-refl x)) | inr k ↦ k ] in
+          ap (λ v. if v then Some x else find (λ x. is_same_pos x us) xs) t ∙ find-member us xs rest
+    ]
+
+-- of two cells side by side, the one that comes first, as their faces have it
+pub record First (axes : ℕ) (way : Way) (level i : ℕ) (us vs : List ℕ) : Type 0 where
+  pub lower : Bool
+  pub far : (far_at i (lines_of way level us)).relation ≡ (if lower then Later else Earlier)
+  pub near : (near_at i (lines_of way level vs)).relation ≡ (if lower then Earlier else Later)
+  pub found : find (is_either us vs) (cells axes (way_turns way) level) ≡ Some (first_of lower us vs)
+
+beside-length : (i : ℕ) (us vs : List ℕ) → Beside i us vs → length us ≡ length vs
+beside-length zero [] vs h = absurd h
+beside-length (suc i) [] vs h = absurd h
+beside-length zero (u ∷ us) [] h = absurd h
+beside-length (suc i) (u ∷ us) [] h = absurd h
+beside-length zero (u ∷ us) (v ∷ vs) h = ap (λ (xs : List ℕ). suc (length xs)) h.1
+beside-length (suc i) (u ∷ us) (v ∷ vs) h = ap suc (beside-length i us vs h.1)
+
+beside-root : (i : ℕ) (us vs : List ℕ) → Beside i us vs → Below 1 vs → ⊥
+beside-root zero [] vs h k = absurd h
+beside-root (suc i) [] vs h k = absurd h
+beside-root zero (u ∷ us) [] h k = absurd h
+beside-root (suc i) (u ∷ us) [] h k = absurd h
+beside-root zero (u ∷ us) (v ∷ vs) h k = let up : v ≡ u + 1 = h.0 in let small = k.0 in omega arith
+beside-root (suc i) (u ∷ us) (v ∷ vs) h k = beside-root i us vs h.1 k.1
+
+beside-below : (i bound : ℕ) (us vs : List ℕ) → Beside i us vs → Below bound vs → Below bound us
+beside-below zero bound [] vs h k = absurd h
+beside-below (suc i) bound [] vs h k = absurd h
+beside-below zero bound (u ∷ us) [] h k = absurd h
+beside-below (suc i) bound (u ∷ us) [] h k = absurd h
+beside-below zero bound (u ∷ us) (v ∷ vs) h k =
+    let up : v ≡ u + 1 = h.0 in
+    let small = k.0 in
+    let P : List ℕ → Type 0 = λ xs. Below bound xs in
+    (omega arith, subst P (sym h.1) k.1)
+beside-below (suc i) bound (u ∷ us) (v ∷ vs) h k =
+    let same : u ≡ v = h.0 in
+    let small = k.0 in
+    (omega arith, beside-below i bound us vs h.1 k.1)
+
+pub first-is : (axes : ℕ) (way : Way) (level i : ℕ) (us vs : List ℕ) → length vs ≡ axes → Below (3 ^ level) vs → Beside i us vs → First axes way level i us vs
+first-is axes way zero i us vs len below h = absurd (beside-root i us vs h below)
+first-is axes way (suc level) i us vs len below h =
+    let w = way_turns way in
+    let ps = parents us in
+    let qs = parents vs in
+    let bound : 3 ^ suc level ≡ 3 * 3 ^ level = omega (arith, pow-suc 3 level) in
+    let P : ℕ → Type 0 = λ b. Below b vs in
+    let small : Below (3 ^ level) qs = Below-parents (3 ^ level) vs (subst P bound below) in
+    let long : length us ≡ length vs = beside-length i us vs h in
+    let lines : length (lines_of way level ps) ≡ length us = length-lines_of way level ps ∙ length-parents us in
+    let lines' : length (lines_of way level qs) ≡ length vs = length-lines_of way level qs ∙ length-parents vs in
+    elim (siblings i us vs h) [
+      | inl same ↦
+          let b = w + sum ps in
+          let e = is_even (turns_at b us i) in
+          let Q : List ℕ → Type 0 = λ xs. Below (3 ^ level) xs in
+          let up : find (λ x. is_same_pos x ps) (cells axes w level) ≡ Some ps = find-member ps (cells axes w level) (Member-cells axes w level ps (length-parents us ∙ long ∙ len) (subst Q (sym same) small)) in
+          record {
+            lower = e;
+            far = ap (λ f. f.relation) (far-inner i (suc level) b us vs (lines_of way level ps) h same lines);
+            near =
+                ap (λ xs. (near_at i (child_lines (suc level) (w + sum xs) xs vs (lines_of way level xs))).relation) (sym same)
+                ∙ ap (λ f. f.relation) (near-inner i (suc level) b us vs (lines_of way level ps) h same lines);
+            found = find-flat_map (is_either us vs) (λ x. is_same_pos x ps) (λ xs. kids (w + sum xs) xs) (cells axes w level) ps (first_of e us vs)
+                (λ z out. kids-out (w + sum z) z us vs out (ap (λ xs. is_same_pos z xs) (sym same) ∙ out))
+                up (first-kids i b us vs ps h refl same);
+          }
+      | inr side ↦
+          let above = first-is axes way level i ps qs (length-parents vs ∙ len) small side in
+          let v = above.lower in
+          let root = first_of v ps qs in
+          record {
+            lower = v;
+            far = ap (λ f. f.relation) (far-edge i (suc level) (w + sum ps) us vs (lines_of way level ps) h side lines) ∙ above.far;
+            near = ap (λ f. f.relation) (near-edge i (suc level) (w + sum qs) us vs (lines_of way level qs) h side lines') ∙ above.near;
+            found = find-flat_map (is_either us vs) (is_either ps qs) (λ xs. kids (w + sum xs) xs) (cells axes w level) root (first_of v us vs)
+                (λ z out. let parts = or_parts (is_same_pos z ps) (is_same_pos z qs) out in kids-out (w + sum z) z us vs parts.0 parts.1)
+                above.found (first-edge (w + sum root) us vs v (beside-apart i ps qs side));
+          }
+    ]
