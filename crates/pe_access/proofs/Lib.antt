@@ -2,3 +2,4 @@ pub mod LineLaws
 pub mod FaceLaws
 pub mod RouteProofs
 pub mod OrderLaws
+pub mod HeldLaws

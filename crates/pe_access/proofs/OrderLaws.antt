@@ -48,7 +48,7 @@ turns_at b [] i = b
 turns_at b (c ∷ cs) zero = b + c / 3
 turns_at b (c ∷ cs) (suc i) = turns_at (b + c % 3) cs i
 
-abbrev first_of : Bool → List ℕ → List ℕ → List ℕ
+abbrev pub first_of : Bool → List ℕ → List ℕ → List ℕ
 first_of true us vs = us
 first_of false us vs = vs
 
@@ -103,7 +103,7 @@ same_pos (x ∷ xs) (y ∷ ys) h =
     let tail : xs ≡ ys = same_pos xs ys both.1 in
     cc
 
-is_same_pos-refl : (xs : List ℕ) → is_same_pos xs xs ≡ true
+pub is_same_pos-refl : (xs : List ℕ) → is_same_pos xs xs ≡ true
 is_same_pos-refl [] = refl
 is_same_pos-refl (x ∷ xs) = ap (λ v. v && is_same_pos xs xs) (eq-eqb x x refl) ∙ is_same_pos-refl xs
 
@@ -323,7 +323,7 @@ kids-out b ps us vs h k =
     find-none (is_either us vs) (kids b ps)
     (All-weaker (λ cs. parents cs ≡ ps) (λ cs. is_either us vs cs ≡ false) (λ cs e. or_from (is_same_pos cs us) (is_same_pos cs vs) (other-child ps cs us e h) (other-child ps cs vs e k)) (kids b ps) (kids-parents b ps))
 
-beside-apart : (i : ℕ) (us vs : List ℕ) → Beside i us vs → us ≡ vs → ⊥
+pub beside-apart : (i : ℕ) (us vs : List ℕ) → Beside i us vs → us ≡ vs → ⊥
 beside-apart zero [] vs h e = absurd h
 beside-apart (suc i) [] vs h e = absurd h
 beside-apart zero (u ∷ us) [] h e = absurd h
@@ -331,7 +331,7 @@ beside-apart (suc i) (u ∷ us) [] h e = absurd h
 beside-apart zero (u ∷ us) (v ∷ vs) h e = let up : v ≡ u + 1 = h.0 in let same : u ≡ v = cc in omega arith
 beside-apart (suc i) (u ∷ us) (v ∷ vs) h e = beside-apart i us vs h.1 (cc)
 
-not-same : (xs ys : List ℕ) → (xs ≡ ys → ⊥) → is_same_pos xs ys ≡ false
+pub not-same : (xs ys : List ℕ) → (xs ≡ ys → ⊥) → is_same_pos xs ys ≡ false
 not-same xs ys h = elim (cases_Bool (is_same_pos xs ys)) [ inl t ↦ absurd (h (same_pos xs ys t)) | inr t ↦ t ]
 
 -- among the children of one of two cells side by side only its own of the two children is found
