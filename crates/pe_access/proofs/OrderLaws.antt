@@ -303,7 +303,7 @@ find-none {X} test (x ∷ xs) all =
     let Out : X → Type 0 = λ x. test x ≡ false in
     ap (λ v. if v then Some x else find test xs) (All-head Out x xs all) ∙ find-none test xs (All-tail Out x xs all)
 
-find-same : {X : Type 0} (f g : X → Bool) (xs : List X) → All (λ x. f x ≡ g x) xs → find f xs ≡ find g xs
+pub find-same : {X : Type 0} (f g : X → Bool) (xs : List X) → All (λ x. f x ≡ g x) xs → find f xs ≡ find g xs
 find-same f g [] all = refl
 find-same {X} f g (x ∷ xs) all =
     let Same : X → Type 0 = λ x. f x ≡ g x in
