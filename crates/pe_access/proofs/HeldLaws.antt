@@ -1,9 +1,9 @@
 -- What a cell state holds of each axis is what the order of the walk says of the cell.
-use Rattle.std.proofs.Common.{◌≡◌, ℕ, zero, suc, ◌+◌, ◌-◌, ◌*◌, ◌/◌, ◌%◌, ◌^◌, ◌<◌, ◌≤◌, Bool, true, false, ◌&&◌, ◌||◌, List, [], ◌∷◌, ◌++◌, map, take, set, length, Option, Some, None, sym, ap, ◌∙◌, subst, refl, inl, inr, ◌⊎◌, arith, pow-suc}
-use Rattle.std.specs.Prelude.{◌==◌, if◌then◌else◌, find, sum, slice_index, slice_get, slice_set, replicate, not, All}
+use Rattle.std.proofs.Common.{◌≡◌, ℕ, zero, suc, ◌+◌, ◌-◌, ◌*◌, ◌/◌, ◌%◌, ◌^◌, ◌<◌, ◌≤◌, Bool, true, false, ◌&&◌, ◌||◌, List, [], ◌∷◌, ◌++◌, map, take, set, length, Option, Some, None, sym, ap, ◌∙◌, subst, refl, inl, inr, arith, pow-suc}
+use Rattle.std.specs.Prelude.{◌==◌, if◌then◌else◌, find, sum, slice_index, slice_get, slice_set, replicate, not}
 use Rattle.std.specs.List.{range_with_len}
 use Rattle.std.specs.Option.{option_map}
-use Rattle.std.proofs.lemmas.Bool.{or_cases, or_parts, or_right, or_from, and_parts, eqb-true, eqb-false, eq-eqb, ne_eqb, false≢true, cases_lt, cases_Bool}
+use Rattle.std.proofs.lemmas.Bool.{or_right, or_from, eqb-true, eqb-false, eq-eqb, ne_eqb, cases_lt, cases_Bool}
 use Rattle.std.proofs.lemmas.List.{get_or-map, length-set}
 use Rattle.std.proofs.lemmas.List.Elements.{All-weaker}
 use Rattle.pe_base.specs.declared.place.Place.{Place}
@@ -12,18 +12,17 @@ use Rattle.pe_base.specs.Places.{IsCellPlace, padded, at}
 use Rattle.pe_base.specs.Curve.{order}
 use Rattle.pe_base.specs.Around.{threes}
 use Rattle.pe_base.specs.Routes.{way_turns, is_same, is_same_pos}
-use Rattle.pe_base.specs.Faces.{plane_of, neighbour, is_place, comes_first, face_level}
-use Rattle.pe_base.proofs.RouteLaws.{Below, Below-front, length-front, padded-front, at-front}
+use Rattle.pe_base.specs.Faces.{is_place}
+use Rattle.pe_base.proofs.RouteLaws.{Below, Below-front, length-front, at-front}
 use Rattle.pe_base.proofs.Spans.{parents}
 use Rattle.pe_base.proofs.Levels.{cells}
 use Rattle.pe_base.proofs.Rounds.{order-cells, cells-long}
 use Rattle.pe_base.proofs.SlowerLaws.{times, count-tally, threes-times}
-use Rattle.pe_base.proofs.StackLaws.{Below-parents, length-parents}
+use Rattle.pe_base.proofs.StackLaws.{length-parents}
 use Rattle.pe_access.specs.declared.face.Face.{Face}
-use Rattle.pe_access.specs.declared.face.Relation.{Relation}
 use Rattle.pe_access.specs.declared.face.Relation.TheVariants.{Earlier, Later, Outside}
 use Rattle.pe_access.specs.declared.line.Line.{Line}
-use Rattle.pe_access.specs.Lines.{bit_of, root_line, root_face, child_line, near_face, far_face}
+use Rattle.pe_access.specs.Lines.{bit_of, root_line, root_face, near_face, far_face}
 use Rattle.pe_access.specs.Faces.{relation_to, face_of, line_of}
 use Rattle.pe_access.specs.States.{child_lines, lines_of}
 use Rattle.pe_access.proofs.LineLaws.{length-lines_of, lines_of-odd}
@@ -188,12 +187,12 @@ first-place axes level way us vs c few e f found =
     ap (find (λ p. is_same p (at level us) || is_same p (at level vs))) (order-cells axes level way few)
     ∙ find-map (λ p. is_same p (at level us) || is_same p (at level vs)) (at level) (cells axes w level)
     ∙ ap (option_map (at level))
-        (find-same (λ x. is_same (at level x) (at level us) || is_same (at level x) (at level vs)) (is_either us vs) (cells axes w level)
-            (All-weaker (λ x. length x ≡ axes) (λ x. (is_same (at level x) (at level us) || is_same (at level x) (at level vs)) ≡ is_either us vs x) (λ x long.
-                let one = same-at level x us (long ∙ sym e) in
-                let other = same-at level x vs (long ∙ sym f) in
-                cc) (cells axes w level) (cells-long axes w level))
-            ∙ found)
+    (find-same (λ x. is_same (at level x) (at level us) || is_same (at level x) (at level vs)) (is_either us vs) (cells axes w level)
+    (All-weaker (λ x. length x ≡ axes) (λ x. (is_same (at level x) (at level us) || is_same (at level x) (at level vs)) ≡ is_either us vs x) (λ x long.
+    let one = same-at level x us (long ∙ sym e) in
+    let other = same-at level x vs (long ∙ sym f) in
+    cc) (cells axes w level) (cells-long axes w level))
+    ∙ found)
 
 lower-first : (v : Bool) (us vs : List ℕ) → (us ≡ vs → ⊥) → is_same_pos (first_of v us vs) us ≡ v
 lower-first true us vs h = is_same_pos-refl us
@@ -209,9 +208,9 @@ length-first false us vs n e f = f
 
 either-swap : (us vs x : List ℕ) → is_either us vs x ≡ is_either vs us x
 either-swap us vs x = elim (is_same_pos x us) as (λ v. (v || is_same_pos x vs) ≡ (is_same_pos x vs || v)) [
-    | true ↦ elim (is_same_pos x vs) as (λ w. true ≡ (w || true)) [ true ↦ refl | false ↦ refl ]
-    | false ↦ elim (is_same_pos x vs) as (λ w. w ≡ (w || false)) [ true ↦ refl | false ↦ refl ]
-  ]
+  | true ↦ elim (is_same_pos x vs) as (λ w. true ≡ (w || true)) [ true ↦ refl | false ↦ refl ]
+  | false ↦ elim (is_same_pos x vs) as (λ w. w ≡ (w || false)) [ true ↦ refl | false ↦ refl ]
+]
 
 -- when the neighbour at the near end comes
 near-relation : (axes level i : ℕ) (way : Way) (us vs : List ℕ) → axes ≤ 4 → length us ≡ axes → length vs ≡ axes → Beside i us vs → First axes way level i us vs → relation_to axes way (at level vs) (Some (at level us)) ≡ (near_at i (lines_of way level vs)).relation
@@ -341,6 +340,6 @@ held axes way cell axis few place within =
     let far = sym (far-face axes level axis way cs few long below within) in
     subst P (sym (at-front axes (3 ^ level) cell few place.pos))
     (ap (λ xs. slice_get xs axis) parts.is ∙ line-at axis lines parts.tail (omega arith)
-        ∙ ap (λ o. Some (let l : Line = record { odd = o; near = near_at axis lines; far = far_at axis lines } in l)) odd
-        ∙ ap (λ f. Some (let l : Line = record { odd = slice_index (padded cs) axis % 2 == 1; near = f; far = far_at axis lines } in l)) near
-        ∙ ap (λ f. Some (let l : Line = record { odd = slice_index (padded cs) axis % 2 == 1; near = face_of axes way (at level cs) axis 0; far = f } in l)) far)
+    ∙ ap (λ o. Some (let l : Line = record { odd = o; near = near_at axis lines; far = far_at axis lines } in l)) odd
+    ∙ ap (λ f. Some (let l : Line = record { odd = slice_index (padded cs) axis % 2 == 1; near = f; far = far_at axis lines } in l)) near
+    ∙ ap (λ f. Some (let l : Line = record { odd = slice_index (padded cs) axis % 2 == 1; near = face_of axes way (at level cs) axis 0; far = f } in l)) far)

@@ -1,9 +1,9 @@
 -- The faces of a cell in the order of the walk: of two cells that share a face, which one comes first.
-use Rattle.std.proofs.Common.{◌≡◌, ℕ, zero, suc, ◌+◌, ◌-◌, ◌*◌, ◌/◌, ◌%◌, ◌^◌, ◌<◌, ◌≤◌, Bool, true, false, ◌&&◌, ◌||◌, List, [], ◌∷◌, ◌++◌, map, length, Option, Some, None, sym, ap, ◌∙◌, subst, refl, inl, inr, ◌⊎◌, arith, pow-suc}
-use Rattle.std.specs.Prelude.{◌==◌, if◌then◌else◌, find, sum, slice_index, All}
+use Rattle.std.proofs.Common.{◌≡◌, ℕ, zero, suc, ◌+◌, ◌-◌, ◌*◌, ◌/◌, ◌%◌, ◌^◌, ◌<◌, Bool, true, false, ◌&&◌, ◌||◌, List, [], ◌∷◌, ◌++◌, map, length, Some, None, sym, ap, ◌∙◌, subst, refl, inl, inr, ◌⊎◌, arith, pow-suc}
+use Rattle.std.specs.Prelude.{◌==◌, if◌then◌else◌, find, sum, All}
 use Rattle.std.specs.List.{flat_map}
 use Rattle.std.specs.Option.{option_map, option_or}
-use Rattle.std.proofs.lemmas.Bool.{or_cases, or_parts, or_from, and_parts, and_left, and_right, eqb-true, eqb-false, eq-eqb, ne_eqb, false≢true, cases_lt, cases_Bool}
+use Rattle.std.proofs.lemmas.Bool.{or_parts, or_from, and_parts, and_left, eqb-true, eq-eqb, ne_eqb, false≢true, cases_lt, cases_Bool}
 use Rattle.std.proofs.lemmas.List.Elements.{All-head, All-tail, All-nil, All-cons, All-append, All-map, All-weaker}
 use Rattle.std.proofs.lemmas.List.Folds.{find-append}
 use Rattle.pe_base.specs.declared.way.Way.{Way}
@@ -14,10 +14,9 @@ use Rattle.pe_base.proofs.Spans.{is_even, parents}
 use Rattle.pe_base.proofs.Levels.{kids, cells}
 use Rattle.pe_base.proofs.StackLaws.{Member, Member-cells, Below-parents, length-parents}
 use Rattle.pe_access.specs.declared.face.Face.{Face}
-use Rattle.pe_access.specs.declared.face.Relation.{Relation}
-use Rattle.pe_access.specs.declared.face.Relation.TheVariants.{Earlier, Later, Outside}
+use Rattle.pe_access.specs.declared.face.Relation.TheVariants.{Earlier, Later}
 use Rattle.pe_access.specs.declared.line.Line.{Line}
-use Rattle.pe_access.specs.Lines.{root_line, root_face, child_line, near_face, far_face}
+use Rattle.pe_access.specs.Lines.{root_face, near_face, far_face}
 use Rattle.pe_access.specs.States.{child_lines, lines_of}
 use Rattle.pe_access.proofs.LineLaws.{length-lines_of}
 
@@ -137,8 +136,8 @@ find-kids b (u ∷ us) (p ∷ ps) e =
     find-parts test (λ t. map (λ cs. child t ∷ cs) (kids (b + t) ps)) t (u ∷ us) at.0
     (λ k h. find-nothing test (child k) (kids (b + k) ps) (λ cs. ap (λ v. v && is_same_pos cs us) (ne_eqb (child k) u (digit-only (b + p) p u k head h))))
     (find-under test (λ x. is_same_pos x us) (child t) (kids (b + t) ps) (λ cs. ap (λ v. v && is_same_pos cs us) (eq-eqb (child t) u at.1))
-        ∙ ap (option_map (λ cs. child t ∷ cs)) (find-kids (b + t) us ps rest)
-        ∙ ap (λ (c : ℕ). Some (c ∷ us)) at.1)
+    ∙ ap (option_map (λ cs. child t ∷ cs)) (find-kids (b + t) us ps rest)
+    ∙ ap (λ (c : ℕ). Some (c ∷ us)) at.1)
 
 -- of two children beside each other on the first axis
 first-zero : (v : Bool) (b p u w : ℕ) (us vs ps : List ℕ) → u / 3 ≡ p → u % 3 < 2 → w ≡ u + 1 → us ≡ vs → ps ≡ parents us → let block = λ (t : ℕ). map (λ cs. (3 * p + (if v then t else (2 - t))) ∷ cs) (kids (b + t) ps) in find (is_either (u ∷ us) (w ∷ vs)) (block 0 ++ (block 1 ++ (block 2 ++ []))) ≡ Some (first_of v (u ∷ us) (w ∷ vs))
@@ -148,10 +147,10 @@ first-zero true b p u w us vs ps e h up same par =
     find-parts test (λ t. map (λ cs. (3 * p + t) ∷ cs) (kids (b + t) ps)) (u % 3) (u ∷ us) (omega arith)
     (λ k less. find-nothing test (3 * p + k) (kids (b + k) ps) (λ cs. or_from _ _ (and_left (3 * p + k == u) (is_same_pos cs us) (ne_eqb (3 * p + k) u (λ q. omega arith))) (and_left (3 * p + k == w) (is_same_pos cs vs) (ne_eqb (3 * p + k) w (λ q. omega arith)))))
     (find-under test (λ cs. is_same_pos cs us) (3 * p + u % 3) (kids (b + u % 3) ps) (λ cs.
-            ap (λ v. (v && is_same_pos cs us) || (3 * p + u % 3 == w && is_same_pos cs vs)) (eq-eqb (3 * p + u % 3) u here)
-            ∙ ap (λ v. is_same_pos cs us || (v && is_same_pos cs vs)) (ne_eqb (3 * p + u % 3) w (λ q. omega arith)) ∙ or_none (is_same_pos cs us))
-        ∙ ap (option_map (λ cs. (3 * p + u % 3) ∷ cs)) (find-kids (b + u % 3) us ps par)
-        ∙ ap (λ (c : ℕ). Some (c ∷ us)) here)
+    ap (λ v. (v && is_same_pos cs us) || (3 * p + u % 3 == w && is_same_pos cs vs)) (eq-eqb (3 * p + u % 3) u here)
+    ∙ ap (λ v. is_same_pos cs us || (v && is_same_pos cs vs)) (ne_eqb (3 * p + u % 3) w (λ q. omega arith)) ∙ or_none (is_same_pos cs us))
+    ∙ ap (option_map (λ cs. (3 * p + u % 3) ∷ cs)) (find-kids (b + u % 3) us ps par)
+    ∙ ap (λ (c : ℕ). Some (c ∷ us)) here)
 first-zero false b p u w us vs ps e h up same par =
     let test = is_either (u ∷ us) (w ∷ vs) in
     let t = 2 - w % 3 in
@@ -159,10 +158,10 @@ first-zero false b p u w us vs ps e h up same par =
     find-parts test (λ t. map (λ cs. (3 * p + (2 - t)) ∷ cs) (kids (b + t) ps)) t (w ∷ vs) (omega arith)
     (λ k less. find-nothing test (3 * p + (2 - k)) (kids (b + k) ps) (λ cs. or_from _ _ (and_left (3 * p + (2 - k) == u) (is_same_pos cs us) (ne_eqb (3 * p + (2 - k)) u (λ q. omega arith))) (and_left (3 * p + (2 - k) == w) (is_same_pos cs vs) (ne_eqb (3 * p + (2 - k)) w (λ q. omega arith)))))
     (find-under test (λ cs. is_same_pos cs vs) (3 * p + (2 - t)) (kids (b + t) ps) (λ cs.
-            ap (λ v. (v && is_same_pos cs us) || (3 * p + (2 - t) == w && is_same_pos cs vs)) (ne_eqb (3 * p + (2 - t)) u (λ q. omega arith))
-            ∙ ap (λ v. v && is_same_pos cs vs) (eq-eqb (3 * p + (2 - t)) w here))
-        ∙ ap (option_map (λ cs. (3 * p + (2 - t)) ∷ cs)) (find-kids (b + t) vs ps (par ∙ ap parents same))
-        ∙ ap (λ (c : ℕ). Some (c ∷ vs)) here)
+    ap (λ v. (v && is_same_pos cs us) || (3 * p + (2 - t) == w && is_same_pos cs vs)) (ne_eqb (3 * p + (2 - t)) u (λ q. omega arith))
+    ∙ ap (λ v. v && is_same_pos cs vs) (eq-eqb (3 * p + (2 - t)) w here))
+    ∙ ap (option_map (λ cs. (3 * p + (2 - t)) ∷ cs)) (find-kids (b + t) vs ps (par ∙ ap parents same))
+    ∙ ap (λ (c : ℕ). Some (c ∷ vs)) here)
 
 turns_at-parity : (a b : ℕ) (cs : List ℕ) (i : ℕ) → a % 2 ≡ b % 2 → turns_at a cs i % 2 ≡ turns_at b cs i % 2
 turns_at-parity a b [] i e = e
@@ -201,14 +200,14 @@ first-kids (suc i) b (u ∷ us) (v ∷ vs) (p ∷ ps) h e f =
     let turn : is_even (turns_at (b + t) us i) ≡ even = ap (λ (r : ℕ). r == 0) (turns_at-parity (b + t) (b + u % 3) us i parity) in
     find-parts test (λ t. map (λ cs. child t ∷ cs) (kids (b + t) ps)) t (u ∷ first_of even us vs) at.0
     (λ k less.
-        let off : child k ≡ u → ⊥ = digit-only (b + p) p u k head less in
-        find-nothing test (child k) (kids (b + k) ps) (λ cs. or_from _ _ (and_left (child k == u) (is_same_pos cs us) (ne_eqb (child k) u off)) (and_left (child k == v) (is_same_pos cs vs) (ne_eqb (child k) v (λ q. off (q ∙ sym same))))))
+    let off : child k ≡ u → ⊥ = digit-only (b + p) p u k head less in
+    find-nothing test (child k) (kids (b + k) ps) (λ cs. or_from _ _ (and_left (child k == u) (is_same_pos cs us) (ne_eqb (child k) u off)) (and_left (child k == v) (is_same_pos cs vs) (ne_eqb (child k) v (λ q. off (q ∙ sym same))))))
     (find-under test (is_either us vs) (child t) (kids (b + t) ps) (λ cs.
-            ap (λ w. (w && is_same_pos cs us) || (child t == v && is_same_pos cs vs)) (eq-eqb (child t) u at.1)
-            ∙ ap (λ w. is_same_pos cs us || (w && is_same_pos cs vs)) (eq-eqb (child t) v (at.1 ∙ same)))
-        ∙ ap (option_map (λ cs. child t ∷ cs)) (first-kids i (b + t) us vs ps h.1 rest pair)
-        ∙ ap (λ (c : ℕ). Some (c ∷ first_of (is_even (turns_at (b + t) us i)) us vs)) at.1
-        ∙ ap (λ w. Some (u ∷ first_of w us vs)) turn)
+    ap (λ w. (w && is_same_pos cs us) || (child t == v && is_same_pos cs vs)) (eq-eqb (child t) u at.1)
+    ∙ ap (λ w. is_same_pos cs us || (w && is_same_pos cs vs)) (eq-eqb (child t) v (at.1 ∙ same)))
+    ∙ ap (option_map (λ cs. child t ∷ cs)) (first-kids i (b + t) us vs ps h.1 rest pair)
+    ∙ ap (λ (c : ℕ). Some (c ∷ first_of (is_even (turns_at (b + t) us i)) us vs)) at.1
+    ∙ ap (λ w. Some (u ∷ first_of w us vs)) turn)
     ∙ ap Some (first_of-under even u us vs)
     ∙ ap (λ (c : ℕ). Some (first_of even (u ∷ us) (c ∷ vs))) same
 
@@ -293,8 +292,8 @@ kids-parents b (p ∷ ps) =
     let Of : List ℕ → Type 0 = λ cs. parents cs ≡ p ∷ ps in
     let child : ℕ → ℕ = λ t. 3 * p + mirrored (b + p) t in
     let part : (t : ℕ) → t < 3 → All Of (map (λ cs. child t ∷ cs) (kids (b + t) ps)) = λ t h.
-        let head : child t / 3 ≡ p = child-third p t (is_even (b + p)) h in
-        All-map Of (λ cs. child t ∷ cs) (kids (b + t) ps) (All-weaker (λ cs. parents cs ≡ ps) (λ cs. parents (child t ∷ cs) ≡ p ∷ ps) (λ cs e. cc) (kids (b + t) ps) (kids-parents (b + t) ps)) in
+    let head : child t / 3 ≡ p = child-third p t (is_even (b + p)) h in
+    All-map Of (λ cs. child t ∷ cs) (kids (b + t) ps) (All-weaker (λ cs. parents cs ≡ ps) (λ cs. parents (child t ∷ cs) ≡ p ∷ ps) (λ cs e. cc) (kids (b + t) ps) (kids-parents (b + t) ps)) in
     All-append Of _ _ (part 0 (omega arith)) (All-append Of _ _ (part 1 (omega arith)) (All-append Of _ _ (part 2 (omega arith)) (All-nil Of)))
 
 find-none : {X : Type 0} (test : X → Bool) (xs : List X) → All (λ x. test x ≡ false) xs → find test xs ≡ None
@@ -312,11 +311,11 @@ find-same {X} f g (x ∷ xs) all =
 -- a child of another cell is not this one
 other-child : (ps cs us : List ℕ) → parents cs ≡ ps → is_same_pos ps (parents us) ≡ false → is_same_pos cs us ≡ false
 other-child ps cs us e h = elim (cases_Bool (is_same_pos cs us)) [
-    | inl t ↦
-        let same : ps ≡ parents us = sym e ∙ ap parents (same_pos cs us t) in
-        absurd (false≢true (sym h ∙ ap (λ xs. is_same_pos ps xs) (sym same) ∙ is_same_pos-refl ps))
-    | inr t ↦ t
-  ]
+  | inl t ↦
+      let same : ps ≡ parents us = sym e ∙ ap parents (same_pos cs us t) in
+      absurd (false≢true (sym h ∙ ap (λ xs. is_same_pos ps xs) (sym same) ∙ is_same_pos-refl ps))
+  | inr t ↦ t
+]
 
 kids-out : (b : ℕ) (ps us vs : List ℕ) → is_same_pos ps (parents us) ≡ false → is_same_pos ps (parents vs) ≡ false → find (is_either us vs) (kids b ps) ≡ None
 kids-out b ps us vs h k =
