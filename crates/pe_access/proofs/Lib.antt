@@ -1,3 +1,5 @@
 pub mod LineLaws
 pub mod FaceLaws
 pub mod RouteProofs
+pub mod OrderLaws
+pub mod HeldLaws

@@ -28,11 +28,11 @@ use Rattle.pe_access.proofs.LineLaws.{length-lines_of, lines_of-odd}
 use Rattle.pe_access.proofs.FaceLaws.{Sees, pick, marks, choice_of, fastest-pick, pick-entry}
 
 -- axes that the grid does not have: no neighbour at the near end
-Idle : List Line → Type 0
+pub Idle : List Line → Type 0
 Idle [] = Unit
 Idle (line ∷ lines) = (line.near ≡ root_face) × Idle lines
 
-record Split (way : Way) (level n : ℕ) (cs : List ℕ) : Type 0 where
+pub record Split (way : Way) (level n : ℕ) (cs : List ℕ) : Type 0 where
   pub tail : List Line
   pub idle : Idle tail
   pub is : lines_of way level (cs ++ replicate n 0) ≡ lines_of way level cs ++ tail
@@ -67,7 +67,7 @@ cut level turns (p ∷ ps) (x ∷ xs) us vs (line ∷ lines) more e f =
     let rest = cut level (turns + x % 3) ps xs us vs lines more (omega arith) (omega arith) in
     record { after = rest.after; is = ap (λ ls. child_line level (turns + p) (x % 3) line ∷ ls) rest.is }
 
-split : (way : Way) (level n : ℕ) (cs : List ℕ) → Split way level n cs
+pub split : (way : Way) (level n : ℕ) (cs : List ℕ) → Split way level n cs
 split way zero n cs = record { tail = map {A = ℕ} (λ x. root_line) (replicate n 0); idle = root-idle n; is = map-append (λ x. root_line) cs (replicate n 0) }
 split way (suc level) n cs =
     let ps = parents cs in
@@ -154,7 +154,7 @@ moved-fits (c ∷ cs) (b ∷ bs) e h =
     ] in
     ap (λ v. v && fits_all (spots (moved cs bs)) cs) here ∙ moved-fits cs bs (omega arith) h.1
 
-index-padded : (qs : List ℕ) (n i : ℕ) → slice_index (qs ++ replicate n 0) i ≡ slice_index qs i
+pub index-padded : (qs : List ℕ) (n i : ℕ) → slice_index (qs ++ replicate n 0) i ≡ slice_index qs i
 index-padded [] zero i = refl
 index-padded [] (suc n) zero = refl
 index-padded [] (suc n) (suc i) = index-padded [] n i

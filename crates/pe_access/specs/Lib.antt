@@ -1,3 +1,4 @@
 -- The definitions of cell states.
 pub mod Lines
+pub mod Faces
 pub mod States

@@ -12,7 +12,7 @@ mod rows;
 mod state;
 
 pub use face::{Face, Relation};
-pub use laws::order_around;
+pub use laws::{faces_of_states, order_around};
 pub use line::Line;
 pub use route::Route;
 pub use state::CellState;

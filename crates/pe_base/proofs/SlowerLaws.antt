@@ -131,7 +131,7 @@ slow-slowers (suc level) i ss on strict =
           ∙ sym (old-slowers level 0 i (times_at level i above) ss) ∙ ap (λ d. slowers (suc level) 0 i d ss) (sym (times_at-old level i ss e on))
     ]
 
-count-tally : {X : Type 0} (p : X → Bool) (xs : List X) → count_by p xs ≡ tally p xs
+pub count-tally : {X : Type 0} (p : X → Bool) (xs : List X) → count_by p xs ≡ tally p xs
 count-tally p [] = refl
 count-tally p (x ∷ xs) = sum_by-cons (λ x. one (p x)) x xs ∙ ap (λ n. one (p x) + n) (count-tally p xs)
 
@@ -171,7 +171,7 @@ divided-none q k zero h = refl
 divided-none q k (suc level) h = ap (λ v. one v + tally (λ n. q % 3 ^ n == 0) (range_with_len (k + 1 + 1) level)) (not-divided q k h) ∙ omega (arith, divided-none q (k + 1) level h)
 
 -- a plane goes on as often as 3 divides its coordinate
-threes-times : (level q : ℕ) → tally (λ n. q % 3 ^ n == 0) (range_with_len 1 level) ≡ times level (record { x = q; on = true })
+pub threes-times : (level q : ℕ) → tally (λ n. q % 3 ^ n == 0) (range_with_len 1 level) ≡ times level (record { x = q; on = true })
 threes-times zero q = refl
 threes-times (suc level) q =
     let total : Bool → Type 0 = λ v. tally (λ n. q % 3 ^ n == 0) (range_with_len 1 (suc level)) ≡ (if v then suc (times level (record { x = q / 3; on = v })) else 0) in

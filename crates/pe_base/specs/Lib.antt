@@ -5,6 +5,7 @@ pub mod Ways
 pub mod Curve
 pub mod Around
 pub mod Routes
+pub mod Neighbours
 pub mod Faces
 pub mod States
 pub mod Kinds
