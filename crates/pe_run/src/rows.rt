@@ -63,6 +63,7 @@ fn words_of(alloc: Global, words: &[&str]) -> Result<Vec<String>, AllocError> {
 }
 
 // The depots of a run: ten stacks of vertices, and two of cells.
+#[derive(Drop)]
 struct Depots {
     vertices: VecDepot<Vertex<Fields>>,
     cells: VecDepot<CellRec<Fields>>,
@@ -200,7 +201,7 @@ fn vertex_events(rt: HostRuntime) -> Result<(), Fail> {
         ),
         plain(
             b"dim = 2\ntraversals = 2\ntrace = [\"touch_vertex_first_time\", \"touch_vertex_last_time\"]\n",
-            "touch_vertex_first_time 1 1 1\n",
+            "touch_vertex_first_time 1 1 1\ntouch_vertex_first_time 1 1 2\ntouch_vertex_first_time 1 2 2\ntouch_vertex_first_time 1 2 1\ntouch_vertex_last_time 1 1 2\ntouch_vertex_last_time 1 1 1\ntouch_vertex_last_time 1 2 1\ntouch_vertex_last_time 1 2 2\ntraversal 1 forward cells 9 in 0 out 4 created 4 destroyed 0 hanging 20\ntouch_vertex_first_time 1 2 2\ntouch_vertex_first_time 1 2 1\ntouch_vertex_first_time 1 1 1\ntouch_vertex_first_time 1 1 2\ntouch_vertex_last_time 1 2 1\ntouch_vertex_last_time 1 2 2\ntouch_vertex_last_time 1 1 2\ntouch_vertex_last_time 1 1 1\ntraversal 2 inverted cells 9 in 4 out 4 created 0 destroyed 0 hanging 20\ndone\n",
             0,
         ),
     ];
