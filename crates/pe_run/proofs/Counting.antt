@@ -25,18 +25,18 @@ count_none p f (x ∷ xs) none = omega (arith, count_by-append p (f x) (flat_map
 pub count_cons : {X : Type 0} (p : X → Bool) (x : X) (xs : List X) → count_by p (x ∷ xs) ≡ cond (p x) 1 0 + count_by p xs
 count_cons p x xs = omega (arith, count_by-append p (x ∷ []) xs)
 
-none_here : {X : Type 0} (p : X → Bool) (x : X) → p x ≡ false → count_by p (x ∷ []) ≡ 0
+pub none_here : {X : Type 0} (p : X → Bool) (x : X) → p x ≡ false → count_by p (x ∷ []) ≡ 0
 none_here p x absent = ap (λ b. 0 + cond b 1 0) absent
 
-none_mapped : (p : Op → Bool) (f : ℕ → Op) (ss : List ℕ) → ((s : ℕ) → p (f s) ≡ false) → count_by p (map f ss) ≡ 0
+pub none_mapped : (p : Op → Bool) (f : ℕ → Op) (ss : List ℕ) → ((s : ℕ) → p (f s) ≡ false) → count_by p (map f ss) ≡ 0
 none_mapped p f [] none = refl
 none_mapped p f (s ∷ ss) none = omega (arith, count_by-append p (f s ∷ []) (map f ss), none_here p (f s) (none s), none_mapped p f ss none)
 
 -- a load, by its cases
-abbrev loads_by : Bool → Bool → Bool → ℕ → List ℕ → List Op
+abbrev pub loads_by : Bool → Bool → Bool → ℕ → List ℕ → List Op
 loads_by inside first born input ss = cond inside (cond first (cond born (lends ∷ []) (pops input ∷ [])) (map pops ss)) (lends ∷ [])
 
-abbrev stores_by : Bool → Bool → ℕ → List ℕ → List Op
+abbrev pub stores_by : Bool → Bool → ℕ → List ℕ → List Op
 stores_by inside last output ss = cond inside (cond last (pushes output ∷ []) (map pushes ss)) (gives_up ∷ [])
 
 none_loaded : (p : Op → Bool) → p lends ≡ false → ((s : ℕ) → p (pops s) ≡ false) → (inside first born : Bool) (input : ℕ) (ss : List ℕ) → count_by p (loads_by inside first born input ss) ≡ 0
@@ -63,7 +63,7 @@ pub none_repeated : (p : Op → Bool) (op : Op) (n : ℕ) → p op ≡ false →
 none_repeated p op zero absent = refl
 none_repeated p op (suc n) absent = omega (arith, count_by-append p (op ∷ []) (replicate n op), none_here p op absent, none_repeated p op n absent)
 
-one_here : {X : Type 0} (p : X → Bool) (x : X) → p x ≡ true → count_by p (x ∷ []) ≡ 1
+pub one_here : {X : Type 0} (p : X → Bool) (x : X) → p x ≡ true → count_by p (x ∷ []) ≡ 1
 one_here p x present = ap (λ b. 0 + cond b 1 0) present
 
 pub all_repeated : (p : Op → Bool) (op : Op) (n : ℕ) → p op ≡ true → count_by p (replicate n op) ≡ n

@@ -16,3 +16,9 @@ pub mod CellParts
 pub mod Counting
 pub mod TallyLines
 pub mod Children
+pub mod RangeCounts
+pub mod Boundary
+pub mod CornerCounts
+pub mod StackFlows
+pub mod Mirrored
+pub mod Tallying
