@@ -8,12 +8,12 @@ use Rattle.pe_base.specs.declared.way.Way.{Way}
 use Rattle.pe_base.specs.Places.{root, corner, moved, bits}
 use Rattle.pe_base.specs.Curve.{digit_lists, children, order}
 use Rattle.pe_base.specs.Kinds.{is_inside}
-use Rattle.pe_base.specs.Faces.{Face, Touch, Turn, Turns, face_on, is_on, loads, stores, corner_touches, comes_across, goes_across, at_face, arriving, leaving, in_corners, out_corners, child_turns, corner_turn}
+use Rattle.pe_base.specs.Faces.{Face, Touch, Turn, TurnsApart, face_on, is_on, loads, stores, corner_touches, comes_across, goes_across, at_face, arriving, leaving, in_corners, out_corners, child_turns, corner_turn}
 use Rattle.pe_base.proofs.Lists.{Each, Each-weaker, Each-append, Each-map, Each-all, Each-flat_map, Each-reverse, filter_none}
 use Rattle.pe_base.proofs.Mirrors.{Digits3, digit_lists_below}
 use Rattle.pe_base.proofs.Children.{child_of, children_are}
 use Rattle.pe_base.proofs.Ranks.{child_four}
-use Rattle.pe_base.proofs.Blocks.{Turns-append}
+use Rattle.pe_base.proofs.Blocks.{TurnsApart-append}
 use Rattle.pe_base.proofs.Composition.{composes}
 use Rattle.pe_run.proofs.RangeCounts.{eqb-eq}
 
@@ -96,21 +96,21 @@ empty_end : {X : Type 0} (xs ys : List X) → xs ++ ys ≡ [] → ys ≡ []
 empty_end [] ys is = is
 empty_end (x ∷ xs) ys is = cc
 
-Turns-front : (xs ys : List Turn) (a c : List Place) → Turns (xs ++ ys) a c → (b : List Place) × Turns xs a b × Turns ys b c
-Turns-front [] ys a c turns = (a, refl, turns)
-Turns-front (x ∷ xs) ys a c turns =
-    let rest = Turns-front xs ys (x.gives ++ turns.0) c turns.3 in
+TurnsApart-front : (xs ys : List Turn) (a c : List Place) → TurnsApart (xs ++ ys) a c → (b : List Place) × TurnsApart xs a b × TurnsApart ys b c
+TurnsApart-front [] ys a c turns = (a, refl, turns)
+TurnsApart-front (x ∷ xs) ys a c turns =
+    let rest = TurnsApart-front xs ys (x.gives ++ turns.0) c turns.3 in
     (rest.0, (turns.0, turns.1, turns.2, rest.1), rest.2)
 
 -- so the children of the root begin with nothing on a stack, and leave nothing there
-pub children_turns : (axes : ℕ) (way : Way) (axis parity : ℕ) → axis < axes → axes ≤ 4 → Turns (child_turns axes way (is_inside axes) 1 axis parity root) [] []
+pub children_turns : (axes : ℕ) (way : Way) (axis parity : ℕ) → axis < axes → axes ≤ 4 → TurnsApart (child_turns axes way (is_inside axes) 1 axis parity root) [] []
 children_turns axes way axis parity a four =
     let side = (slice_index root.pos axis + parity) % 2 in
     let own = corner_turn axes way root [] (out_corners axes way (is_inside axes) (face_on axis parity root) root) in
     let turns = composes axes way (is_inside axes) 1 axis parity root four a refl (inl refl) [] refl in
     let before : turns.0 ≡ [] = empty_end (in_corners axes way (is_inside axes) (face_on axis parity root) root) turns.0 (sym turns.1 ∙ ap (λ x. x ++ []) (nothing_arrives axes way axis side a four (omega arith))) in
-    let parts = Turns-front (child_turns axes way (is_inside axes) 1 axis parity root) (own ∷ []) turns.0 _ turns.3 in
+    let parts = TurnsApart-front (child_turns axes way (is_inside axes) 1 axis parity root) (own ∷ []) turns.0 _ turns.3 in
     let last = parts.2 in
     let after : parts.0 ≡ [] = last.1 ∙ empty_end (out_corners axes way (is_inside axes) (face_on axis parity root) root) last.0 (last.3 ∙ ap (λ x. x ++ []) (nothing_leaves axes way axis side a four (omega arith))) in
-    subst (λ x. Turns (child_turns axes way (is_inside axes) 1 axis parity root) x []) before
-    (subst (λ x. Turns (child_turns axes way (is_inside axes) 1 axis parity root) turns.0 x) after parts.1)
+    subst (λ x. TurnsApart (child_turns axes way (is_inside axes) 1 axis parity root) x []) before
+    (subst (λ x. TurnsApart (child_turns axes way (is_inside axes) 1 axis parity root) turns.0 x) after parts.1)

@@ -17,7 +17,7 @@ use Rattle.pe_base.specs.Kinds.{is_inside}
 use Rattle.pe_base.proofs.Lists.{Each, Each-weaker}
 use Rattle.pe_stacks.specs.Grid.{input_stack}
 use Rattle.pe_run.specs.Crossed.{crossed, comes_by, goes_by, hanging_corners}
-use Rattle.pe_run.proofs.Totals.{passes, comes_crossed, goes_crossed, OneEach, one_each, is_entry, is_exit, entries, exits, outside_hang}
+use Rattle.pe_run.proofs.CrossingTotals.{passes, comes_crossed, goes_crossed, OneEach, one_each, is_entry, is_exit, entries, exits, outside_hang}
 use Rattle.pe_run.specs.declared.walk.traversal.Traversal.{Traversal}
 use Rattle.pe_run.specs.LevelOne.{is_first, is_last}
 use Rattle.pe_run.specs.Traffic.{Op, lends, gives_up, pushes, pops, is_lend, is_give_up, is_push_on, is_pop_from, takes_out, puts_back}

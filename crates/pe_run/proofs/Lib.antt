@@ -3,7 +3,7 @@ pub mod ScenarioLemmas
 pub mod WalkSteps
 pub mod LevelOneWalk
 pub mod Sums
-pub mod Totals
+pub mod CrossingTotals
 pub mod Crossings
 pub mod Routed
 pub mod FiredTexts

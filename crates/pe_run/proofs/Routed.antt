@@ -26,7 +26,7 @@ use Rattle.pe_walk.proofs.Steps.{zeros_behind}
 use Rattle.pe_walk.proofs.Trees.{place_is_cell, zeros_read}
 use Rattle.pe_run.specs.Crossed.{comes_by, goes_by}
 use Rattle.pe_run.specs.Walked.{stacks_of, is_stream}
-use Rattle.pe_run.proofs.Totals.{list_all-below, list_all-Each}
+use Rattle.pe_run.proofs.CrossingTotals.{list_all-below, list_all-Each}
 
 -- the stacks by which a vertex comes to a cell, and those by which it goes
 abbrev pub all_to : ℕ → Way → Place → Place → List ℕ

@@ -8,7 +8,7 @@ use Rattle.pe_base.specs.Places.{corner, root}
 use Rattle.pe_base.specs.Curve.{children}
 use Rattle.pe_base.specs.Kinds.{is_inside}
 use Rattle.pe_base.specs.Ways.{way_of}
-use Rattle.pe_base.specs.Faces.{Turn, Turns, face_on, child_turn, in_corners, out_corners}
+use Rattle.pe_base.specs.Faces.{Turn, TurnsApart, face_on, child_turn, in_corners, out_corners}
 use Rattle.pe_run.specs.declared.walk.traversal.Traversal.{Traversal}
 use Rattle.pe_run.specs.LevelOne.{is_first, is_last}
 use Rattle.pe_run.specs.Traffic.{Op, lends, gives_up, pushes, pops, is_push_on, is_pop_from}
@@ -25,7 +25,7 @@ module _ (t : Traversal) (s : ℕ) (below : s < 2 * t.dim) (four : t.dim ≤ 4) 
   turn cell = child_turn t.dim (way_of t.number) (is_inside t.dim) 0 (s / 2) (s % 2) cell
 
   -- turns that fit together are vertices that lie there
-  flows_turns : (cells before after : List Place) → Turns (map turn cells) before after → Flows t s cells (length before)
+  flows_turns : (cells before after : List Place) → TurnsApart (map turn cells) before after → Flows t s cells (length before)
   flows_turns [] before after turns = tt
   flows_turns (cell ∷ cells) before after turns =
       let takes = in_corners t.dim (way_of t.number) (is_inside t.dim) (face_on (s / 2) (s % 2) cell) cell in
@@ -33,7 +33,7 @@ module _ (t : Traversal) (s : ℕ) (below : s < 2 * t.dim) (four : t.dim ≤ 4) 
       let more : length (gives ++ turns.0) ≡ count_by (is_push_on s) (vertex_ops t cell) + length turns.0 = omega (arith, length-append gives turns.0, gives_count t cell s below four) in
       (length turns.0, omega (arith, ap length turns.1, length-append takes turns.0, takes_count t cell s below four), subst (Flows t s cells) more (flows_turns cells (gives ++ turns.0) after turns.3))
 
-  balanced_turns : (cells before after : List Place) → Turns (map turn cells) before after
+  balanced_turns : (cells before after : List Place) → TurnsApart (map turn cells) before after
       → count_by (is_pop_from s) (flat_map (vertex_ops t) cells) + length after ≡ count_by (is_push_on s) (flat_map (vertex_ops t) cells) + length before
   balanced_turns [] before after turns = omega (arith, ap length turns)
   balanced_turns (cell ∷ cells) before after turns =
