@@ -5,4 +5,5 @@
 mod cells;
 mod grid;
 mod lists;
+mod tests;
 mod touches;
