@@ -1,5 +1,5 @@
 -- One turn of the loops that compute the definitions.
-use Rattle.std.proofs.Common.{◌≡◌, ℕ, zero, suc, ◌+◌, ◌-◌, ◌^◌, ◌<◌, ◌≤◌, Bool, false, ◌||◌, List, [], ◌∷◌, ◌++◌, length, take, drop, get_or, reverse, refl, sym, ap, ◌∙◌, arith, add-one}
+use Rattle.std.proofs.Common.{◌≡◌, ℕ, zero, suc, ◌+◌, ◌-◌, ◌^◌, ◌<◌, ◌≤◌, Bool, false, ◌||◌, List, [], ◌∷◌, ◌++◌, length, take, drop, get_or, reverse, refl, ap, ◌∙◌, arith}
 use Rattle.std.specs.Prelude.{slice_get, Some}
 use Rattle.std.specs.List.{flat_map, list_any}
 use Rattle.std.proofs.Math.Nat.{pow-le-pow_right}
@@ -9,7 +9,7 @@ use Rattle.pe_base.specs.declared.place.Place.{Place}
 use Rattle.pe_base.specs.declared.way.Way.{Way}
 use Rattle.pe_base.specs.Curve.{children}
 use Rattle.pe_base.specs.Around.{steps}
-use Rattle.pe_base.specs.Faces.{Touch, corner_touches, loads, stores}
+use Rattle.pe_base.specs.Faces.{corner_touches, loads, stores}
 use Rattle.pe_base.proofs.CurveLaws.{length-children}
 
 -- the steps from an item on begin with the step to the next

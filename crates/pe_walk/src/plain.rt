@@ -5,5 +5,6 @@
 mod cells;
 mod grid;
 mod lists;
+mod setting;
 mod tests;
 mod touches;

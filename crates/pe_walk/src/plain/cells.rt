@@ -6,9 +6,9 @@ ghost use Rattle.pe_base.specs.Curve.{children, order};
 ghost use Rattle.pe_base.specs.Around.{is_corner_pos, is_corner, around, steps};
 ghost use Rattle.pe_base.specs.Faces.{is_same, is_step};
 
-use pe_base::{Dim, Place, Way};
+use super::setting::Setting;
+use pe_base::{Dim, Place};
 use pe_curve::child;
-use std::alloc::Global;
 use std::test::Fail;
 
 const ROOT: Place = Place {
@@ -35,44 +35,39 @@ fn expect_cell(dim: Dim, place: &Place) -> Result<(), Fail>
 }
 
 /// The children of a cell, in the order of the walk.
-pub(super) fn children(
-    alloc: Global,
-    dim: Dim,
-    way: Way,
-    cell: &Place,
-) -> Result<Vec<Place>, Fail>
-    ensures { IfOk result (λ v. v.items ≡ children dim way cell.now) }
+pub(super) fn children(setting: &Setting, cell: &Place) -> Result<Vec<Place>, Fail>
+    ensures { IfOk result (λ v. v.items ≡ children setting.now.dim setting.now.way cell.now) }
 {
-    expect_cell(dim, cell)?;
+    expect_cell(setting.dim, cell)?;
     if cell.level == 20 {
         return Err(Fail::new("no children below level 20"));
     }
-    let mut out = Vec::new(alloc);
-    for n in 0..dim.parts() {
-        out.push(child(dim, cell, way, n))?;
+    let mut out = Vec::new(setting.alloc);
+    for n in 0..setting.dim.parts() {
+        out.push(child(setting.dim, cell, setting.way, n))?;
     }
     Ok(out)
 }
 
 // The children of some cells.
-fn refined(alloc: Global, dim: Dim, way: Way, cells: &[Place]) -> Result<Vec<Place>, Fail>
-    ensures { IfOk result (λ v. v.items ≡ flat_map (children dim way) cells.now) }
+fn refined(setting: &Setting, cells: &[Place]) -> Result<Vec<Place>, Fail>
+    ensures { IfOk result (λ v. v.items ≡ flat_map (children setting.now.dim setting.now.way) cells.now) }
 {
-    let mut out = Vec::new(alloc);
+    let mut out = Vec::new(setting.alloc);
     for cell in cells {
-        let mut below = children(alloc, dim, way, cell)?;
+        let mut below = children(setting, cell)?;
         out.append(&mut below)?;
     }
     Ok(out)
 }
 
 /// All cells of a level, in the order of the walk.
-pub(super) fn order(alloc: Global, dim: Dim, way: Way, level: u8) -> Result<Vec<Place>, Fail>
-    ensures { IfOk result (λ v. v.items ≡ order dim way level) }
+pub(super) fn order(setting: &Setting, level: u8) -> Result<Vec<Place>, Fail>
+    ensures { IfOk result (λ v. v.items ≡ order setting.now.dim setting.now.way level) }
 {
-    let mut cells = vec![in alloc; ROOT]?;
+    let mut cells = vec![in setting.alloc; ROOT]?;
     for depth in 0..level {
-        cells = refined(alloc, dim, way, &cells)?;
+        cells = refined(setting, &cells)?;
     }
     Ok(cells)
 }
@@ -98,16 +93,11 @@ fn is_end(q: u64, p: u64) -> bool
 }
 
 /// The cells around a vertex, in the order of the walk.
-pub(super) fn around(
-    alloc: Global,
-    dim: Dim,
-    way: Way,
-    vertex: &Place,
-) -> Result<Vec<Place>, Fail>
-    ensures { IfOk result (λ v. v.items ≡ around dim way vertex.now) }
+pub(super) fn around(setting: &Setting, vertex: &Place) -> Result<Vec<Place>, Fail>
+    ensures { IfOk result (λ v. v.items ≡ around setting.now.dim setting.now.way vertex.now) }
 {
-    let mut out = Vec::new(alloc);
-    for cell in &order(alloc, dim, way, vertex.level)? {
+    let mut out = Vec::new(setting.alloc);
+    for cell in &order(setting, vertex.level)? {
         if is_corner(vertex, cell) {
             out.push(*cell)?;
         }
@@ -142,15 +132,8 @@ fn has_step(cells: &[Place], a: &Place, b: &Place) -> bool
 }
 
 /// Whether around a vertex a cell is followed by another.
-pub(super) fn is_step(
-    alloc: Global,
-    dim: Dim,
-    way: Way,
-    vertex: &Place,
-    a: &Place,
-    b: &Place,
-) -> Result<bool, Fail>
-    ensures { IfOk result (λ found. found ≡ is_step dim way vertex.now a.now b.now) }
+pub(super) fn is_step(setting: &Setting, vertex: &Place, a: &Place, b: &Place) -> Result<bool, Fail>
+    ensures { IfOk result (λ found. found ≡ is_step setting.now.dim setting.now.way vertex.now a.now b.now) }
 {
-    Ok(has_step(&around(alloc, dim, way, vertex)?, a, b))
+    Ok(has_step(&around(setting, vertex)?, a, b))
 }

@@ -1,13 +1,13 @@
 //! The lists of a face: what arrives in a cell there, and what the cell leaves.
-ghost use Rattle.std.specs.Prelude.{◌≡◌, ◌<◌, ◌+◌, ◌&&◌, ℕ, IfOk, slice_index};
+ghost use Rattle.std.specs.Prelude.{◌≡◌, ◌<◌, ◌+◌, ◌/◌, ◌%◌, ◌&&◌, ℕ, IfOk, slice_index};
 ghost use Rattle.pe_base.specs.Faces.{beside, across, plane, in_finest, is_on, face_on, comes_across, goes_across, arriving, leaving};
 ghost use Rattle.pe_walk.specs.Laws.{facing};
 
 use super::cells::is_step;
 use super::grid::Grid;
+use super::setting::Setting;
 use super::touches::{Touch, loads, stores};
-use pe_base::{Dim, Place, Way};
-use std::alloc::Global;
+use pe_base::Place;
 use std::marker::Model;
 use std::test::Fail;
 
@@ -30,12 +30,13 @@ impl Model for Face {
 }
 
 impl Face {
-    /// The face of a cell on the stack of an axis and a parity.
-    pub(super) fn on(axis: usize, parity: u64, cell: &Place) -> Face
-        requires axis { axis < 4 }
-        requires parity { parity < 2 }
-        ensures { result ≡ face_on axis parity cell.now }
+    /// The face of a cell on a stack: two for each axis, of even and of odd planes.
+    pub(super) fn on(stack: u8, cell: &Place) -> Face
+        requires { stack < 8 }
+        ensures { result ≡ face_on (stack / 2) (stack % 2) cell.now }
     {
+        let axis = (stack / 2) as usize;
+        let parity = (stack % 2) as u64;
         Face {
             axis,
             side: (cell.pos[axis] % 2 + parity) % 2,
@@ -119,76 +120,68 @@ fn is_on(finest: u8, face: &Face, cell: &Place, vertex: &Place) -> Result<bool, 
 
 // Whether a vertex that counts comes to a cell across a face of it.
 fn comes_across<G: Grid>(
-    alloc: Global,
-    dim: Dim,
-    way: Way,
+    setting: &Setting,
     grid: &G,
     face: &Face,
     touch: &Touch,
 ) -> Result<bool, Fail>
-    ensures { IfOk result (λ comes. comes ≡ comes_across dim way G.counts face.now touch.now) }
+    ensures { IfOk result (λ comes. comes ≡ comes_across setting.now.dim setting.now.way G.counts face.now touch.now) }
 {
     if !grid.counts(touch.vertex()) {
         return Ok(false);
     }
     let before = face.across(touch.cell())?;
-    is_step(alloc, dim, way, touch.vertex(), &before, touch.cell())
+    is_step(setting, touch.vertex(), &before, touch.cell())
 }
 
 // Whether a vertex that counts goes from a cell across a face of it.
 fn goes_across<G: Grid>(
-    alloc: Global,
-    dim: Dim,
-    way: Way,
+    setting: &Setting,
     grid: &G,
     face: &Face,
     touch: &Touch,
 ) -> Result<bool, Fail>
-    ensures { IfOk result (λ goes. goes ≡ goes_across dim way G.counts face.now touch.now) }
+    ensures { IfOk result (λ goes. goes ≡ goes_across setting.now.dim setting.now.way G.counts face.now touch.now) }
 {
     if !grid.counts(touch.vertex()) {
         return Ok(false);
     }
     let behind = face.across(touch.cell())?;
-    is_step(alloc, dim, way, touch.vertex(), touch.cell(), &behind)
+    is_step(setting, touch.vertex(), touch.cell(), &behind)
 }
 
 // Whether the touch of a vertex is among those that arrive in a cell at a face.
 fn arrives<G: Grid>(
-    alloc: Global,
-    dim: Dim,
-    way: Way,
+    setting: &Setting,
     grid: &G,
     finest: u8,
     face: &Face,
     cell: &Place,
     touch: &Touch,
 ) -> Result<bool, Fail>
-    ensures { IfOk result (λ arrives. arrives ≡ (is_on finest face.now cell.now touch.now.vertex && comes_across dim way G.counts face.now touch.now)) }
+    ensures { IfOk result (λ arrives. arrives ≡ (is_on finest face.now cell.now touch.now.vertex && comes_across setting.now.dim setting.now.way G.counts face.now touch.now)) }
 {
     if !is_on(finest, face, cell, touch.vertex())? {
         return Ok(false);
     }
-    comes_across(alloc, dim, way, grid, face, touch)
+    comes_across(setting, grid, face, touch)
 }
 
 // Whether the touch of a vertex is among those that a cell leaves at a face.
 fn leaves<G: Grid>(
-    alloc: Global,
-    dim: Dim,
-    way: Way,
+    setting: &Setting,
     grid: &G,
     finest: u8,
     face: &Face,
     cell: &Place,
     touch: &Touch,
 ) -> Result<bool, Fail>
-    ensures { IfOk result (λ leaves. leaves ≡ (is_on finest face.now cell.now touch.now.vertex && goes_across dim way G.counts face.now touch.now)) }
+    ensures { IfOk result (λ leaves. leaves ≡ (is_on finest face.now cell.now touch.now.vertex && goes_across setting.now.dim setting.now.way G.counts face.now touch.now)) }
 {
     if !is_on(finest, face, cell, touch.vertex())? {
         return Ok(false);
     }
-    goes_across(alloc, dim, way, grid, face, touch)
+    goes_across(setting, grid, face, touch)
 }
 
 // The level at the bottom of some levels.
@@ -203,21 +196,19 @@ fn finest(cell: &Place, levels: u8) -> Result<u8, Fail>
 
 /// The vertices that the walk of a cell takes over at a face, in the order of their loads.
 pub(super) fn arriving<G: Grid>(
-    alloc: Global,
-    dim: Dim,
-    way: Way,
+    setting: &Setting,
     grid: &G,
     levels: u8,
     face: &Face,
     cell: &Place,
 ) -> Result<Vec<Place>, Fail>
-    ensures { IfOk result (λ v. v.items ≡ arriving dim way G.counts levels face.now cell.now) }
+    ensures { IfOk result (λ v. v.items ≡ arriving setting.now.dim setting.now.way G.counts levels face.now cell.now) }
 {
     let finest = finest(cell, levels)?;
-    let touches = loads(alloc, dim, way, levels, cell)?;
-    let mut out = Vec::new(alloc);
+    let touches = loads(setting, levels, cell)?;
+    let mut out = Vec::new(setting.alloc);
     for touch in &touches {
-        if arrives(alloc, dim, way, grid, finest, face, cell, touch)? {
+        if arrives(setting, grid, finest, face, cell, touch)? {
             out.push(*touch.vertex())?;
         }
     }
@@ -226,22 +217,20 @@ pub(super) fn arriving<G: Grid>(
 
 /// The vertices that the walk of a cell leaves at a face, the last one stored first.
 pub(super) fn leaving<G: Grid>(
-    alloc: Global,
-    dim: Dim,
-    way: Way,
+    setting: &Setting,
     grid: &G,
     levels: u8,
     face: &Face,
     cell: &Place,
 ) -> Result<Vec<Place>, Fail>
-    ensures { IfOk result (λ v. v.items ≡ leaving dim way G.counts levels face.now cell.now) }
+    ensures { IfOk result (λ v. v.items ≡ leaving setting.now.dim setting.now.way G.counts levels face.now cell.now) }
 {
     let finest = finest(cell, levels)?;
-    let mut touches = stores(alloc, dim, way, levels, cell)?;
+    let mut touches = stores(setting, levels, cell)?;
     touches.reverse();
-    let mut out = Vec::new(alloc);
+    let mut out = Vec::new(setting.alloc);
     for touch in &touches {
-        if leaves(alloc, dim, way, grid, finest, face, cell, touch)? {
+        if leaves(setting, grid, finest, face, cell, touch)? {
             out.push(*touch.vertex())?;
         }
     }

@@ -4,8 +4,8 @@ ghost use Rattle.pe_base.specs.Places.{bits, moved, corner};
 ghost use Rattle.pe_base.specs.Faces.{corner_touches, loads, stores};
 
 use super::cells::children;
-use pe_base::{Dim, Place, Way};
-use std::alloc::Global;
+use super::setting::Setting;
+use pe_base::{Dim, Place};
 use std::marker::Model;
 use std::test::Fail;
 
@@ -85,56 +85,44 @@ fn corner(dim: Dim, cell: &Place, k: u8) -> Result<Place, Fail>
 }
 
 // The corners of a cell, in ascending number.
-fn corner_touches(alloc: Global, dim: Dim, cell: &Place) -> Result<Vec<Touch>, Fail>
-    ensures { IfOk result (λ v. v.items ≡ corner_touches dim cell.now) }
+fn corner_touches(setting: &Setting, cell: &Place) -> Result<Vec<Touch>, Fail>
+    ensures { IfOk result (λ v. v.items ≡ corner_touches setting.now.dim cell.now) }
 {
-    let mut out = Vec::new(alloc);
-    for k in 0..dim.corners() {
-        let vertex = corner(dim, cell, k)?;
+    let mut out = Vec::new(setting.alloc);
+    for k in 0..setting.dim.corners() {
+        let vertex = corner(setting.dim, cell, k)?;
         out.push(Touch::new(vertex, *cell))?;
     }
     Ok(out)
 }
 
 /// The loads of the walk of a cell, some levels deep.
-pub(super) fn loads(
-    alloc: Global,
-    dim: Dim,
-    way: Way,
-    levels: u8,
-    cell: &Place,
-) -> Result<Vec<Touch>, Fail>
-    ensures { IfOk result (λ v. v.items ≡ loads dim way levels cell.now) }
+pub(super) fn loads(setting: &Setting, levels: u8, cell: &Place) -> Result<Vec<Touch>, Fail>
+    ensures { IfOk result (λ v. v.items ≡ loads setting.now.dim setting.now.way levels cell.now) }
 {
-    let mut out = corner_touches(alloc, dim, cell)?;
+    let mut out = corner_touches(setting, cell)?;
     out.reverse();
     if levels == 0 {
         return Ok(out);
     }
-    for child in &children(alloc, dim, way, cell)? {
-        let mut below = loads(alloc, dim, way, levels - 1, child)?;
+    for child in &children(setting, cell)? {
+        let mut below = loads(setting, levels - 1, child)?;
         out.append(&mut below)?;
     }
     Ok(out)
 }
 
 /// The stores of the walk of a cell, some levels deep.
-pub(super) fn stores(
-    alloc: Global,
-    dim: Dim,
-    way: Way,
-    levels: u8,
-    cell: &Place,
-) -> Result<Vec<Touch>, Fail>
-    ensures { IfOk result (λ v. v.items ≡ stores dim way levels cell.now) }
+pub(super) fn stores(setting: &Setting, levels: u8, cell: &Place) -> Result<Vec<Touch>, Fail>
+    ensures { IfOk result (λ v. v.items ≡ stores setting.now.dim setting.now.way levels cell.now) }
 {
-    let mut own = corner_touches(alloc, dim, cell)?;
+    let mut own = corner_touches(setting, cell)?;
     if levels == 0 {
         return Ok(own);
     }
-    let mut out = Vec::new(alloc);
-    for child in &children(alloc, dim, way, cell)? {
-        let mut below = stores(alloc, dim, way, levels - 1, child)?;
+    let mut out = Vec::new(setting.alloc);
+    for child in &children(setting, cell)? {
+        let mut below = stores(setting, levels - 1, child)?;
         out.append(&mut below)?;
     }
     out.append(&mut own)?;

@@ -8,7 +8,7 @@ pub loop-n-preserved : goal.loop-n-preserved
 loop-n-preserved c =
     c.in_ok-push.ensures.items
     ∙ ap (λ (xs : List Place). xs ++ c.child.result ∷ []) c.loop-n.invariant
-    ∙ sym (child_more c.args.dim c.args.way c.args.cell.now c.child.result c.loop-n.n c.child.ensures.child)
+    ∙ sym (child_more c.args.setting.now.dim c.args.setting.now.way c.args.cell.now c.child.result c.loop-n.n c.child.ensures.child)
 
 pub returns : goal.returns
-returns c = c.loop-n.invariant ∙ child_all c.args.dim c.args.way c.args.cell.now c.loop-n.n (omega arith)
+returns c = c.loop-n.invariant ∙ child_all c.args.setting.now.dim c.args.setting.now.way c.args.cell.now c.loop-n.n (omega arith)

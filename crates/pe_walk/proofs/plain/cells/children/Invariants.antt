@@ -4,4 +4,4 @@ use Rattle.pe_base.specs.Curve.{children}
 use Rattle.pe_walk.proofs.plain.cells.children.Given as goal
 
 abbrev pub invariant-loop-n : goal.invariant-loop-n
-invariant-loop-n l = l.out.items ≡ take l.n (children l.dim l.way l.cell)
+invariant-loop-n l = l.out.items ≡ take l.n (children l.setting.dim l.setting.way l.cell)

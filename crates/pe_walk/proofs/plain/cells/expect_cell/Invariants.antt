@@ -1,5 +1,5 @@
 -- The positions so far are below their bounds.
-use Rattle.std.proofs.Common.{ℕ, ◌<◌, ◌^◌, nat_lt, slice_index, if◌then◌else◌}
+use Rattle.std.proofs.Common.{ℕ, ◌<◌, nat_lt, slice_index, if◌then◌else◌}
 use Rattle.pe_walk.proofs.plain.cells.expect_cell.Given as goal
 
 abbrev pub invariant-loop-axis : goal.invariant-loop-axis

@@ -5,4 +5,4 @@ use Rattle.pe_base.specs.Curve.{children}
 use Rattle.pe_walk.proofs.plain.cells.refined.Given as goal
 
 abbrev pub invariant-loop-cell : goal.invariant-loop-cell
-invariant-loop-cell l = l.out.items ≡ flat_map (children l.dim l.way) (take l.cell-index l.cells)
+invariant-loop-cell l = l.out.items ≡ flat_map (children l.setting.dim l.setting.way) (take l.cell-index l.cells)

@@ -1,5 +1,5 @@
 -- The loads of all children follow the cell's own.
-use Rattle.std.proofs.Common.{◌≡◌, ◌-◌, ◌<◌, List, ◌++◌, reverse, ap, ◌∙◌, sym, arith}
+use Rattle.std.proofs.Common.{◌-◌, ◌<◌, List, ◌++◌, reverse, ap, ◌∙◌, sym, arith}
 use Rattle.std.specs.List.{flat_map}
 use Rattle.std.proofs.lemmas.List.{take_all}
 use Rattle.pe_base.specs.declared.place.Place.{Place}
@@ -12,6 +12,6 @@ returns t c =
     let cells : List Place = c.deref-child-items.result.now in
     let below : 0 < c.args.levels = omega arith in
     c.loop-child.invariant
-    ∙ ap (λ (ps : List Place). reverse (corner_touches c.args.dim c.args.cell.now) ++ flat_map (loads c.args.dim c.args.way (c.args.levels - 1)) ps)
+    ∙ ap (λ (ps : List Place). reverse (corner_touches c.args.setting.now.dim c.args.cell.now) ++ flat_map (loads c.args.setting.now.dim c.args.setting.now.way (c.args.levels - 1)) ps)
     (take_all c.loop-child.child-index cells (omega arith) ∙ c.deref-child-items.ensures.value ∙ c.in_ok-children.ensures)
-    ∙ sym (loads_more c.args.dim c.args.way c.args.levels c.args.cell.now below)
+    ∙ sym (loads_more c.args.setting.now.dim c.args.setting.now.way c.args.levels c.args.cell.now below)

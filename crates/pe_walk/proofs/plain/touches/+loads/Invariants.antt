@@ -8,4 +8,4 @@ abbrev pub decreases-loads : goal.decreases-loads
 decreases-loads l = l.levels
 
 abbrev pub invariant-loop-child : goal.invariant-loop-child
-invariant-loop-child l = l.out.items ≡ reverse (corner_touches l.dim l.cell) ++ flat_map (loads l.dim l.way (l.levels - 1)) (take l.child-index l.child-items)
+invariant-loop-child l = l.out.items ≡ reverse (corner_touches l.setting.dim l.cell) ++ flat_map (loads l.setting.dim l.setting.way (l.levels - 1)) (take l.child-index l.child-items)

@@ -8,4 +8,4 @@ abbrev pub decreases-stores : goal.decreases-stores
 decreases-stores l = l.levels
 
 abbrev pub invariant-loop-child : goal.invariant-loop-child
-invariant-loop-child l = l.out.items ≡ flat_map (stores l.dim l.way (l.levels - 1)) (take l.child-index l.child-items)
+invariant-loop-child l = l.out.items ≡ flat_map (stores l.setting.dim l.setting.way (l.levels - 1)) (take l.child-index l.child-items)

@@ -11,4 +11,4 @@ loop-k-preserved c =
     let touch : Place → Touch = λ vertex. record { vertex = vertex; cell = c.args.cell.now } in
     c.in_ok-push.ensures.items
     ∙ ap₂ (λ (ts : List Touch) (t : Touch). ts ++ t ∷ []) c.loop-k.invariant (c.new.ensures ∙ ap touch c.in_ok-vertex.ensures)
-    ∙ sym (map-range_with_len_more (λ (k : ℕ). touch (corner c.args.dim c.args.cell.now k)) 0 c.loop-k.k c.loop-k.k (omega arith))
+    ∙ sym (map-range_with_len_more (λ (k : ℕ). touch (corner c.args.setting.now.dim c.args.cell.now k)) 0 c.loop-k.k c.loop-k.k (omega arith))
