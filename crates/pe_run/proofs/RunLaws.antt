@@ -1,12 +1,11 @@
 -- Laws of the run.
-use Rattle.std.proofs.Common.{◌≡◌, ◌≢◌, ◌⊎◌, ℕ, ◌+◌, ◌<◌, ◌≤◌, Bool, true, false, List, [], length, replicate, Option, Some, None, IsSome, Result, Ok, Err, IsErr, refl, sym, ap, subst, ◌∙◌, inl, inr, rules, arith}
+use Rattle.std.proofs.Common.{◌≡◌, ◌≢◌, ◌⊎◌, ℕ, ◌+◌, ◌<◌, ◌≤◌, List, [], length, replicate, Option, Some, None, Result, Ok, Err, IsErr, refl, sym, ap, subst, ◌∙◌, inl, inr, rules, arith}
 use Rattle.std.proofs.lemmas.List.{length-replicate}
 use Rattle.std.proofs.lemmas.Bool.{lt-ltb}
 use Rattle.pe_io.specs.declared.shelf.Got.{Got}
 use Rattle.pe_io.specs.declared.shelf.Got.TheVariants.{Absent}
 use Rattle.pe_io.specs.declared.shelf.ShelfCall.TheVariants.{Get}
-use Rattle.pe_io.specs.Counts.{Rises}
-use Rattle.pe_io.specs.Sink.{Appends, AppendsPrefix}
+use Rattle.pe_io.specs.Sink.{AppendsPrefix}
 use Rattle.pe_io.specs.Shelf.{Contents, FailedCall, FailedAt, IsGot, IsLonger, WhereTold}
 use Rattle.pe_io.proofs.Appending.{AppendsPrefix-nothing}
 use Rattle.pe_run.specs.declared.status.Status.{Status}
@@ -14,8 +13,8 @@ use Rattle.pe_run.specs.declared.status.Status.TheVariants.{Done, NoJob, Refused
 use Rattle.pe_run.specs.declared.status.Stop.{Stop}
 use Rattle.pe_run.specs.declared.status.Stop.TheVariants.{Sink, Memory}
 use Rattle.pe_run.specs.Scenario.{too_long, scene_of, scenario_limit}
-use Rattle.pe_run.specs.Statuses.{code_of, ending_of}
-use Rattle.pe_run.specs.Run.{Ran, Step, scenario_step, no_job, no_scenario, run_scene, run_held, run_job, call_of, Holds, MayFail, Writes, Answers, IsRun}
+use Rattle.pe_run.specs.Statuses.{ending_of}
+use Rattle.pe_run.specs.Run.{Ran, Step, scenario_step, no_job, no_scenario, run_scene, run_held, run_job, Holds, MayFail, Writes, Answers, IsRun}
 use Rattle.pe_run.specs.Stages.{RunsTo}
 
 -- a stage that was stopped has written a part

@@ -1,5 +1,4 @@
-use Rattle.std.proofs.Common.{None, refl, sym}
-use Rattle.pe_run.specs.Run.{no_job}
+use Rattle.std.proofs.Common.{sym}
 use Rattle.pe_run.proofs.RunLaws.{IsRun-no_job}
 use Rattle.pe_run.proofs.run.run_words.Goals as goal
 

@@ -1,4 +1,4 @@
-use Rattle.std.proofs.Common.{◌≡◌, ap, sym, ◌∙◌, string_bytes}
+use Rattle.std.proofs.Common.{ap, ◌∙◌, string_bytes}
 use Rattle.std.specs.List.{list_all}
 use Rattle.pe_run.specs.Scenario.{is_known}
 use Rattle.pe_run.proofs.ScenarioLemmas.{all_known-entries}
