@@ -4,3 +4,4 @@ pub mod Steps
 pub mod Trees
 pub mod Stores
 pub mod Derived
+pub mod Computed

@@ -3,4 +3,6 @@
 
 pub mod laws;
 #[cfg(test)]
+mod plain;
+#[cfg(test)]
 mod rows;
