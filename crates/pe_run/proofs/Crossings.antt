@@ -259,7 +259,7 @@ traversal_pushes traversal s dim h = omega (arith, parts_count traversal (is_pus
 
 -- It reads each inside vertex from the input, but for the first traversal, and writes each to the output. Other streams
 -- are left alone.
-pub traversal_reads : (traversal : Traversal) (s : ℕ) → IsDim traversal.dim → 8 ≤ s
+pub traversal_reads : (traversal : Traversal) (s : ℕ) → IsDim traversal.dim → 2 * traversal.dim ≤ s
     → count_by (is_pop_from s) (traversal_vertex_ops traversal) ≡ (if input_of traversal == s && not (traversal.number == 1) then 2 ^ traversal.dim else 0)
 traversal_reads traversal s dim h =
     omega (arith, parts_count traversal (is_pop_from s), loads_count traversal (is_pop_from s) dim (λ j k. other_number j s (omega (arith, dim.1))), stores_none traversal (is_pop_from s) refl (λ j. refl), read (traversal.number == 1))
@@ -276,7 +276,7 @@ traversal_reads traversal s dim h =
     read true = born (input_of traversal == s)
     read false = stored (input_of traversal == s)
 
-pub traversal_writes : (traversal : Traversal) (s : ℕ) → IsDim traversal.dim → 8 ≤ s
+pub traversal_writes : (traversal : Traversal) (s : ℕ) → IsDim traversal.dim → 2 * traversal.dim ≤ s
     → count_by (is_push_on s) (traversal_vertex_ops traversal) ≡ (if output_of traversal == s then 2 ^ traversal.dim else 0)
 traversal_writes traversal s dim h =
     omega (arith, parts_count traversal (is_push_on s), stores_count traversal (is_push_on s) dim (λ j k. other_number j s (omega (arith, dim.1))), loads_none traversal (is_push_on s) refl (λ j. refl), times_one (output_of traversal == s) (2 ^ traversal.dim))

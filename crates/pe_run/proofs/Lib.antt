@@ -6,6 +6,7 @@ pub mod Sums
 pub mod CrossingTotals
 pub mod Crossings
 pub mod Routed
+pub mod RunTraffic
 pub mod FiredTexts
 pub mod TrafficLaws
 pub mod Places

@@ -1,0 +1,116 @@
+-- What a run does with the records of its depots, stack by stack: the traffic of its traversals.
+use Rattle.std.proofs.Common.{◌≡◌, ◌⊎◌, ℕ, ◌+◌, ◌*◌, ◌/◌, ◌%◌, ◌^◌, ◌<◌, ◌≤◌, Bool, true, false, not, ◌&&◌, ◌==◌, nat_lt, cond, List, [], ◌∷◌, ◌++◌, length, inl, inr, refl, sym, ap, ap₂, ◌∙◌, subst, arith}
+use Rattle.std.specs.Prelude.{count_by, if◌then◌else◌}
+use Rattle.std.specs.List.{sum_by}
+use Rattle.std.proofs.lemmas.Bool.{ltb-true, ltb-false, eqb-true, eq-eqb}
+use Rattle.std.proofs.lemmas.List.Sums.{sum_by-cons}
+use Rattle.pe_base.specs.Dim.{IsDim}
+use Rattle.pe_base.specs.Places.{root}
+use Rattle.pe_base.specs.Ways.{way_of}
+use Rattle.pe_base.specs.Curve.{children}
+use Rattle.pe_base.proofs.CurveLaws.{length-children}
+use Rattle.pe_run.specs.declared.walk.traversal.Traversal.{Traversal}
+use Rattle.pe_run.specs.Crossed.{crossed}
+use Rattle.pe_run.specs.Depots.{stream_of, is_odd, vertex_pushes, vertex_pops, cell_pushes, cell_pops}
+use Rattle.pe_run.specs.Traffic.{Op, lends, pushes, pops, is_push_on, is_pop_from}
+use Rattle.pe_run.specs.Walked.{input_of, output_of, cell_input_of, cell_output_of, cell_ops, traversal_vertex_ops, traversal_cell_ops}
+use Rattle.pe_run.proofs.Sums.{count-flat_map}
+use Rattle.pe_run.proofs.Crossings.{traversal_pops, traversal_pushes, traversal_reads, traversal_writes}
+
+-- the streams are exchanged before each even traversal
+abbrev pub Alternates : Traversal → Type 0
+Alternates traversal = traversal.swapped ≡ not (is_odd traversal.number)
+
+below_or : (s n : ℕ) → ((s < n) × (nat_lt s n ≡ true)) ⊎ ((n ≤ s) × (nat_lt s n ≡ false))
+below_or s n = go (nat_lt s n) refl
+  where
+    go : (b : Bool) → nat_lt s n ≡ b → ((s < n) × (nat_lt s n ≡ true)) ⊎ ((n ≤ s) × (nat_lt s n ≡ false))
+    go true e = inl (ltb-true s n e, e)
+    go false e = inr (ltb-false s n e, e)
+
+same_test : (a b : ℕ) → (a == b) ≡ (b == a)
+same_test a b = go (a == b) (b == a) refl refl
+  where
+    go : (x y : Bool) → (a == b) ≡ x → (b == a) ≡ y → x ≡ y
+    go true true e f = refl
+    go true false e f = sym (eq-eqb b a (sym (eqb-true a b e))) ∙ f
+    go false true e f = sym e ∙ eq-eqb a b (sym (eqb-true b a f))
+    go false false e f = refl
+
+-- the streams by the number of the traversal
+stream_is : (swapped odd : Bool) (high low : ℕ) → swapped ≡ not odd → (if not swapped then high else low) ≡ (if odd then high else low)
+stream_is true true high low e = ap (λ b. if b then low else high) e
+stream_is true false high low e = refl
+stream_is false true high low e = refl
+stream_is false false high low e = ap (λ b. if b then low else high) e
+
+other_is : (swapped odd : Bool) (high low : ℕ) → swapped ≡ not odd → (if swapped then high else low) ≡ (if odd then low else high)
+other_is true true high low e = ap (λ b. if b then high else low) e
+other_is true false high low e = refl
+other_is false true high low e = refl
+other_is false false high low e = ap (λ b. if b then high else low) e
+
+sum_constant : {X : Type 0} (n : ℕ) (xs : List X) → sum_by (λ x. n) xs ≡ length xs * n
+sum_constant n [] = omega arith
+sum_constant n (x ∷ xs) = sum_by-cons (λ y. n) x xs ∙ omega (arith, sum_constant n xs)
+
+-- what is done with each cell
+each_cell : (t : Traversal) (p : Op → Bool) → count_by p (traversal_cell_ops t) ≡ 3 ^ t.dim * count_by p (cell_ops t)
+each_cell t p =
+    let cells = children t.dim (way_of t.number) root in
+    count-flat_map p (λ cell. cell_ops t) cells ∙ sum_constant (count_by p (cell_ops t)) cells ∙ ap (λ n. n * count_by p (cell_ops t)) (length-children t.dim (way_of t.number) root)
+
+module _ (t : Traversal) (dim : IsDim t.dim) (alternates : Alternates t) where
+  pub pushes_are : (s : ℕ) → count_by (is_push_on s) (traversal_vertex_ops t) ≡ vertex_pushes t.dim s t.number
+  pushes_are s =
+      let apart = λ (b : Bool). if b then crossed t.dim (s / 2) (s % 2) else (if s == stream_of (is_odd t.number) 9 8 then 2 ^ t.dim else 0) in
+      elim (below_or s (2 * t.dim)) [
+        | inl below ↦ traversal_pushes t s dim below.0 ∙ sym (ap apart below.1)
+        | inr above ↦ traversal_writes t s dim above.0
+            ∙ ap (λ b. if b then 2 ^ t.dim else 0) (same_test (output_of t) s ∙ ap (λ x. s == x) (stream_is t.swapped (is_odd t.number) 9 8 alternates)) ∙ sym (ap apart above.1)
+      ]
+
+  pub pops_are : (s : ℕ) → count_by (is_pop_from s) (traversal_vertex_ops t) ≡ vertex_pops t.dim s t.number
+  pops_are s =
+      let apart = λ (b : Bool). if b then crossed t.dim (s / 2) (s % 2) else (if s == stream_of (is_odd t.number) 8 9 then (if t.number == 1 then 0 else (2 ^ t.dim)) else 0) in
+      elim (below_or s (2 * t.dim)) [
+        | inl below ↦ traversal_pops t s dim below.0 ∙ sym (ap apart below.1)
+        | inr above ↦ traversal_reads t s dim above.0
+            ∙ ap (λ b. if b && not (t.number == 1) then 2 ^ t.dim else 0) (same_test (input_of t) s ∙ ap (λ x. s == x) (other_is t.swapped (is_odd t.number) 9 8 alternates))
+            ∙ read (s == stream_of (is_odd t.number) 8 9) (t.number == 1) ∙ sym (ap apart above.1)
+      ]
+    where
+      read : (here first : Bool) → (if here && not first then 2 ^ t.dim else 0) ≡ (if here then (if first then 0 else (2 ^ t.dim)) else 0)
+      read true true = refl
+      read true false = refl
+      read false first = refl
+
+  pub cell_pushes_are : (s : ℕ) → count_by (is_push_on s) (traversal_cell_ops t) ≡ cell_pushes t.dim s t.number
+  cell_pushes_are s =
+      each_cell t (is_push_on s) ∙ one (t.number == 1)
+      ∙ ap (λ b. if b then 3 ^ t.dim else 0) (same_test (cell_output_of t) s ∙ ap (λ x. s == x) (stream_is t.swapped (is_odd t.number) 1 0 alternates))
+    where
+      times : (here : Bool) → 3 ^ t.dim * (0 + cond here 1 0) ≡ (if here then 3 ^ t.dim else 0)
+      times true = omega arith
+      times false = omega arith
+
+      one : (first : Bool) → 3 ^ t.dim * count_by (is_push_on s) ((if first then lends ∷ [] else (pops (cell_input_of t) ∷ [])) ++ pushes (cell_output_of t) ∷ []) ≡ (if cell_output_of t == s then 3 ^ t.dim else 0)
+      one true = times (cell_output_of t == s)
+      one false = times (cell_output_of t == s)
+
+  pub cell_pops_are : (s : ℕ) → count_by (is_pop_from s) (traversal_cell_ops t) ≡ cell_pops t.dim s t.number
+  cell_pops_are s =
+      each_cell t (is_pop_from s) ∙ one (t.number == 1)
+      ∙ ap (λ b. if b then (if t.number == 1 then 0 else (3 ^ t.dim)) else 0) (same_test (cell_input_of t) s ∙ ap (λ x. s == x) (other_is t.swapped (is_odd t.number) 1 0 alternates))
+    where
+      none : (here : Bool) → 3 ^ t.dim * 0 ≡ (if here then 0 else 0)
+      none true = omega arith
+      none false = omega arith
+
+      times : (here : Bool) → 3 ^ t.dim * (0 + cond here 1 0 + 0) ≡ (if here then 3 ^ t.dim else 0)
+      times true = omega arith
+      times false = omega arith
+
+      one : (first : Bool) → 3 ^ t.dim * count_by (is_pop_from s) ((if first then lends ∷ [] else (pops (cell_input_of t) ∷ [])) ++ pushes (cell_output_of t) ∷ []) ≡ (if cell_input_of t == s then (if first then 0 else (3 ^ t.dim)) else 0)
+      one true = none (cell_input_of t == s)
+      one false = times (cell_input_of t == s)
