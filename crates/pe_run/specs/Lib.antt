@@ -8,3 +8,4 @@ pub mod Traffic
 pub mod Walked
 pub mod Tallies
 pub mod Flows
+pub mod Ready
