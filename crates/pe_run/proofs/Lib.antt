@@ -23,3 +23,4 @@ pub mod CornerCounts
 pub mod StackFlows
 pub mod Mirrored
 pub mod Tallying
+pub mod Totals

@@ -13,3 +13,4 @@ pub mod Run
 pub mod Stages
 pub mod Tallies
 pub mod Flows
+pub mod Ready
