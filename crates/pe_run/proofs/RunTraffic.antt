@@ -114,3 +114,29 @@ module _ (t : Traversal) (dim : IsDim t.dim) (alternates : Alternates t) where
       one : (first : Bool) → 3 ^ t.dim * count_by (is_pop_from s) ((if first then lends ∷ [] else (pops (cell_input_of t) ∷ [])) ++ pushes (cell_output_of t) ∷ []) ≡ (if cell_input_of t == s then (if first then 0 else (3 ^ t.dim)) else 0)
       one true = none (cell_input_of t == s)
       one false = times (cell_input_of t == s)
+
+even_is : (n : ℕ) → (n % 2 == 0) ≡ not (n % 2 == 1)
+even_is n = elim (halves (n % 2) (omega arith)) [
+  | inl e ↦ ap (λ (r : ℕ). r == 0) e ∙ sym (ap (λ (r : ℕ). not (r == 1)) e)
+  | inr e ↦ ap (λ (r : ℕ). r == 0) e ∙ sym (ap (λ (r : ℕ). not (r == 1)) e)
+]
+  where
+    halves : (r : ℕ) → r < 2 → (r ≡ 0) ⊎ (r ≡ 1)
+    halves 0 h = inl refl
+    halves 1 h = inr refl
+    halves (suc (suc r)) h = absurd (omega arith)
+
+-- all traversals of a scenario
+in_traversals : {X : Type 0} (p : X → Bool) (ops : ℕ → List X) (f : ℕ → ℕ) → ((n : ℕ) → count_by p (ops n) ≡ f n) → (count : ℕ) → count_by p (flat_map ops (range_with_len 1 count)) ≡ in_all count f
+in_traversals p ops f each count = count-flat_map p ops (range_with_len 1 count) ∙ sum_by_same _ f each (range_with_len 1 count)
+
+nothing_counted : {X : Type 0} (count s : ℕ) → ((stack_at (new_holdings {X = X} count) s).pushes ≡ 0) × ((stack_at (new_holdings {X = X} count) s).pops ≡ 0)
+nothing_counted count s = ?
+
+pub has_traffic : {V C : Type 0} (scenario : Scenario) (start end : Holdings V) (cell_start cell_end : Holdings C) → IsDim scenario.dim → start ≡ new_holdings 10 → cell_start ≡ new_holdings 2
+    → DoesAll (vertex_traffic scenario) start end → DoesAll (cell_traffic scenario) cell_start cell_end
+    → end.most ≤ 2 * 2 ^ scenario.dim → cell_end.most ≤ 1 → HasTraffic scenario.dim scenario.traversals end cell_end
+has_traffic scenario start end cell_start cell_end dim new cell_new does cell_does most cell_most =
+    let counts = counted (vertex_traffic scenario) start end does in
+    let cell_counts = counted (cell_traffic scenario) cell_start cell_end cell_does in
+    ?

@@ -50,6 +50,7 @@ fn walk_scenario<K: Sink, DV: Depot<Vertex<Fields>>, DC: Depot<CellRec<Fields>>>
     vertices: &mut DV,
     cells: &mut DC,
 ) -> Result<(), Stop>
+    requires few { scenario.now.traversals ≤ 1000 }
     requires vertices { DV.holds vertices.old ≡ new_holdings 10 }
     requires cells { DC.holds cells.old ≡ new_holdings 2 }
     ensures ok { OnOk result (Appends (K.text sink.old) (traversals_text (traces scenario.now.trace) scenario.now.dim scenario.now.traversals) (K.text sink.new)) }
@@ -70,6 +71,7 @@ fn run_scenario<K: Sink, DV: Depot<Vertex<Fields>>, DC: Depot<CellRec<Fields>>>(
     vertices: &mut DV,
     cells: &mut DC,
 ) -> Result<Status, Stop>
+    requires few { scenario.now.traversals ≤ 1000 }
     requires vertices { DV.holds vertices.old ≡ new_holdings 10 }
     requires cells { DC.holds cells.old ≡ new_holdings 2 }
     ensures run { RunsTo (run_scene (Ok (scene_view scenario.now))) (K.text sink.old) (K.text sink.new) result }

@@ -1,5 +1,5 @@
 // Reading a scenario. Only the form that is built is taken.
-ghost use Rattle.std.specs.Prelude.{◌≡◌, MatchOption, option_map, option_and_then, string_bytes, [], codes};
+ghost use Rattle.std.specs.Prelude.{◌≡◌, ◌≤◌, IfSome, IfOk, MatchOption, option_map, option_and_then, string_bytes, [], codes};
 ghost use Rattle.toml.specs.View.{view, table_view, array_view, items_view};
 ghost use Rattle.toml.specs.Data.{get_member};
 ghost use Rattle.pe_base.specs.Events.{is_among};
@@ -69,7 +69,8 @@ fn value_at<'a>(table: &'a Table, key: &str) -> Option<&'a Value>
 }
 
 fn number_at(table: &Table, key: &str, low: u64, high: u64) -> Option<u64>
-    ensures { result ≡ number_at key.now low high (table_view table.now) }
+    ensures value { result ≡ number_at key.now low high (table_view table.now) }
+    ensures range { IfSome result (λ number. number ≤ high) }
 {
     let number = u64::try_from(value_at(table, key)?.as_integer()?).ok()?;
     if low <= number && number <= high {
@@ -109,7 +110,8 @@ fn trace_in(table: &Table) -> Option<Trace>
 
 #[tactic(auto, unfolding(crate::specs::Scenario::built_form))]
 fn built_form(table: &Table) -> Option<Scenario>
-    ensures { option_map scene_view result ≡ built_form (table_view table.now) }
+    ensures scene { option_map scene_view result ≡ built_form (table_view table.now) }
+    ensures few { IfSome result (λ scenario. scenario.traversals ≤ 1000) }
 {
     if !all_known(table) {
         return None;
@@ -128,7 +130,8 @@ fn built_form(table: &Table) -> Option<Scenario>
 /// The scenario of some bytes, or the first cause of its refusal.
 #[tactic(auto, unfolding(crate::specs::Scenario::scene_of))]
 pub fn read_scenario(alloc: Global, bytes: &[u8]) -> Result<Scenario, SceneFault>
-    ensures { GivesScene result (scene_of bytes.now) }
+    ensures scene { GivesScene result (scene_of bytes.now) }
+    ensures few { IfOk result (λ scenario. scenario.traversals ≤ 1000) }
 {
     if bytes.len() as u64 > SCENARIO_LIMIT {
         return Err(SceneFault::TooLong);

@@ -5,4 +5,4 @@ use Rattle.pe_run.proofs.run.run_bytes.Goals as goal
 
 pub returns-in-Err-clause-traffic : goal.returns-in-Err-clause-traffic
 returns-in-Err-clause-traffic g c =
-    Counts-none (run_scene (scene_of c.args.bytes.now)) _ _ c.refuse_scenario.result (c.refuse_scenario.ensures.no_walk (scene_of c.args.bytes.now) c.in-Err.ensures)
+    Counts-none (run_scene (scene_of c.args.bytes.now)) _ _ c.refuse_scenario.result (c.refuse_scenario.ensures.no_walk (scene_of c.args.bytes.now) c.in-Err.ensures.scene)
