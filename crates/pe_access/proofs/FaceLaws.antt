@@ -18,7 +18,8 @@ use Rattle.pe_access.specs.declared.line.Line.{Line}
 use Rattle.pe_access.specs.declared.route.Route.TheVariants.{Temp}
 use Rattle.pe_access.specs.declared.route.Choice.{Choice}
 use Rattle.pe_access.specs.Lines.{bit_of, is_relation, root_line, root_face, child_line, near_face, far_face, face_at, faster, fastest}
-use Rattle.pe_access.specs.States.{child_lines, lines_of, route_of}
+use Rattle.pe_access.specs.States.{route_of}
+use Rattle.pe_access.proofs.ChildLines.{child_lines, lines_of}
 use Rattle.pe_access.proofs.LineLaws.{length-lines_of}
 
 -- the level of a face, if its neighbour has the relation

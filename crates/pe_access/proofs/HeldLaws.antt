@@ -18,15 +18,15 @@ use Rattle.pe_base.proofs.Spans.{parents}
 use Rattle.pe_base.proofs.Levels.{cells}
 use Rattle.pe_base.proofs.Rounds.{order-cells, cells-long}
 use Rattle.pe_base.proofs.SlowerLaws.{times, count-tally, threes-times}
-use Rattle.pe_base.proofs.StackLaws.{length-parents}
+use Rattle.pe_base.proofs.StackLaws.{length-parents, is_same_pos-refl}
 use Rattle.pe_access.specs.declared.face.Face.{Face}
 use Rattle.pe_access.specs.declared.face.Relation.TheVariants.{Earlier, Later, Outside}
 use Rattle.pe_access.specs.declared.line.Line.{Line}
 use Rattle.pe_access.specs.Lines.{bit_of, root_line, root_face, near_face, far_face}
 use Rattle.pe_access.specs.Faces.{relation_to, face_of, line_of}
-use Rattle.pe_access.specs.States.{child_lines, lines_of}
+use Rattle.pe_access.proofs.ChildLines.{child_lines, lines_of}
 use Rattle.pe_access.proofs.LineLaws.{length-lines_of, lines_of-odd}
-use Rattle.pe_access.proofs.OrderLaws.{Beside, is_either, near_at, far_at, first_of, First, first-is, beside-apart, not-same, is_same_pos-refl, find-same}
+use Rattle.pe_access.proofs.OrderLaws.{Beside, is_either, near_at, far_at, first_of, First, first-is, beside-apart, not-same, find-same}
 use Rattle.pe_access.proofs.RouteProofs.{index-padded, split}
 
 -- the faces of a child along an axis

@@ -1,14 +1,12 @@
 -- Lines from a cell to its child, and the flips of a cell.
-use Rattle.std.proofs.Common.{◌≡◌, ℕ, zero, suc, ◌+◌, ◌*◌, ◌/◌, ◌%◌, ◌^◌, ◌<◌, true, false, List, [], ◌∷◌, map, length, get_or, sym, ap, ◌∙◌, subst, refl, inl, inr, arith, pow-suc, add-one}
+use Rattle.std.proofs.Common.{◌≡◌, ℕ, zero, suc, ◌+◌, ◌*◌, ◌/◌, ◌%◌, ◌^◌, ◌<◌, true, false, List, [], ◌∷◌, map, length, get_or, sym, ap, ◌∙◌, subst, refl, inl, inr, arith, pow-suc}
 use Rattle.std.specs.Prelude.{◌==◌, if◌then◌else◌, sum, slice_index}
-use Rattle.std.proofs.Math.Nat.{one-le-pow}
 use Rattle.std.proofs.lemmas.Bool.{eqb-true, eqb-false, cases_lt}
 use Rattle.pe_base.specs.declared.way.Way.{Way}
-use Rattle.pe_base.specs.declared.place.Place.{Place}
-use Rattle.pe_base.specs.Places.{IsCellPlace, finer}
+use Rattle.pe_base.specs.Places.{finer}
 use Rattle.pe_base.specs.Curve.{flip}
 use Rattle.pe_base.specs.Routes.{way_turns}
-use Rattle.pe_base.proofs.PlaceLaws.{four, IsPosition-below}
+use Rattle.pe_base.proofs.PlaceLaws.{four}
 use Rattle.pe_base.proofs.RouteLaws.{Below}
 use Rattle.pe_base.proofs.StackLaws.{Below-parents, length-parents}
 use Rattle.std.proofs.lemmas.List.{length-map, get_or-map}
@@ -16,7 +14,8 @@ use Rattle.pe_access.specs.declared.face.Face.{Face}
 use Rattle.pe_access.specs.declared.face.Relation.TheVariants.{Earlier, Later}
 use Rattle.pe_access.specs.declared.line.Line.{Line}
 use Rattle.pe_access.specs.Lines.{bit_of, root_line, child_line}
-use Rattle.pe_access.specs.States.{parent_pos, child_lines, lines_of, odd_count}
+use Rattle.pe_access.specs.States.{odd_count}
+use Rattle.pe_access.proofs.ChildLines.{parent_pos, child_lines, lines_of}
 
 pub child_line-parity : (level a b k : ℕ) (line : Line) → a % 2 ≡ b % 2 → child_line level a k line ≡ child_line level b k line
 child_line-parity level a b k line e =
@@ -29,7 +28,7 @@ child_line-parity level a b k line e =
     } in
     ap f e
 
-bit-parity : (n : ℕ) → bit_of (n % 2 == 1) ≡ n % 2
+pub bit-parity : (n : ℕ) → bit_of (n % 2 == 1) ≡ n % 2
 bit-parity n = elim (n % 2 == 1) as (λ v. (n % 2 == 1) ≡ v → bit_of v ≡ n % 2) [
   | true ↦ λ e. let one : n % 2 ≡ 1 = eqb-true (n % 2) 1 e in omega arith
   | false ↦ λ e. let apart = eqb-false (n % 2) 1 e in elim (cases_lt (n % 2) 1) [ inl h ↦ omega arith | inr h ↦ absurd (apart (omega arith)) ]
@@ -110,20 +109,20 @@ four_lines (x ∷ y ∷ z ∷ []) d e = absurd (omega arith)
 four_lines (x ∷ y ∷ z ∷ w ∷ []) d e = refl
 four_lines (x ∷ y ∷ z ∷ w ∷ v ∷ rest) d e = absurd (omega arith)
 
--- the lines that a descent makes are those of the child
+-- the lines that a descent makes are those at the digits
 abbrev Descends : List ℕ → List ℕ → List Line → Type 0
 Descends pos ks lines =
-    (way : Way) (level t b₀ b₁ b₂ b₃ : ℕ) (d l₀ l₁ l₂ l₃ : Line) → Below 3 ks → length pos ≡ length ks → map (λ line. bit_of line.odd) lines ≡ map (λ x. x % 2) pos → lines ≡ lines_of way level pos
+    (way : Way) (level t b₀ b₁ b₂ b₃ : ℕ) (d l₀ l₁ l₂ l₃ : Line) → Below 3 ks → length pos ≡ length ks → map (λ line. bit_of line.odd) lines ≡ map (λ x. x % 2) pos
     → t ≡ way_turns way + odd_count lines
     → b₀ ≡ bit_of (get_or lines 0 d).odd → b₁ ≡ bit_of (get_or lines 1 d).odd → b₂ ≡ bit_of (get_or lines 2 d).odd → b₃ ≡ bit_of (get_or lines 3 d).odd
     → l₀ ≡ child_line (level + 1) (t + b₀) (get_or ks 0 0) (get_or lines 0 d)
     → l₁ ≡ child_line (level + 1) (t + get_or ks 0 0 + b₁) (get_or ks 1 0) (get_or lines 1 d)
     → l₂ ≡ child_line (level + 1) (t + get_or ks 0 0 + get_or ks 1 0 + b₂) (get_or ks 2 0) (get_or lines 2 d)
     → l₃ ≡ child_line (level + 1) (t + get_or ks 0 0 + get_or ks 1 0 + get_or ks 2 0 + b₃) (get_or ks 3 0) (get_or lines 3 d)
-    → l₀ ∷ l₁ ∷ l₂ ∷ l₃ ∷ [] ≡ lines_of way (level + 1) (finer pos ks)
+    → l₀ ∷ l₁ ∷ l₂ ∷ l₃ ∷ [] ≡ lines_at (level + 1) (way_turns way + sum pos) pos ks lines
 
 four_descend : (p₀ p₁ p₂ p₃ k₀ k₁ k₂ k₃ : ℕ) (m₀ m₁ m₂ m₃ : Line) → Descends (p₀ ∷ p₁ ∷ p₂ ∷ p₃ ∷ []) (k₀ ∷ k₁ ∷ k₂ ∷ k₃ ∷ []) (m₀ ∷ m₁ ∷ m₂ ∷ m₃ ∷ [])
-four_descend p₀ p₁ p₂ p₃ k₀ k₁ k₂ k₃ m₀ m₁ m₂ m₃ way level t b₀ b₁ b₂ b₃ d l₀ l₁ l₂ l₃ below same odd is turns is₀ is₁ is₂ is₃ c₀ c₁ c₂ c₃ =
+four_descend p₀ p₁ p₂ p₃ k₀ k₁ k₂ k₃ m₀ m₁ m₂ m₃ way level t b₀ b₁ b₂ b₃ d l₀ l₁ l₂ l₃ below same odd turns is₀ is₁ is₂ is₃ c₀ c₁ c₂ c₃ =
     let pos = p₀ ∷ p₁ ∷ p₂ ∷ p₃ ∷ [] in
     let ks = k₀ ∷ k₁ ∷ k₂ ∷ k₃ ∷ [] in
     let lines = m₀ ∷ m₁ ∷ m₂ ∷ m₃ ∷ [] in
@@ -139,9 +138,7 @@ four_descend p₀ p₁ p₂ p₃ k₀ k₁ k₂ k₃ m₀ m₁ m₂ m₃ way lev
     let e₁ : l₁ ≡ child_line (level + 1) (all + k₀ + p₁) k₁ m₁ = c₁ ∙ child_line-parity (level + 1) (t + k₀ + b₁) (all + k₀ + p₁) k₁ m₁ (omega (arith, parity, o₁)) in
     let e₂ : l₂ ≡ child_line (level + 1) (all + k₀ + k₁ + p₂) k₂ m₂ = c₂ ∙ child_line-parity (level + 1) (t + k₀ + k₁ + b₂) (all + k₀ + k₁ + p₂) k₂ m₂ (omega (arith, parity, o₂)) in
     let e₃ : l₃ ≡ child_line (level + 1) (all + k₀ + k₁ + k₂ + p₃) k₃ m₃ = c₃ ∙ child_line-parity (level + 1) (t + k₀ + k₁ + k₂ + b₃) (all + k₀ + k₁ + k₂ + p₃) k₃ m₃ (omega (arith, parity, o₃)) in
-    let made : l₀ ∷ l₁ ∷ l₂ ∷ l₃ ∷ [] ≡ lines_at (level + 1) all pos ks lines = cc in
-    made ∙ ap (λ (n : ℕ). lines_at n all pos ks lines) (add-one level) ∙ ap (lines_at (suc level) all pos ks) is
-    ∙ sym (lines_of-finer way level pos ks same below) ∙ ap (λ (n : ℕ). lines_of way n (finer pos ks)) (sym (add-one level))
+    cc
 
 pub descends : (pos ks : List ℕ) (lines : List Line) → length pos ≡ 4 → length ks ≡ 4 → length lines ≡ 4 → Descends pos ks lines
 descends pos ks lines e f g way level t b₀ b₁ b₂ b₃ d =
@@ -169,9 +166,3 @@ pub odd-at : (lines : List Line) (pos : List ℕ) (i : ℕ) (d : Line) → i < l
 odd-at lines pos i d h e =
     let same : length lines ≡ length pos = sym (length-map lines (λ line. bit_of line.odd)) ∙ ap length e ∙ length-map pos (λ x. x % 2) in
     sym (get_or-map (λ line. bit_of line.odd) lines i d 0 h) ∙ ap (λ xs. get_or xs i 0) e ∙ get_or-map (λ x. x % 2) pos i 0 0 (omega arith)
-
--- the lines of a cell are as odd as its position
-pub lines-odd : (axes : ℕ) (way : Way) (cell : Place) (lines : List Line) → IsCellPlace axes cell → lines ≡ lines_of way cell.level cell.pos → map (λ line. bit_of line.odd) lines ≡ map (λ x. x % 2) cell.pos
-lines-odd axes way cell lines place e =
-    ap (map (λ line. bit_of line.odd)) e
-    ∙ lines_of-odd way cell.level cell.pos (Below-all (3 ^ cell.level) cell.pos (IsPosition-below axes (3 ^ cell.level) cell.pos (one-le-pow cell.level 3 (omega arith)) place.pos))

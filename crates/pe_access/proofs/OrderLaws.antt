@@ -3,21 +3,21 @@ use Rattle.std.proofs.Common.{◌≡◌, ℕ, zero, suc, ◌+◌, ◌-◌, ◌*�
 use Rattle.std.specs.Prelude.{◌==◌, if◌then◌else◌, find, sum, All}
 use Rattle.std.specs.List.{flat_map}
 use Rattle.std.specs.Option.{option_map, option_or}
-use Rattle.std.proofs.lemmas.Bool.{or_parts, or_from, and_parts, and_left, eqb-true, eq-eqb, ne_eqb, false≢true, cases_lt, cases_Bool}
+use Rattle.std.proofs.lemmas.Bool.{or_parts, or_from, and_left, eq-eqb, ne_eqb, false≢true, cases_lt, cases_Bool}
 use Rattle.std.proofs.lemmas.List.Elements.{All-head, All-tail, All-nil, All-cons, All-append, All-map, All-weaker}
 use Rattle.std.proofs.lemmas.List.Folds.{find-append}
 use Rattle.pe_base.specs.declared.way.Way.{Way}
 use Rattle.pe_base.specs.Curve.{mirrored}
 use Rattle.pe_base.specs.Routes.{way_turns, is_same_pos}
 use Rattle.pe_base.proofs.RouteLaws.{Below}
-use Rattle.pe_base.proofs.Spans.{is_even, parents}
+use Rattle.pe_base.proofs.Spans.{is_even, parents, or_none}
 use Rattle.pe_base.proofs.Levels.{kids, cells}
-use Rattle.pe_base.proofs.StackLaws.{Member, Member-cells, Below-parents, length-parents}
+use Rattle.pe_base.proofs.StackLaws.{Member, Member-cells, Below-parents, length-parents, same_pos, is_same_pos-refl}
 use Rattle.pe_access.specs.declared.face.Face.{Face}
 use Rattle.pe_access.specs.declared.face.Relation.TheVariants.{Earlier, Later}
 use Rattle.pe_access.specs.declared.line.Line.{Line}
 use Rattle.pe_access.specs.Lines.{root_face, near_face, far_face}
-use Rattle.pe_access.specs.States.{child_lines, lines_of}
+use Rattle.pe_access.proofs.ChildLines.{child_lines, lines_of}
 use Rattle.pe_access.proofs.LineLaws.{length-lines_of}
 
 -- two positions that differ by one on an axis
@@ -64,10 +64,6 @@ find-flat_map {X} {Y} test pass g (z ∷ xs) x y out e f =
           find-append test (g z) (flat_map g xs) ∙ ap (λ o. option_or o (find test (flat_map g xs))) (out z t) ∙ find-flat_map test pass g xs x y out rest f
     ]
 
-or_none : (v : Bool) → (v || false) ≡ v
-or_none true = refl
-or_none false = refl
-
 -- the first of three blocks that has one
 find-parts : {Y : Type 0} (test : Y → Bool) (f : ℕ → List Y) (t : ℕ) (y : Y) → t < 3 → ((k : ℕ) → k < t → find test (f k) ≡ None) → find test (f t) ≡ Some y → find test (f 0 ++ (f 1 ++ (f 2 ++ []))) ≡ Some y
 find-parts test f zero y h out e = find-append test (f 0) _ ∙ ap (λ o. option_or o (find test (f 1 ++ (f 2 ++ [])))) e
@@ -91,20 +87,6 @@ find-under test part c (cs ∷ ls) same =
 find-nothing : (test : List ℕ → Bool) (c : ℕ) (ls : List (List ℕ)) → ((cs : List ℕ) → test (c ∷ cs) ≡ false) → find test (map (λ cs. c ∷ cs) ls) ≡ None
 find-nothing test c [] out = refl
 find-nothing test c (cs ∷ ls) out = ap (λ v. if v then Some (c ∷ cs) else find test (map (λ cs. c ∷ cs) ls)) (out cs) ∙ find-nothing test c ls out
-
-same_pos : (xs ys : List ℕ) → is_same_pos xs ys ≡ true → xs ≡ ys
-same_pos [] [] h = refl
-same_pos [] (y ∷ ys) h = absurd (false≢true h)
-same_pos (x ∷ xs) [] h = absurd (false≢true h)
-same_pos (x ∷ xs) (y ∷ ys) h =
-    let both = and_parts (x == y) (is_same_pos xs ys) h in
-    let head : x ≡ y = eqb-true x y both.0 in
-    let tail : xs ≡ ys = same_pos xs ys both.1 in
-    cc
-
-pub is_same_pos-refl : (xs : List ℕ) → is_same_pos xs xs ≡ true
-is_same_pos-refl [] = refl
-is_same_pos-refl (x ∷ xs) = ap (λ v. v && is_same_pos xs xs) (eq-eqb x x refl) ∙ is_same_pos-refl xs
 
 -- a child is found among the children of its parent
 digit-of : ℕ → ℕ → ℕ

@@ -23,12 +23,13 @@ use Rattle.pe_access.specs.declared.line.Line.{Line}
 use Rattle.pe_access.specs.declared.route.Route.TheVariants.{Stream, Temp}
 use Rattle.pe_access.specs.declared.route.Choice.{Choice}
 use Rattle.pe_access.specs.Lines.{bit_of, is_relation, root_line, root_face, child_line, faster, fastest}
-use Rattle.pe_access.specs.States.{child_lines, lines_of, route_of}
+use Rattle.pe_access.specs.States.{route_of}
+use Rattle.pe_access.proofs.ChildLines.{child_lines, lines_of}
 use Rattle.pe_access.proofs.LineLaws.{length-lines_of, lines_of-odd}
 use Rattle.pe_access.proofs.FaceLaws.{Sees, pick, marks, choice_of, fastest-pick, pick-entry}
 
 -- axes that the grid does not have: no neighbour at the near end
-pub Idle : List Line → Type 0
+abbrev pub Idle : List Line → Type 0
 Idle [] = Unit
 Idle (line ∷ lines) = (line.near ≡ root_face) × Idle lines
 
@@ -38,12 +39,10 @@ pub record Split (way : Way) (level n : ℕ) (cs : List ℕ) : Type 0 where
   pub is : lines_of way level (cs ++ replicate n 0) ≡ lines_of way level cs ++ tail
 
 root-idle : (n : ℕ) → Idle (map {A = ℕ} (λ x. root_line) (replicate n 0))
-unfolding Idle
 root-idle zero = tt
 root-idle (suc n) = (refl, root-idle n)
 
 child-idle : (level turns n m : ℕ) (lines : List Line) → Idle lines → Idle (child_lines level turns (replicate n 0) (replicate m 0) lines)
-unfolding Idle
 child-idle level turns zero m lines h = tt
 child-idle level turns (suc n) zero lines h = tt
 child-idle level turns (suc n) (suc m) [] h = tt
@@ -94,7 +93,6 @@ never true a b = refl
 never false a b = refl
 
 idle-fastest : (relation : Relation) (axis n : ℕ) (lines : List Line) → Idle lines → fastest relation axis (replicate n 0) lines ≡ none
-unfolding Idle
 idle-fastest relation axis zero lines h = refl
 idle-fastest relation axis (suc n) [] h = refl
 idle-fastest relation axis (suc n) (line ∷ lines) h =
@@ -200,8 +198,8 @@ stacks-same vertex level qs (Some i) e =
     ap Temp (omega arith)
 
 -- the choice among the faces at a corner, by how the cell is entered or left around the vertex
-route-fastest : (relation : Relation) (way : Way) (b axes k : ℕ) (cell : Place) → Sees relation (way_turns way) b → axes ≤ 4 → IsCellPlace axes cell → k < 2 ^ axes → (fastest relation 0 (bits 4 k) (lines_of way cell.level cell.pos)).route ≡ route_of (option_map (stack_of (corner axes cell k)) (entry b cell.level (spots (moved (take axes cell.pos) (bits axes k))) (take axes cell.pos)))
-route-fastest relation way b axes k cell sees few place small =
+route-fastest : (relation : Relation) (way : Way) (b axes k : ℕ) (cell : Place) (all rest : List Line) → Sees relation (way_turns way) b → axes ≤ 4 → IsCellPlace axes cell → k < 2 ^ axes → all ≡ lines_of way cell.level (take axes cell.pos) ++ rest → Idle rest → (fastest relation 0 (bits 4 k) all).route ≡ route_of (option_map (stack_of (corner axes cell k)) (entry b cell.level (spots (moved (take axes cell.pos) (bits axes k))) (take axes cell.pos)))
+route-fastest relation way b axes k cell all rest sees few place small is idle =
     let level = cell.level in
     let cs = take axes cell.pos in
     let bs = bits axes k in
@@ -210,38 +208,36 @@ route-fastest relation way b axes k cell sees few place small =
     let same : length bs ≡ length cs = length-bits axes k ∙ sym long in
     let lines = lines_of way level cs in
     let len : length lines ≡ length cs = length-lines_of way level cs in
-    let parts = split way level (4 - length cs) cs in
     let n = 4 - axes in
     let count : axes + n ≡ 4 = omega arith in
     let sides : bits 4 k ≡ bs ++ replicate n 0 = ap (λ (m : ℕ). bits m k) (sym count) ∙ bits-more axes n k small in
     let odd = lines_of-odd way level cs (Below-front axes (3 ^ level) cell.pos place.pos.inside) in
     let p = pick (marks relation (spots qs) cs lines) in
-    let chosen : fastest relation 0 (bits 4 k) (lines_of way level cell.pos) ≡ choice_of (λ i. 2 * (0 + i) + slice_index qs i % 2) p =
-    ap (λ xs. fastest relation 0 xs (lines_of way level cell.pos)) sides
-    ∙ ap (λ xs. fastest relation 0 (bs ++ replicate n 0) (lines_of way level xs)) (padded-front axes (3 ^ level) cell.pos few place.pos)
-    ∙ ap (fastest relation 0 (bs ++ replicate n 0)) parts.is
-    ∙ fastest-append relation 0 n bs lines parts.tail (same ∙ sym len) parts.idle
+    let chosen : fastest relation 0 (bits 4 k) all ≡ choice_of (λ i. 2 * (0 + i) + slice_index qs i % 2) p =
+    ap (λ xs. fastest relation 0 xs all) sides
+    ∙ ap (fastest relation 0 (bs ++ replicate n 0)) is
+    ∙ fastest-append relation 0 n bs lines rest (same ∙ sym len) idle
     ∙ fastest-pick relation 0 bs cs lines same len odd in
     ap (λ c. c.route) chosen
     ∙ ap (λ o. route_of (option_map (λ i. 2 * (0 + i) + slice_index qs i % 2) o)) (pick-entry relation way b level sees (spots qs) cs (moved-fits cs bs same (bits-small axes k)))
     ∙ stacks-same (corner axes cell k) level qs (entry b level (spots qs) cs) (vertex-at axes k cell few place)
 
-pub route_in-is : (way : Way) (axes k : ℕ) (cell : Place) → axes ≤ 4 → IsCellPlace axes cell → k < 2 ^ axes → IsInside axes (corner axes cell k) → (fastest Earlier 0 (bits 4 k) (lines_of way cell.level cell.pos)).route ≡ route_of (stack_in axes way (corner axes cell k) cell)
-route_in-is way axes k cell few place small inside =
+pub route_in-is : (way : Way) (axes k : ℕ) (cell : Place) (all rest : List Line) → axes ≤ 4 → IsCellPlace axes cell → k < 2 ^ axes → all ≡ lines_of way cell.level (take axes cell.pos) ++ rest → Idle rest → IsInside axes (corner axes cell k) → (fastest Earlier 0 (bits 4 k) all).route ≡ route_of (stack_in axes way (corner axes cell k) cell)
+route_in-is way axes k cell all rest few place small is idle inside =
     let cs = take axes cell.pos in
     let qs = moved cs (bits axes k) in
     let o = entry (way_turns way) cell.level (spots qs) cs in
     let P : Place → Type 0 = λ c. stack_in axes way (at cell.level qs) c ≡ option_map (stack_of (at cell.level qs)) o in
     let Q : Place → Type 0 = λ v. stack_in axes way v cell ≡ option_map (stack_of v) o in
-    route-fastest Earlier way (way_turns way) axes k cell refl few place small
+    route-fastest Earlier way (way_turns way) axes k cell all rest refl few place small is idle
     ∙ ap route_of (sym (subst Q (sym (vertex-at axes k cell few place)) (subst P (sym (at-front axes (3 ^ cell.level) cell few place.pos)) (stack_in-entry axes cell.level way qs cs (touches axes k cell few place inside)))))
 
-pub route_out-is : (way : Way) (axes k : ℕ) (cell : Place) → axes ≤ 4 → IsCellPlace axes cell → k < 2 ^ axes → IsInside axes (corner axes cell k) → (fastest Later 0 (bits 4 k) (lines_of way cell.level cell.pos)).route ≡ route_of (stack_out axes way (corner axes cell k) cell)
-route_out-is way axes k cell few place small inside =
+pub route_out-is : (way : Way) (axes k : ℕ) (cell : Place) (all rest : List Line) → axes ≤ 4 → IsCellPlace axes cell → k < 2 ^ axes → all ≡ lines_of way cell.level (take axes cell.pos) ++ rest → Idle rest → IsInside axes (corner axes cell k) → (fastest Later 0 (bits 4 k) all).route ≡ route_of (stack_out axes way (corner axes cell k) cell)
+route_out-is way axes k cell all rest few place small is idle inside =
     let cs = take axes cell.pos in
     let qs = moved cs (bits axes k) in
     let o = entry (suc (way_turns way)) cell.level (spots qs) cs in
     let P : Place → Type 0 = λ c. stack_out axes way (at cell.level qs) c ≡ option_map (stack_of (at cell.level qs)) o in
     let Q : Place → Type 0 = λ v. stack_out axes way v cell ≡ option_map (stack_of v) o in
-    route-fastest Later way (suc (way_turns way)) axes k cell refl few place small
+    route-fastest Later way (suc (way_turns way)) axes k cell all rest refl few place small is idle
     ∙ ap route_of (sym (subst Q (sym (vertex-at axes k cell few place)) (subst P (sym (at-front axes (3 ^ cell.level) cell few place.pos)) (stack_out-entry axes cell.level way qs cs (touches axes k cell few place inside)))))

@@ -1,5 +1,5 @@
 -- What a cell state holds of each face, by the order of the walk.
-use Rattle.std.specs.Prelude.{◌≡◌, ℕ, ◌%◌, ◌==◌, if◌then◌else◌, Option, Some, None, slice_get, slice_index}
+use Rattle.std.specs.Prelude.{ℕ, ◌%◌, ◌==◌, if◌then◌else◌, Option, Some, None, slice_index}
 use Rattle.pe_base.specs.declared.place.Place.{Place}
 use Rattle.pe_base.specs.declared.way.Way.{Way}
 use Rattle.pe_base.specs.Neighbours.{neighbour, comes_first, face_level}
@@ -7,7 +7,6 @@ use Rattle.pe_access.specs.declared.face.Face.{Face}
 use Rattle.pe_access.specs.declared.face.Relation.{Relation}
 use Rattle.pe_access.specs.declared.face.Relation.TheVariants.{Earlier, Later, Outside}
 use Rattle.pe_access.specs.declared.line.Line.{Line}
-use Rattle.pe_access.specs.declared.state.CellState.{CellState}
 
 -- when a neighbour comes
 abbrev pub relation_to : ℕ → Way → Place → Option Place → Relation
@@ -25,7 +24,3 @@ line_of axes way cell axis = record {
   near = face_of axes way cell axis 0;
   far = face_of axes way cell axis 1;
 }
-
--- a state holds along an axis what the order of the walk says of a cell
-abbrev pub HoldsLine : ℕ → Way → Place → CellState → ℕ → Type 0
-HoldsLine axes way cell state axis = slice_get state.lines axis ≡ Some (line_of axes way cell axis)

@@ -1,33 +1,14 @@
 -- What a cell state is of a cell.
-use Rattle.std.specs.Prelude.{◌≡◌, ℕ, zero, suc, ◌+◌, ◌/◌, ◌%◌, List, [], ◌∷◌, map, sum, sum_by, Option, Some, None}
+use Rattle.std.specs.Prelude.{◌≡◌, ℕ, ◌<◌, ◌≤◌, false, List, sum_by, Option, Some, None, IfSome, slice_get}
 use Rattle.pe_base.specs.declared.place.Place.{Place}
 use Rattle.pe_base.specs.declared.way.Way.{Way}
 use Rattle.pe_base.specs.Dim.{IsDim}
-use Rattle.pe_base.specs.Routes.{way_turns}
 use Rattle.pe_access.specs.declared.line.Line.{Line}
 use Rattle.pe_access.specs.declared.state.CellState.{CellState}
 use Rattle.pe_access.specs.declared.route.Route.{Route}
 use Rattle.pe_access.specs.declared.route.Route.TheVariants.{Stream, Temp}
-use Rattle.pe_access.specs.Lines.{bit_of, root_line, child_line}
-
--- the position of the parent
-abbrev pub parent_pos : List ℕ → List ℕ
-parent_pos pos = map (λ x. x / 3) pos
-
--- The lines of a child, axis by axis, by the positions of its parent and of itself: an axis is turned by the
--- parent's positions on the other axes and by the child's digits on the axes before it.
-abbrev pub child_lines : ℕ → ℕ → List ℕ → List ℕ → List Line → List Line
-child_lines level turns [] xs lines = []
-child_lines level turns (p ∷ ps) [] lines = []
-child_lines level turns (p ∷ ps) (x ∷ xs) [] = []
-child_lines level turns (p ∷ ps) (x ∷ xs) (line ∷ lines) =
-    child_line level (turns + p) (x % 3) line ∷ child_lines level (turns + x % 3) ps xs lines
-
--- the lines of a cell, by its level and position
-abbrev pub lines_of : Way → ℕ → List ℕ → List Line
-lines_of way zero pos = map (λ x. root_line) pos
-lines_of way (suc level) pos =
-    child_lines (suc level) (way_turns way + sum (parent_pos pos)) (parent_pos pos) pos (lines_of way level (parent_pos pos))
+use Rattle.pe_access.specs.Lines.{bit_of, root_face}
+use Rattle.pe_access.specs.Faces.{line_of}
 
 -- the number of axes of the grid of a state
 abbrev pub axes_of : CellState → ℕ
@@ -37,13 +18,23 @@ axes_of state = state.axes
 abbrev pub level_of : CellState → ℕ
 level_of state = state.level
 
+-- an axis that the grid does not have: the position is 0, and the near face is on the root's boundary
+pub record IsIdle (line : Line) : Type 0 where
+  pub even : line.odd ≡ false
+  pub closed : line.near ≡ root_face
+
+-- four lines hold of a cell what the order of the walk says of it
+pub record HoldsCell (axes : ℕ) (way : Way) (cell : Place) (lines : List Line) : Type 0 where
+  pub grid_axes : (axis : ℕ) → axis < axes → slice_get lines axis ≡ Some (line_of axes way cell axis)
+  pub others : (axis : ℕ) → axes ≤ axis → IfSome (slice_get lines axis) IsIdle
+
 -- the state stands for a cell of a grid in a way
 pub record StandsFor (axes : ℕ) (way : Way) (cell : Place) (state : CellState) : Type 0 where
   pub grid : IsDim axes
   pub same_axes : state.axes ≡ axes
   pub same_way : state.way ≡ way
   pub same_level : state.level ≡ cell.level
-  pub same_lines : state.lines ≡ lines_of way cell.level cell.pos
+  pub lines : HoldsCell axes way cell state.lines
 
 -- how many of some lines are odd
 abbrev pub odd_count : List Line → ℕ

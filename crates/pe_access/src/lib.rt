@@ -11,8 +11,6 @@ mod route;
 mod rows;
 mod state;
 
-pub use face::{Face, Relation};
-pub use laws::{faces_of_states, order_around};
-pub use line::Line;
+pub use laws::order_around;
 pub use route::Route;
 pub use state::CellState;

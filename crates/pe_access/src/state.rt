@@ -1,4 +1,4 @@
-ghost use Rattle.std.specs.Prelude.{◌≡◌, ℕ, ◌+◌, ◌<◌, ◌≤◌, ◌^◌};
+ghost use Rattle.std.specs.Prelude.{◌≡◌, ℕ, ◌+◌, ◌<◌, ◌≤◌, ◌^◌, length};
 ghost use Rattle.pe_base.specs.declared.place.Place.{Place as APlace};
 ghost use Rattle.pe_base.specs.declared.way.Way.{Way as AWay};
 ghost use Rattle.pe_base.specs.Places.{IsDigits, IsCellPlace, IsInside, bits, child_at, corner as corner_at, root};
@@ -114,7 +114,8 @@ impl CellState {
 
     // The route across the fastest face at a corner whose neighbour has this relation.
     fn route(&self, relation: Relation, corner: u8) -> Route
-        ensures { result ≡ (fastest relation 0 (bits 4 corner) self.now.lines).route }
+        ensures fastest { result ≡ (fastest relation 0 (bits 4 corner) self.now.lines).route }
+        ensures four { length self.now.lines ≡ 4 }
     {
         let [x, y, z, w] = self.lines;
         let none = Choice {

@@ -122,7 +122,7 @@ same_test a b c d to from = elim (cases_eq a b) [
   | inr e ↦ ne_eqb a b e ∙ sym (ne_eqb c d (λ h. e (from h)))
 ]
 
-or_none : (v : Bool) → (v || false) ≡ v
+pub or_none : (v : Bool) → (v || false) ≡ v
 or_none true = refl
 or_none false = refl
 

@@ -105,11 +105,11 @@ Member-cells axes w (suc level) cs e h =
     (Member-cells axes w level (parents cs) (length-parents cs ∙ e) (Below-parents (3 ^ level) cs (subst P bound h)))
     (Member-kids (w + sum (parents cs)) cs)
 
-is_same_pos-refl : (xs : List ℕ) → is_same_pos xs xs ≡ true
+pub is_same_pos-refl : (xs : List ℕ) → is_same_pos xs xs ≡ true
 is_same_pos-refl [] = refl
 is_same_pos-refl (x ∷ xs) = ap (λ v. v && is_same_pos xs xs) (eq-eqb x x refl) ∙ is_same_pos-refl xs
 
-same_pos : (xs ys : List ℕ) → is_same_pos xs ys ≡ true → xs ≡ ys
+pub same_pos : (xs ys : List ℕ) → is_same_pos xs ys ≡ true → xs ≡ ys
 same_pos [] [] h = refl
 same_pos [] (y ∷ ys) h = absurd (false≢true h)
 same_pos (x ∷ xs) [] h = absurd (false≢true h)

@@ -4,15 +4,16 @@ use Rattle.std.specs.Prelude.{slice_index}
 use Rattle.pe_base.specs.Curve.{flip}
 use Rattle.pe_base.proofs.PlaceLaws.{four}
 use Rattle.pe_base.proofs.CurveLaws.{bits-flips}
-use Rattle.pe_access.proofs.LineLaws.{flip-at, length-lines_of, lines-odd, odd-at}
+use Rattle.pe_access.proofs.LineLaws.{flip-at, odd-at}
+use Rattle.pe_access.proofs.StateLaws.{odd-lines}
 use Rattle.pe_access.proofs.state.CellState.flips.Goals as goal
 
 pub returns : goal.returns
 returns c axes way cell place h =
     let lines = c.args.self.now.lines in
     let pos = cell.pos in
-    let long : length lines ≡ 4 = ap length h.same_lines ∙ length-lines_of way cell.level pos ∙ place.pos.four in
-    let odd = lines-odd axes way cell lines place h.same_lines in
+    let long : length lines ≡ 4 = omega (arith, c.type_inv.self) in
+    let odd = odd-lines axes way cell lines place h.lines long in
     let x = slice_index pos 0 in
     let y = slice_index pos 1 in
     let z = slice_index pos 2 in
