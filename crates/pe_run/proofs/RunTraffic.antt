@@ -1,7 +1,7 @@
 -- What a run does with the records of its depots, stack by stack: the traffic of its traversals.
-use Rattle.std.proofs.Common.{◌≡◌, ◌⊎◌, ℕ, ◌+◌, ◌*◌, ◌/◌, ◌%◌, ◌^◌, ◌<◌, ◌≤◌, Bool, true, false, not, ◌&&◌, ◌==◌, nat_lt, cond, List, [], ◌∷◌, ◌++◌, length, inl, inr, refl, sym, ap, ap₂, ◌∙◌, subst, arith}
-use Rattle.std.specs.Prelude.{count_by, if◌then◌else◌}
-use Rattle.std.specs.List.{sum_by}
+use Rattle.std.proofs.Common.{◌≡◌, ◌⊎◌, ℕ, zero, suc, ◌+◌, ◌*◌, ◌/◌, ◌%◌, ◌^◌, ◌<◌, ◌≤◌, Bool, true, false, not, ◌&&◌, ◌==◌, nat_lt, cond, List, [], ◌∷◌, ◌++◌, length, replicate, inl, inr, refl, sym, ap, ap₂, ◌∙◌, subst, arith}
+use Rattle.std.specs.Prelude.{count_by, slice_index_or, if◌then◌else◌}
+use Rattle.std.specs.List.{flat_map, range_with_len, sum_by}
 use Rattle.std.proofs.lemmas.Bool.{ltb-true, ltb-false, eqb-true, eq-eqb}
 use Rattle.std.proofs.lemmas.List.Sums.{sum_by-cons}
 use Rattle.pe_base.specs.Dim.{IsDim}
@@ -9,12 +9,18 @@ use Rattle.pe_base.specs.Places.{root}
 use Rattle.pe_base.specs.Ways.{way_of}
 use Rattle.pe_base.specs.Curve.{children}
 use Rattle.pe_base.proofs.CurveLaws.{length-children}
+use Rattle.pe_base.specs.Traces.{traversals_text}
+use Rattle.pe_stacks.specs.Holdings.{Holdings, Stack, new_stack, new_holdings, stack_at}
 use Rattle.pe_run.specs.declared.walk.traversal.Traversal.{Traversal}
+use Rattle.pe_run.specs.declared.scenario.Scenario.{Scenario}
+use Rattle.pe_run.specs.Trace.{traces}
 use Rattle.pe_run.specs.Crossed.{crossed}
-use Rattle.pe_run.specs.Depots.{stream_of, is_odd, vertex_pushes, vertex_pops, cell_pushes, cell_pops}
-use Rattle.pe_run.specs.Traffic.{Op, lends, pushes, pops, is_push_on, is_pop_from}
-use Rattle.pe_run.specs.Walked.{input_of, output_of, cell_input_of, cell_output_of, cell_ops, traversal_vertex_ops, traversal_cell_ops}
-use Rattle.pe_run.proofs.Sums.{count-flat_map}
+use Rattle.pe_run.specs.Depots.{stream_of, is_odd, vertex_pushes, vertex_pops, cell_pushes, cell_pops, in_all, HasTraffic}
+use Rattle.pe_run.specs.Traffic.{Op, lends, pushes, pops, is_push_on, is_pop_from, DoesAll}
+use Rattle.pe_run.specs.Walked.{input_of, output_of, cell_input_of, cell_output_of, cell_ops, traversal_vertex_ops, traversal_cell_ops, traversal_at, scenario_text, vertex_traffic, cell_traffic}
+use Rattle.pe_run.proofs.LevelOneWalk.{traversals_are}
+use Rattle.pe_run.proofs.TrafficLaws.{counted}
+use Rattle.pe_run.proofs.Sums.{sum_by_same, count-flat_map}
 use Rattle.pe_run.proofs.Crossings.{traversal_pops, traversal_pushes, traversal_reads, traversal_writes}
 
 -- the streams are exchanged before each even traversal
@@ -115,28 +121,55 @@ module _ (t : Traversal) (dim : IsDim t.dim) (alternates : Alternates t) where
       one true = none (cell_input_of t == s)
       one false = times (cell_input_of t == s)
 
-even_is : (n : ℕ) → (n % 2 == 0) ≡ not (n % 2 == 1)
-even_is n = elim (halves (n % 2) (omega arith)) [
-  | inl e ↦ ap (λ (r : ℕ). r == 0) e ∙ sym (ap (λ (r : ℕ). not (r == 1)) e)
-  | inr e ↦ ap (λ (r : ℕ). r == 0) e ∙ sym (ap (λ (r : ℕ). not (r == 1)) e)
-]
-  where
-    halves : (r : ℕ) → r < 2 → (r ≡ 0) ⊎ (r ≡ 1)
-    halves 0 h = inl refl
-    halves 1 h = inr refl
-    halves (suc (suc r)) h = absurd (omega arith)
+-- of the two remainders of 2
+halves : (r : ℕ) → r < 2 → (r == 0) ≡ not (r == 1)
+halves zero h = refl
+halves (suc zero) h = refl
+halves (suc (suc r)) h = absurd (omega arith)
 
 -- all traversals of a scenario
 in_traversals : {X : Type 0} (p : X → Bool) (ops : ℕ → List X) (f : ℕ → ℕ) → ((n : ℕ) → count_by p (ops n) ≡ f n) → (count : ℕ) → count_by p (flat_map ops (range_with_len 1 count)) ≡ in_all count f
 in_traversals p ops f each count = count-flat_map p ops (range_with_len 1 count) ∙ sum_by_same _ f each (range_with_len 1 count)
 
-nothing_counted : {X : Type 0} (count s : ℕ) → ((stack_at (new_holdings {X = X} count) s).pushes ≡ 0) × ((stack_at (new_holdings {X = X} count) s).pops ≡ 0)
-nothing_counted count s = ?
+-- new stacks have counted nothing
+new_at : {X : Type 0} (count s : ℕ) → slice_index_or (replicate {A = Stack X} count new_stack) s new_stack ≡ new_stack
+new_at zero s = refl
+new_at (suc count) zero = refl
+new_at (suc count) (suc s) = new_at count s
 
+module _ {X : Type 0} (count : ℕ) (ops : List Op) (start end : Holdings X) (new : start ≡ new_holdings count) (does : DoesAll ops start end) where
+  first_at : (s : ℕ) → stack_at start s ≡ new_stack
+  first_at s = ap (λ (held : Holdings X). stack_at held s) new ∙ new_at count s
+
+  pushed_all : (s : ℕ) → (stack_at end s).pushes ≡ count_by (is_push_on s) ops
+  pushed_all s = omega (arith, (counted ops start end does).pushes s, ap (λ (stack : Stack X). stack.pushes) (first_at s))
+
+  popped_all : (s : ℕ) → (stack_at end s).pops ≡ count_by (is_pop_from s) ops
+  popped_all s = omega (arith, (counted ops start end does).pops s, ap (λ (stack : Stack X). stack.pops) (first_at s))
+
+alternates : (scenario : Scenario) (n : ℕ) → Alternates (traversal_at scenario n)
+alternates scenario n = halves (n % 2) (omega arith)
+
+-- what the depots have counted after all traversals of a scenario
 pub has_traffic : {V C : Type 0} (scenario : Scenario) (start end : Holdings V) (cell_start cell_end : Holdings C) → IsDim scenario.dim → start ≡ new_holdings 10 → cell_start ≡ new_holdings 2
     → DoesAll (vertex_traffic scenario) start end → DoesAll (cell_traffic scenario) cell_start cell_end
     → end.most ≤ 2 * 2 ^ scenario.dim → cell_end.most ≤ 1 → HasTraffic scenario.dim scenario.traversals end cell_end
 has_traffic scenario start end cell_start cell_end dim new cell_new does cell_does most cell_most =
-    let counts = counted (vertex_traffic scenario) start end does in
-    let cell_counts = counted (cell_traffic scenario) cell_start cell_end cell_does in
-    ?
+    let t = traversal_at scenario in
+    let count = scenario.traversals in
+    record {
+      vertex_pushes_are = λ s. pushed_all 10 (vertex_traffic scenario) start end new does s
+          ∙ in_traversals (is_push_on s) (λ n. traversal_vertex_ops (t n)) (vertex_pushes scenario.dim s) (λ n. pushes_are (t n) dim (alternates scenario n) s) count;
+      vertex_pops_are = λ s. popped_all 10 (vertex_traffic scenario) start end new does s
+          ∙ in_traversals (is_pop_from s) (λ n. traversal_vertex_ops (t n)) (vertex_pops scenario.dim s) (λ n. pops_are (t n) dim (alternates scenario n) s) count;
+      cell_pushes_are = λ s. pushed_all 2 (cell_traffic scenario) cell_start cell_end cell_new cell_does s
+          ∙ in_traversals (is_push_on s) (λ n. traversal_cell_ops (t n)) (cell_pushes scenario.dim s) (λ n. cell_pushes_are (t n) dim (alternates scenario n) s) count;
+      cell_pops_are = λ s. popped_all 2 (cell_traffic scenario) cell_start cell_end cell_new cell_does s
+          ∙ in_traversals (is_pop_from s) (λ n. traversal_cell_ops (t n)) (cell_pops scenario.dim s) (λ n. cell_pops_are (t n) dim (alternates scenario n) s) count;
+      vertices_out = omega (arith, most);
+      cells_out = cell_most;
+    }
+
+-- the text of a scenario is that of the walk by address
+pub text_is : (scenario : Scenario) → IsDim scenario.dim → scenario_text scenario ≡ traversals_text (traces scenario.trace) scenario.dim scenario.traversals
+text_is scenario dim = sym (traversals_are (traces scenario.trace) scenario.dim dim.1 scenario.traversals)
