@@ -16,3 +16,4 @@ pub mod StackFlows
 pub mod Mirrored
 pub mod Tallying
 pub mod Totals
+pub mod Turnover

@@ -29,7 +29,7 @@ flipped : (b : Bool) → cond {A = ℕ} b 0 1 ≡ cond (not b) 1 0
 flipped true = refl
 flipped false = refl
 
-and_true : (a : Bool) → (a && true) ≡ a
+pub and_true : (a : Bool) → (a && true) ≡ a
 and_true true = refl
 and_true false = refl
 
@@ -45,7 +45,7 @@ count_two : {X Y : Type 0} (p : Y → Bool) (q r : X → Bool) (f : X → List Y
 count_two p q r f [] each = refl
 count_two p q r f (x ∷ xs) each = omega (arith, count_by-append p (f x) (flat_map f xs), count_cons q x xs, count_cons r x xs, each x, count_two p q r f xs each)
 
-unless : (b : Bool) (i f : ℕ → Bool) (ks : List ℕ) → count_by (λ k. i k && (f k && not b)) ks ≡ cond b 0 (count_by (λ k. i k && f k) ks)
+pub unless : (b : Bool) (i f : ℕ → Bool) (ks : List ℕ) → count_by (λ k. i k && (f k && not b)) ks ≡ cond b 0 (count_by (λ k. i k && f k) ks)
 unless true i f ks = never (λ k. i k && (f k && false)) ks (λ k. ap (λ c. i k && c) (and_none (f k)) ∙ and_none (i k))
 unless false i f ks = count_same (λ k. i k && (f k && true)) (λ k. i k && f k) ks (λ k. ap (λ c. i k && c) (and_true (f k)))
 

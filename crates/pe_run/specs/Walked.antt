@@ -8,11 +8,12 @@ use Rattle.pe_base.specs.Curve.{children}
 use Rattle.pe_base.specs.Kinds.{is_inside}
 use Rattle.pe_base.specs.Faces.{Face, face_on, across, is_on, is_step}
 use Rattle.pe_base.specs.Working.{Firing}
-use Rattle.pe_base.specs.Traces.{trace_text}
+use Rattle.pe_base.specs.Traces.{trace_text, tally_line}
 use Rattle.pe_stacks.specs.Grid.{input_stack, output_stack, cell_input_stack, cell_output_stack}
 use Rattle.pe_run.specs.declared.walk.traversal.Traversal.{Traversal}
 use Rattle.pe_run.specs.Trace.{traces}
-use Rattle.pe_run.specs.LevelOne.{is_first, is_last}
+use Rattle.pe_run.specs.declared.scenario.Scenario.{Scenario}
+use Rattle.pe_run.specs.LevelOne.{is_first, is_last, traversal_firings, tally_of}
 use Rattle.pe_access.specs.declared.route.Route.{Route}
 use Rattle.pe_access.specs.declared.route.Route.TheVariants.{Stream, Temp}
 use Rattle.pe_run.specs.Traffic.{Op, lends, gives_up, pushes, pops}
@@ -117,3 +118,22 @@ traversal_vertex_ops traversal =
 
 abbrev pub traversal_cell_ops : Traversal → List Op
 traversal_cell_ops traversal = flat_map (λ cell. cell_ops traversal) (children traversal.dim (way_of traversal.number) root)
+
+-- what a traversal prints: the trace lines of its events, and its tally
+abbrev pub traversal_text : Traversal → List ℕ
+traversal_text traversal =
+    fired traversal (traversal_firings traversal.dim traversal.number) ++ tally_line (tally_of traversal.number (traversal_firings traversal.dim traversal.number))
+
+-- a traversal of a scenario, by its number
+abbrev pub traversal_at : Scenario → ℕ → Traversal
+traversal_at scenario number = record { trace = scenario.trace; dim = scenario.dim; number = number; swapped = number % 2 == 0 }
+
+-- what all traversals of a scenario print, and what they do with vertices and with cells
+abbrev pub scenario_text : Scenario → List ℕ
+scenario_text scenario = flat_map (λ number. traversal_text (traversal_at scenario number)) (range_with_len 1 scenario.traversals)
+
+abbrev pub vertex_traffic : Scenario → List Op
+vertex_traffic scenario = flat_map (λ number. traversal_vertex_ops (traversal_at scenario number)) (range_with_len 1 scenario.traversals)
+
+abbrev pub cell_traffic : Scenario → List Op
+cell_traffic scenario = flat_map (λ number. traversal_cell_ops (traversal_at scenario number)) (range_with_len 1 scenario.traversals)
