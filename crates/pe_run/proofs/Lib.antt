@@ -17,3 +17,4 @@ pub mod Mirrored
 pub mod Tallying
 pub mod Totals
 pub mod Turnover
+pub mod Numbered

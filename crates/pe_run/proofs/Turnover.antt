@@ -29,8 +29,15 @@ use Rattle.pe_run.proofs.Totals.{count_same, and_true, reads, writes, unless, in
 flat_reverse : {X Y : Type 0} (p : Y → Bool) (f : X → List Y) (xs : List X) → count_by p (flat_map f (reverse xs)) ≡ count_by p (flat_map f xs)
 flat_reverse p f [] = refl
 flat_reverse p f (x ∷ xs) =
-    omega (arith, ap (λ ys. count_by p (flat_map f ys)) (reverse-cons x xs), ap (count_by p) (flat_map-append f (reverse xs) (x ∷ [])), count_by-append p (flat_map f (reverse xs)) (f x ++ []), ap (count_by p) (append-nil (f x)),
-    count_by-append p (f x) (flat_map f xs), flat_reverse p f xs)
+    omega (
+      arith,
+      ap (λ ys. count_by p (flat_map f ys)) (reverse-cons x xs),
+      ap (count_by p) (flat_map-append f (reverse xs) (x ∷ [])),
+      count_by-append p (flat_map f (reverse xs)) (f x ++ []),
+      ap (count_by p) (append-nil (f x)),
+      count_by-append p (f x) (flat_map f xs),
+      flat_reverse p f xs,
+    )
 
 count_each_in : {X Y Z : Type 0} (p : Y → Bool) (q : Z → Bool) (f : X → List Y) (g : X → List Z) (xs : List X) → Each (λ x. count_by p (f x) ≡ count_by q (g x)) xs → count_by p (flat_map f xs) ≡ count_by q (flat_map g xs)
 count_each_in p q f g [] each = refl

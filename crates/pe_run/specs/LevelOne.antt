@@ -62,12 +62,13 @@ count_of event firings = count_by (λ firing. number_of firing.event == number_o
 -- what a tally has counted when these have fired
 abbrev pub tally_of : ℕ → List Firing → Tally
 tally_of traversal firings = record {
-    traversal = traversal;
-    way = way_of traversal;
-    cells = count_of EnterCell firings;
-    read = if traversal == 1 then 0 else count_of TouchVertexFirstTime firings;
-    written = count_of TouchVertexLastTime firings;
-    created = count_of CreateInnerVertex firings;
-    destroyed = 0;
-    hanging = count_of CreateHangingVertex firings;
-    deepest = fold max 0 (map (λ firing. firing.place.level) (filter (λ firing. number_of firing.event == number_of EnterCell) firings)) }
+  traversal = traversal;
+  way = way_of traversal;
+  cells = count_of EnterCell firings;
+  read = if traversal == 1 then 0 else count_of TouchVertexFirstTime firings;
+  written = count_of TouchVertexLastTime firings;
+  created = count_of CreateInnerVertex firings;
+  destroyed = 0;
+  hanging = count_of CreateHangingVertex firings;
+  deepest = fold max 0 (map (λ firing. firing.place.level) (filter (λ firing. number_of firing.event == number_of EnterCell) firings));
+}

@@ -8,7 +8,7 @@ mod walk;
 #[cfg(test)]
 mod walk_rows;
 
-pub use scenario::{SceneFault, Scenario, read_scenario};
+pub use scenario::{Scenario, SceneFault, read_scenario};
 pub use status::Stop;
 pub use trace::Trace;
 pub use walk::traverse_all;

@@ -2,16 +2,19 @@
 use crate::{Scenario, Trace, traverse_all};
 use pe_base::{Dim, Event, Fields};
 use pe_io::{MemSink, Sink};
-use pe_stacks::{CellRec, Depot, Vertex, VecDepot};
+use pe_stacks::{CellRec, Depot, VecDepot, Vertex};
 use std::alloc::Global;
 use std::process::Abort;
 use std::test::Fail;
 
-const ENTERED: &str = "enter_cell 1 0 0\nenter_cell 1 0 1\nenter_cell 1 0 2\nenter_cell 1 1 2\nenter_cell 1 1 1\nenter_cell 1 1 0\nenter_cell 1 2 0\nenter_cell 1 2 1\nenter_cell 1 2 2\ntraversal 1 forward cells 9 in 0 out 4 created 4 destroyed 0 hanging 20\n";
+const ENTERED: &str =
+    "enter_cell 1 0 0\nenter_cell 1 0 1\nenter_cell 1 0 2\nenter_cell 1 1 2\nenter_cell 1 1 1\nenter_cell 1 1 0\nenter_cell 1 2 0\nenter_cell 1 2 1\nenter_cell 1 2 2\ntraversal 1 forward cells 9 in 0 out 4 created 4 destroyed 0 hanging 20\n";
 
-const BACK: &str = "enter_cell 1 2 2\nenter_cell 1 2 1\nenter_cell 1 2 0\nenter_cell 1 1 0\nenter_cell 1 1 1\nenter_cell 1 1 2\nenter_cell 1 0 2\nenter_cell 1 0 1\nenter_cell 1 0 0\ntraversal 2 inverted cells 9 in 4 out 4 created 0 destroyed 0 hanging 20\n";
+const BACK: &str =
+    "enter_cell 1 2 2\nenter_cell 1 2 1\nenter_cell 1 2 0\nenter_cell 1 1 0\nenter_cell 1 1 1\nenter_cell 1 1 2\nenter_cell 1 0 2\nenter_cell 1 0 1\nenter_cell 1 0 0\ntraversal 2 inverted cells 9 in 4 out 4 created 0 destroyed 0 hanging 20\n";
 
-const HANGING: &str = "create_hanging_vertex 1 0 1\ncreate_hanging_vertex 1 1 0\ncreate_hanging_vertex 1 0 0\n";
+const HANGING: &str =
+    "create_hanging_vertex 1 0 1\ncreate_hanging_vertex 1 1 0\ncreate_hanging_vertex 1 0 0\n";
 
 fn check_walk(
     rt: &impl Abort,
