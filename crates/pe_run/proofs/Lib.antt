@@ -24,3 +24,5 @@ pub mod StackFlows
 pub mod Mirrored
 pub mod Tallying
 pub mod Totals
+pub mod Turnover
+pub mod Numbered

@@ -33,8 +33,15 @@ module _ {X : Type 0} where
       let back : reverse (x ∷ y ∷ zs) ≡ (reverse zs ++ y ∷ []) ++ x ∷ [] = reverse-cons x (y ∷ zs) ∙ ap (λ ws. ws ++ x ∷ []) (reverse-cons y zs) in
       let parts = ap (λ ws. filter (λ (step : X × X). p step.1) (steps ws)) back ∙ ap (filter (λ (step : X × X). p step.1)) (steps_snoc (reverse zs) y x ∙ ap (λ ws. steps ws ++ (y, x) ∷ []) (sym (reverse-cons y zs)))
       ∙ filter-append (λ (step : X × X). p step.1) (steps (reverse (y ∷ zs))) ((y, x) ∷ []) in
-      omega (arith, ap length parts, length-append (filter (λ (step : X × X). p step.1) (steps (reverse (y ∷ zs)))) (filter (λ (step : X × X). p step.1) ((y, x) ∷ [])), steps_reversed p (y ∷ zs), one_step p x y (y, x) (x, y) refl refl,
-      ap length (filter-append (λ (step : X × X). p step.0) ((x, y) ∷ []) (steps (y ∷ zs))), length-append (filter (λ (step : X × X). p step.0) ((x, y) ∷ [])) (filter (λ (step : X × X). p step.0) (steps (y ∷ zs))))
+      omega (
+        arith,
+        ap length parts,
+        length-append (filter (λ (step : X × X). p step.1) (steps (reverse (y ∷ zs)))) (filter (λ (step : X × X). p step.1) ((y, x) ∷ [])),
+        steps_reversed p (y ∷ zs),
+        one_step p x y (y, x) (x, y) refl refl,
+        ap length (filter-append (λ (step : X × X). p step.0) ((x, y) ∷ []) (steps (y ∷ zs))),
+        length-append (filter (λ (step : X × X). p step.0) ((x, y) ∷ [])) (filter (λ (step : X × X). p step.0) (steps (y ∷ zs))),
+      )
 
 -- the cells around a vertex of level 1, in the other way
 around_opposite : (axes : ℕ) (way : Way) (pos : List ℕ) → let vertex : Place = record { level = 1; pos = pos } in around axes (opposite way) vertex ≡ reverse (around axes way vertex)

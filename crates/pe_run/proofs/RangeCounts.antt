@@ -25,7 +25,6 @@ one_picked q f p s low (suc n) this others above below = elim (cases_eq low s) [
   | inr other ↦ later (p low) (one_picked q f p s (low + 1) n this others (omega arith) (omega arith)) other
 ]
   where
-
     here : (b : Bool) → p low ≡ b → low ≡ s → count_by q (map f (cond (p low) (low ∷ filter p (range_with_len (low + 1) n)) (filter p (range_with_len (low + 1) n)))) ≡ cond (p s) 1 0
     here b is same =
         let none : count_by q (map f (filter p (range_with_len (low + 1) n))) ≡ 0 = none_picked q f p (low + 1) n (λ x above. others x (omega arith)) in

@@ -39,9 +39,17 @@ module _ (t : Traversal) (s : ℕ) (below : s < 2 * t.dim) (four : t.dim ≤ 4) 
   balanced_turns (cell ∷ cells) before after turns =
       let takes = in_corners t.dim (way_of t.number) (is_inside t.dim) (face_on (s / 2) (s % 2) cell) cell in
       let gives = out_corners t.dim (way_of t.number) (is_inside t.dim) (face_on (s / 2) (s % 2) cell) cell in
-      omega (arith, ap length turns.1, length-append takes turns.0, length-append gives turns.0, takes_count t cell s below four, gives_count t cell s below four,
-      balanced_turns cells (gives ++ turns.0) after turns.3,
-      count_by-append (is_pop_from s) (vertex_ops t cell) (flat_map (vertex_ops t) cells), count_by-append (is_push_on s) (vertex_ops t cell) (flat_map (vertex_ops t) cells))
+      omega (
+        arith,
+        ap length turns.1,
+        length-append takes turns.0,
+        length-append gives turns.0,
+        takes_count t cell s below four,
+        gives_count t cell s below four,
+        balanced_turns cells (gives ++ turns.0) after turns.3,
+        count_by-append (is_pop_from s) (vertex_ops t cell) (flat_map (vertex_ops t) cells),
+        count_by-append (is_push_on s) (vertex_ops t cell) (flat_map (vertex_ops t) cells),
+      )
 
   -- on a temporary stack
   pub flows_temporary : Flows t s (children t.dim (way_of t.number) root) 0

@@ -93,12 +93,15 @@ module _ (t : Traversal) (cell : Place) where
   abbrev pub born : Bool
   born = t.number == 1
 
-
   pub in_cell : (event : Event) → count_of event (cell_firings t.dim t.number cell) ≡ count_of event (corner_loads t.dim t.number cell) + count_of event (visit t.number cell) + count_of event (corner_stores t.dim t.number cell)
   in_cell event =
       let test = λ (firing : Firing). number_of firing.event == number_of event in
-      omega (arith, ap (count_by test) (cell_parts t.dim t.number cell), count_by-append test (corner_loads t.dim t.number cell ++ visit t.number cell) (corner_stores t.dim t.number cell),
-      count_by-append test (corner_loads t.dim t.number cell) (visit t.number cell))
+      omega (
+        arith,
+        ap (count_by test) (cell_parts t.dim t.number cell),
+        count_by-append test (corner_loads t.dim t.number cell ++ visit t.number cell) (corner_stores t.dim t.number cell),
+        count_by-append test (corner_loads t.dim t.number cell) (visit t.number cell),
+      )
 
   pub not_in_loads : (event : Event) → count_of event (fires CreateInnerVertex root root ∷ []) ≡ 0 → count_of event (fires TouchVertexFirstTime root root ∷ []) ≡ 0 → count_of event (fires CreateHangingVertex root root ∷ []) ≡ 0
       → count_of event (corner_loads t.dim t.number cell) ≡ 0
@@ -118,9 +121,20 @@ module _ (t : Traversal) (cell : Place) where
   entered = omega (arith, in_cell EnterCell, not_in_loads EnterCell refl refl refl, not_in_stores EnterCell refl refl, visit_of EnterCell refl)
 
   pub firsts : count_of TouchVertexFirstTime (cell_firings t.dim t.number cell) ≡ count_by (λ k. inside k && first k) (range_with_len 0 (2 ^ t.dim))
-  firsts = omega (arith, in_cell TouchVertexFirstTime, not_in_stores TouchVertexFirstTime refl refl, visit_of TouchVertexFirstTime refl,
-      count_ones _ (λ k. inside k && first k) (load_firings t.dim t.number cell) (reverse (range_with_len 0 (2 ^ t.dim))) (λ k. touched_first (inside k) (first k) born (corner t.dim cell k) cell), count_reverse (λ k. inside k && first k) (range_with_len 0 (2 ^ t.dim)))
+  firsts = omega (
+    arith,
+    in_cell TouchVertexFirstTime,
+    not_in_stores TouchVertexFirstTime refl refl,
+    visit_of TouchVertexFirstTime refl,
+    count_ones _ (λ k. inside k && first k) (load_firings t.dim t.number cell) (reverse (range_with_len 0 (2 ^ t.dim))) (λ k. touched_first (inside k) (first k) born (corner t.dim cell k) cell),
+    count_reverse (λ k. inside k && first k) (range_with_len 0 (2 ^ t.dim)),
+  )
 
   pub lasts : count_of TouchVertexLastTime (cell_firings t.dim t.number cell) ≡ count_by (λ k. inside k && last k) (range_with_len 0 (2 ^ t.dim))
-  lasts = omega (arith, in_cell TouchVertexLastTime, not_in_loads TouchVertexLastTime refl refl refl, visit_of TouchVertexLastTime refl,
-      count_ones _ (λ k. inside k && last k) (store_firings t.dim t.number cell) (range_with_len 0 (2 ^ t.dim)) (λ k. touched_last (inside k) (last k) (corner t.dim cell k) cell))
+  lasts = omega (
+    arith,
+    in_cell TouchVertexLastTime,
+    not_in_loads TouchVertexLastTime refl refl refl,
+    visit_of TouchVertexLastTime refl,
+    count_ones _ (λ k. inside k && last k) (store_firings t.dim t.number cell) (range_with_len 0 (2 ^ t.dim)) (λ k. touched_last (inside k) (last k) (corner t.dim cell k) cell),
+  )

@@ -29,7 +29,7 @@ flipped : (b : Bool) → cond {A = ℕ} b 0 1 ≡ cond (not b) 1 0
 flipped true = refl
 flipped false = refl
 
-and_true : (a : Bool) → (a && true) ≡ a
+pub and_true : (a : Bool) → (a && true) ≡ a
 and_true true = refl
 and_true false = refl
 
@@ -45,15 +45,19 @@ count_two : {X Y : Type 0} (p : Y → Bool) (q r : X → Bool) (f : X → List Y
 count_two p q r f [] each = refl
 count_two p q r f (x ∷ xs) each = omega (arith, count_by-append p (f x) (flat_map f xs), count_cons q x xs, count_cons r x xs, each x, count_two p q r f xs each)
 
-unless : (b : Bool) (i f : ℕ → Bool) (ks : List ℕ) → count_by (λ k. i k && (f k && not b)) ks ≡ cond b 0 (count_by (λ k. i k && f k) ks)
+pub unless : (b : Bool) (i f : ℕ → Bool) (ks : List ℕ) → count_by (λ k. i k && (f k && not b)) ks ≡ cond b 0 (count_by (λ k. i k && f k) ks)
 unless true i f ks = never (λ k. i k && (f k && false)) ks (λ k. ap (λ c. i k && c) (and_none (f k)) ∙ and_none (i k))
 unless false i f ks = count_same (λ k. i k && (f k && true)) (λ k. i k && f k) ks (λ k. ap (λ c. i k && c) (and_true (f k)))
 
 module _ (t : Traversal) (four : t.dim ≤ 4) (cell : Place) where
   -- what a cell reads and writes
   pub reads : count_by (is_pop_from (input_of t)) (vertex_ops t cell) ≡ count_by (λ k. inside t cell k && (first t cell k && not (t.number == 1))) (range_with_len 0 (2 ^ t.dim))
-  reads = omega (arith, cell_read t four cell, count_ones (is_pop_from (input_of t)) (λ k. inside t cell k && (first t cell k && not (t.number == 1))) (load_ops t cell) (reverse (range_with_len 0 (2 ^ t.dim))) (λ k. load_read t four cell k),
-      count_reverse (λ k. inside t cell k && (first t cell k && not (t.number == 1))) (range_with_len 0 (2 ^ t.dim)))
+  reads = omega (
+    arith,
+    cell_read t four cell,
+    count_ones (is_pop_from (input_of t)) (λ k. inside t cell k && (first t cell k && not (t.number == 1))) (load_ops t cell) (reverse (range_with_len 0 (2 ^ t.dim))) (λ k. load_read t four cell k),
+    count_reverse (λ k. inside t cell k && (first t cell k && not (t.number == 1))) (range_with_len 0 (2 ^ t.dim)),
+  )
 
   pub writes : count_by (is_push_on (output_of t)) (vertex_ops t cell) ≡ count_by (λ k. inside t cell k && last t cell k) (range_with_len 0 (2 ^ t.dim))
   writes = omega (arith, cell_written t four cell, count_ones (is_push_on (output_of t)) (λ k. inside t cell k && last t cell k) (store_ops t cell) (range_with_len 0 (2 ^ t.dim)) (λ k. store_written t four cell k))
@@ -65,25 +69,46 @@ module _ (t : Traversal) (four : t.dim ≤ 4) (cell : Place) where
   written_fired = writes ∙ sym (lasts t cell)
 
   hanging_fired : count_of CreateHangingVertex (cell_firings t.dim t.number cell) ≡ count_by (λ k. not (inside t cell k)) (range_with_len 0 (2 ^ t.dim))
-  hanging_fired = omega (arith, in_cell t cell CreateHangingVertex, not_in_stores t cell CreateHangingVertex refl refl, visit_of t cell CreateHangingVertex refl,
-      count_ones _ (λ k. not (inside t cell k)) (load_firings t.dim t.number cell) (reverse (range_with_len 0 (2 ^ t.dim))) (λ k. hung (inside t cell k) (first t cell k) (t.number == 1) (corner t.dim cell k) cell ∙ flipped (inside t cell k)),
-      count_reverse (λ k. not (inside t cell k)) (range_with_len 0 (2 ^ t.dim)))
+  hanging_fired = omega (
+    arith,
+    in_cell t cell CreateHangingVertex,
+    not_in_stores t cell CreateHangingVertex refl refl,
+    visit_of t cell CreateHangingVertex refl,
+    count_ones _ (λ k. not (inside t cell k)) (load_firings t.dim t.number cell) (reverse (range_with_len 0 (2 ^ t.dim))) (λ k. hung (inside t cell k) (first t cell k) (t.number == 1) (corner t.dim cell k) cell ∙ flipped (inside t cell k)),
+    count_reverse (λ k. not (inside t cell k)) (range_with_len 0 (2 ^ t.dim)),
+  )
 
   inner_fired : count_of CreateInnerVertex (cell_firings t.dim t.number cell) ≡ count_by (λ k. inside t cell k && (first t cell k && (t.number == 1))) (range_with_len 0 (2 ^ t.dim))
-  inner_fired = omega (arith, in_cell t cell CreateInnerVertex, not_in_stores t cell CreateInnerVertex refl refl, visit_of t cell CreateInnerVertex refl,
-      count_ones _ (λ k. inside t cell k && (first t cell k && (t.number == 1))) (load_firings t.dim t.number cell) (reverse (range_with_len 0 (2 ^ t.dim))) (λ k. created (inside t cell k) (first t cell k) (t.number == 1) (corner t.dim cell k) cell),
-      count_reverse (λ k. inside t cell k && (first t cell k && (t.number == 1))) (range_with_len 0 (2 ^ t.dim)))
+  inner_fired = omega (
+    arith,
+    in_cell t cell CreateInnerVertex,
+    not_in_stores t cell CreateInnerVertex refl refl,
+    visit_of t cell CreateInnerVertex refl,
+    count_ones _ (λ k. inside t cell k && (first t cell k && (t.number == 1))) (load_firings t.dim t.number cell) (reverse (range_with_len 0 (2 ^ t.dim))) (λ k. created (inside t cell k) (first t cell k) (t.number == 1) (corner t.dim cell k) cell),
+    count_reverse (λ k. inside t cell k && (first t cell k && (t.number == 1))) (range_with_len 0 (2 ^ t.dim)),
+  )
 
   lent_fired : count_by is_lend (vertex_ops t cell) ≡ count_of CreateInnerVertex (cell_firings t.dim t.number cell) + count_of CreateHangingVertex (cell_firings t.dim t.number cell)
-  lent_fired = omega (arith, count_by-append is_lend (cell_loads t cell) (cell_stores t cell), stores_none t cell is_lend refl (λ s. refl),
-      count_two is_lend (λ k. inside t cell k && (first t cell k && (t.number == 1))) (λ k. not (inside t cell k)) (load_ops t cell) (reverse (range_with_len 0 (2 ^ t.dim)))
-      (λ k. lent_for (inside t cell k) (first t cell k) (t.number == 1) (input_of t) (stacks_to t (corner t.dim cell k) cell) ∙ ap (λ n. cond (inside t cell k && (first t cell k && (t.number == 1))) 1 0 + n) (flipped (inside t cell k))),
-      count_reverse (λ k. inside t cell k && (first t cell k && (t.number == 1))) (range_with_len 0 (2 ^ t.dim)), count_reverse (λ k. not (inside t cell k)) (range_with_len 0 (2 ^ t.dim)), inner_fired, hanging_fired)
+  lent_fired = omega (
+    arith,
+    count_by-append is_lend (cell_loads t cell) (cell_stores t cell),
+    stores_none t cell is_lend refl (λ s. refl),
+    count_two is_lend (λ k. inside t cell k && (first t cell k && (t.number == 1))) (λ k. not (inside t cell k)) (load_ops t cell) (reverse (range_with_len 0 (2 ^ t.dim)))
+        (λ k. lent_for (inside t cell k) (first t cell k) (t.number == 1) (input_of t) (stacks_to t (corner t.dim cell k) cell) ∙ ap (λ n. cond (inside t cell k && (first t cell k && (t.number == 1))) 1 0 + n) (flipped (inside t cell k))),
+    count_reverse (λ k. inside t cell k && (first t cell k && (t.number == 1))) (range_with_len 0 (2 ^ t.dim)),
+    count_reverse (λ k. not (inside t cell k)) (range_with_len 0 (2 ^ t.dim)),
+    inner_fired,
+    hanging_fired,
+  )
 
   given_fired : count_by is_give_up (vertex_ops t cell) ≡ count_of CreateHangingVertex (cell_firings t.dim t.number cell)
-  given_fired = omega (arith, count_by-append is_give_up (cell_loads t cell) (cell_stores t cell), loads_none t cell is_give_up refl (λ s. refl),
-      count_ones is_give_up (λ k. not (inside t cell k)) (store_ops t cell) (range_with_len 0 (2 ^ t.dim)) (λ k. given_for (inside t cell k) (last t cell k) (output_of t) (stacks_from t (corner t.dim cell k) cell) ∙ flipped (inside t cell k)),
-      hanging_fired)
+  given_fired = omega (
+    arith,
+    count_by-append is_give_up (cell_loads t cell) (cell_stores t cell),
+    loads_none t cell is_give_up refl (λ s. refl),
+    count_ones is_give_up (λ k. not (inside t cell k)) (store_ops t cell) (range_with_len 0 (2 ^ t.dim)) (λ k. given_for (inside t cell k) (last t cell k) (output_of t) (stacks_from t (corner t.dim cell k) cell) ∙ flipped (inside t cell k)),
+    hanging_fired,
+  )
 
   cell_pushed : count_by (is_push_on (cell_output_of t)) (cell_ops t) ≡ count_of EnterCell (cell_firings t.dim t.number cell)
   cell_pushed = go (t.number == 1) ∙ sym (entered t cell)
@@ -108,12 +133,24 @@ module _ (t : Traversal) (four : t.dim ≤ 4) where
       omega (arith, a, b, count_by-append test (fires BeginIteration root root ∷ [] ++ fired_below) (fires EndIteration root root ∷ []), count_by-append test (fires BeginIteration root root ∷ []) fired_below)
 
   all_written : count_by (is_push_on (output_of t)) (traversal_vertex_ops t) ≡ count_of TouchVertexLastTime (traversal_firings t.dim t.number)
-  all_written = omega (arith, in_traversal (is_push_on (output_of t)), none_repeated (is_push_on (output_of t)) lends (2 ^ t.dim) refl, none_repeated (is_push_on (output_of t)) gives_up (2 ^ t.dim) refl,
-      count_each _ _ (vertex_ops t) (cell_firings t.dim t.number) kids (λ cell. written_fired t four cell), fired_in TouchVertexLastTime refl refl)
+  all_written = omega (
+    arith,
+    in_traversal (is_push_on (output_of t)),
+    none_repeated (is_push_on (output_of t)) lends (2 ^ t.dim) refl,
+    none_repeated (is_push_on (output_of t)) gives_up (2 ^ t.dim) refl,
+    count_each _ _ (vertex_ops t) (cell_firings t.dim t.number) kids (λ cell. written_fired t four cell),
+    fired_in TouchVertexLastTime refl refl,
+  )
 
   all_read : count_by (is_pop_from (input_of t)) (traversal_vertex_ops t) ≡ cond (t.number == 1) 0 (count_of TouchVertexFirstTime (traversal_firings t.dim t.number))
-  all_read = omega (arith, in_traversal (is_pop_from (input_of t)), none_repeated (is_pop_from (input_of t)) lends (2 ^ t.dim) refl, none_repeated (is_pop_from (input_of t)) gives_up (2 ^ t.dim) refl, over (t.number == 1) kids (λ cell. read_fired t four cell),
-      ap (λ n. cond (t.number == 1) 0 n) (fired_in TouchVertexFirstTime refl refl))
+  all_read = omega (
+    arith,
+    in_traversal (is_pop_from (input_of t)),
+    none_repeated (is_pop_from (input_of t)) lends (2 ^ t.dim) refl,
+    none_repeated (is_pop_from (input_of t)) gives_up (2 ^ t.dim) refl,
+    over (t.number == 1) kids (λ cell. read_fired t four cell),
+    ap (λ n. cond (t.number == 1) 0 n) (fired_in TouchVertexFirstTime refl refl),
+  )
     where
       over : (b : Bool) (cells : List Place) → ((cell : Place) → count_by (is_pop_from (input_of t)) (vertex_ops t cell) ≡ cond b 0 (count_of TouchVertexFirstTime (cell_firings t.dim t.number cell)))
           → count_by (is_pop_from (input_of t)) (flat_map (vertex_ops t) cells) ≡ cond b 0 (count_of TouchVertexFirstTime (flat_map (cell_firings t.dim t.number) cells))
@@ -122,18 +159,28 @@ module _ (t : Traversal) (four : t.dim ≤ 4) where
       over false cells each = count_each _ _ (vertex_ops t) (cell_firings t.dim t.number) cells each
 
   all_given : count_by is_give_up (traversal_vertex_ops t) ≡ count_of CreateHangingVertex (traversal_firings t.dim t.number) + 2 ^ t.dim
-  all_given = omega (arith, in_traversal is_give_up, none_repeated is_give_up lends (2 ^ t.dim) refl, all_repeated is_give_up gives_up (2 ^ t.dim) refl,
-      count_each _ _ (vertex_ops t) (cell_firings t.dim t.number) kids (λ cell. given_fired t four cell), fired_in CreateHangingVertex refl refl)
+  all_given = omega (
+    arith,
+    in_traversal is_give_up,
+    none_repeated is_give_up lends (2 ^ t.dim) refl,
+    all_repeated is_give_up gives_up (2 ^ t.dim) refl,
+    count_each _ _ (vertex_ops t) (cell_firings t.dim t.number) kids (λ cell. given_fired t four cell),
+    fired_in CreateHangingVertex refl refl,
+  )
 
   all_lent : count_by is_lend (traversal_vertex_ops t) ≡ count_of CreateInnerVertex (traversal_firings t.dim t.number) + count_of CreateHangingVertex (traversal_firings t.dim t.number) + 2 ^ t.dim
   all_lent = omega (arith, in_traversal is_lend, all_repeated is_lend lends (2 ^ t.dim) refl, none_repeated is_lend gives_up (2 ^ t.dim) refl, over kids, fired_in CreateInnerVertex refl refl, fired_in CreateHangingVertex refl refl)
     where
       over : (cells : List Place) → count_by is_lend (flat_map (vertex_ops t) cells) ≡ count_of CreateInnerVertex (flat_map (cell_firings t.dim t.number) cells) + count_of CreateHangingVertex (flat_map (cell_firings t.dim t.number) cells)
       over [] = refl
-      over (cell ∷ cells) = omega (arith, count_by-append is_lend (vertex_ops t cell) (flat_map (vertex_ops t) cells),
-          count_by-append (λ (firing : Firing). number_of firing.event == number_of CreateInnerVertex) (cell_firings t.dim t.number cell) (flat_map (cell_firings t.dim t.number) cells),
-          count_by-append (λ (firing : Firing). number_of firing.event == number_of CreateHangingVertex) (cell_firings t.dim t.number cell) (flat_map (cell_firings t.dim t.number) cells),
-          lent_fired t four cell, over cells)
+      over (cell ∷ cells) = omega (
+        arith,
+        count_by-append is_lend (vertex_ops t cell) (flat_map (vertex_ops t) cells),
+        count_by-append (λ (firing : Firing). number_of firing.event == number_of CreateInnerVertex) (cell_firings t.dim t.number cell) (flat_map (cell_firings t.dim t.number) cells),
+        count_by-append (λ (firing : Firing). number_of firing.event == number_of CreateHangingVertex) (cell_firings t.dim t.number cell) (flat_map (cell_firings t.dim t.number) cells),
+        lent_fired t four cell,
+        over cells,
+      )
 
   all_entered : count_by (is_push_on (cell_output_of t)) (traversal_cell_ops t) ≡ count_of EnterCell (traversal_firings t.dim t.number)
   all_entered = count_each _ _ (λ (cell : Place). cell_ops t) (cell_firings t.dim t.number) kids (λ cell. cell_pushed t four cell) ∙ sym (fired_in EnterCell refl refl)

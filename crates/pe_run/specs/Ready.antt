@@ -13,8 +13,6 @@ pub record Ready {V C : Type 0} (traversal : Traversal) (vertices : Holdings V) 
   pub cell_input : len_at cells (cell_input_of traversal) ≡ count_by (is_pop_from (cell_input_of traversal)) (traversal_cell_ops traversal)
   pub cell_output : len_at cells (cell_output_of traversal) ≡ 0
 
--- a traversal comes after another: the streams are exchanged
-pub record IsNext (first second : Traversal) : Type 0 where
-  pub dim : second.dim ≡ first.dim
-  pub number : second.number ≡ first.number + 1
-  pub swapped : second.swapped ≡ not first.swapped
+-- the traversal after another: the streams are exchanged
+abbrev pub after : Traversal → Traversal
+after traversal = record traversal { number = traversal.number + 1; swapped = not traversal.swapped }

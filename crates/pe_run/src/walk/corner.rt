@@ -194,10 +194,7 @@ fn create_inner<K: Sink, D: Depot<Vertex<Fields>>>(
 }
 
 // A vertex is read.
-fn read_vertex<D: Depot<Vertex<Fields>>>(
-    traversal: &Traversal,
-    vertices: &mut D,
-) -> Vertex<Fields>
+fn read_vertex<D: Depot<Vertex<Fields>>>(traversal: &Traversal, vertices: &mut D) -> Vertex<Fields>
     requires stacks { stack_count (D.holds vertices.old) ≡ 10 }
     requires counts { CountsWithin (D.holds vertices.old) (2 ^ 62) }
     requires full { 0 < len_at (D.holds vertices.old) (input_of traversal.now) }

@@ -7,7 +7,7 @@ ghost use Rattle.pe_base.specs.Places.{IsCellPlace, corner, root};
 ghost use Rattle.pe_base.specs.Curve.{children};
 ghost use Rattle.pe_base.specs.Ways.{way_of};
 ghost use Rattle.pe_base.specs.Working.{fires};
-ghost use Rattle.pe_stacks.specs.Holdings.{stack_count, stack_at, len_at, lent, given_up, CountsWithin};
+ghost use Rattle.pe_stacks.specs.Holdings.{stack_count, stack_at, len_at, lent, given_up, new_holdings, CountsWithin};
 ghost use Rattle.pe_access.specs.States.{StandsFor};
 ghost use Rattle.pe_io.specs.Counts.{Rises};
 ghost use Rattle.pe_io.specs.Sink.{Appends, AppendsPrefix};
@@ -15,7 +15,9 @@ ghost use Rattle.pe_run.specs.LevelOne.{first_firings, load_firings, store_firin
 ghost use Rattle.pe_run.specs.Traffic.{lends, gives_up, pushes, pops, is_pop_from, DoesAll, Abandons};
 ghost use Rattle.pe_run.specs.Filled.{FullFrom};
 ghost use Rattle.pe_run.specs.Flows.{Flows};
-ghost use Rattle.pe_run.specs.Walked.{fired, input_of, output_of, first_ops, load_ops, store_ops, cell_loads, cell_stores, vertex_ops, birth_ops, cell_ops, traversal_vertex_ops, traversal_cell_ops};
+ghost use Rattle.pe_run.specs.Ready.{Ready};
+ghost use Rattle.pe_base.specs.Dim.{IsDim};
+ghost use Rattle.pe_run.specs.Walked.{fired, input_of, output_of, first_ops, load_ops, store_ops, cell_loads, cell_stores, vertex_ops, birth_ops, cell_ops, traversal_vertex_ops, traversal_cell_ops, traversal_text, scenario_text, vertex_traffic, cell_traffic};
 
 use crate::scenario::Scenario;
 use crate::status::Stop;
@@ -136,7 +138,26 @@ fn traverse<K: Sink, DV: Depot<Vertex<Fields>>, DC: Depot<CellRec<Fields>>>(
     sink: &mut K,
     vertices: &mut DV,
     cells: &mut DC,
-) -> Result<(), Stop> {
+) -> Result<(), Stop>
+    requires dim { IsDim traversal.now.dim }
+    requires stacks { stack_count (DV.holds vertices.old) ≡ 10 }
+    requires counts { CountsWithin (DV.holds vertices.old) (2 ^ 57) }
+    requires cell_stacks { stack_count (DC.holds cells.old) ≡ 2 }
+    requires cell_counts { CountsWithin (DC.holds cells.old) (2 ^ 57) }
+    requires ready { Ready traversal.now (DV.holds vertices.old) (DC.holds cells.old) }
+    ensures ok { OnOk result (Appends (K.text sink.old) (traversal_text traversal.now) (K.text sink.new)) }
+    ensures err { OnErr result (AppendsPrefix (K.text sink.old) (traversal_text traversal.now) (K.text sink.new)) }
+    ensures faults { K.faults sink.old ≤ K.faults sink.new }
+    ensures failed { result ≡ Err Stop.Sink → Rises (K.faults sink.old) (K.faults sink.new) }
+    ensures moved { OnOk result (DoesAll (traversal_vertex_ops traversal.now) (DV.holds vertices.old) (DV.holds vertices.new)) }
+    ensures dropped { OnErr result (Abandons 0 (DV.holds vertices.old) (DV.holds vertices.new)) }
+    ensures out { OnOk result ((DV.holds vertices.new).out ≡ (DV.holds vertices.old).out) }
+    ensures most { OnOk result ((DV.holds vertices.new).most ≤ max (DV.holds vertices.old).most ((DV.holds vertices.old).out + 2 * 2 ^ traversal.now.dim)) }
+    ensures cell_moved { OnOk result (DoesAll (traversal_cell_ops traversal.now) (DC.holds cells.old) (DC.holds cells.new)) }
+    ensures cell_dropped { OnErr result (Abandons 0 (DC.holds cells.old) (DC.holds cells.new)) }
+    ensures cell_out { OnOk result ((DC.holds cells.new).out ≡ (DC.holds cells.old).out) }
+    ensures cell_most { OnOk result ((DC.holds cells.new).most ≤ max (DC.holds cells.old).most ((DC.holds cells.old).out + 1)) }
+{
     let before = counts_of(traversal, vertices, cells);
     walk_level(traversal, sink, vertices, cells)?;
     let after = counts_of(traversal, vertices, cells);
@@ -155,7 +176,25 @@ pub fn traverse_all<K: Sink, DV: Depot<Vertex<Fields>>, DC: Depot<CellRec<Fields
     sink: &mut K,
     vertices: &mut DV,
     cells: &mut DC,
-) -> Result<(), Stop> {
+) -> Result<(), Stop>
+    requires vertices { DV.holds vertices.old ≡ new_holdings 10 }
+    requires cells { DC.holds cells.old ≡ new_holdings 2 }
+    requires few { scenario.now.traversals ≤ 1000 }
+    ensures ok { OnOk result (Appends (K.text sink.old) (scenario_text scenario.now) (K.text sink.new)) }
+    ensures err { OnErr result (AppendsPrefix (K.text sink.old) (scenario_text scenario.now) (K.text sink.new)) }
+    ensures faults { K.faults sink.old ≤ K.faults sink.new }
+    ensures failed { result ≡ Err Stop.Sink → Rises (K.faults sink.old) (K.faults sink.new) }
+    ensures out { (DV.holds vertices.new).out ≡ 0 }
+    ensures stacks { stack_count (DV.holds vertices.new) ≡ 10 }
+    ensures cell_out { (DC.holds cells.new).out ≡ 0 }
+    ensures cell_stacks { stack_count (DC.holds cells.new) ≡ 2 }
+    ensures traffic { OnOk result (DoesAll (vertex_traffic scenario.now) (DV.holds vertices.old) (DV.holds vertices.new)) }
+    ensures cell_traffic { OnOk result (DoesAll (cell_traffic scenario.now) (DC.holds cells.old) (DC.holds cells.new)) }
+    ensures temporary { OnOk result ((s : ℕ) → s < 8 → len_at (DV.holds vertices.new) s ≡ 0) }
+    ensures most { OnOk result ((DV.holds vertices.new).most ≤ 2 * 2 ^ scenario.now.dim) }
+    ensures cell_most { OnOk result ((DC.holds cells.new).most ≤ 1) }
+{
+    let _axes = scenario.dim.axes();
     let mut grid = Grid::fresh(scenario.dim, Fields::zero());
     for done in 0..scenario.traversals {
         let traversal = Traversal {
