@@ -1,5 +1,5 @@
 -- What a run does with the records of its depots, stack by stack: the traffic of its traversals.
-use Rattle.std.proofs.Common.{◌≡◌, ◌⊎◌, ℕ, zero, suc, ◌+◌, ◌*◌, ◌/◌, ◌%◌, ◌^◌, ◌<◌, ◌≤◌, Bool, true, false, not, ◌&&◌, ◌==◌, nat_lt, cond, List, [], ◌∷◌, ◌++◌, length, replicate, inl, inr, refl, sym, ap, ap₂, ◌∙◌, subst, arith}
+use Rattle.std.proofs.Common.{◌≡◌, ◌⊎◌, ℕ, zero, suc, ◌+◌, ◌*◌, ◌/◌, ◌%◌, ◌^◌, ◌<◌, ◌≤◌, Bool, true, false, not, ◌&&◌, ◌==◌, nat_lt, cond, List, [], ◌∷◌, ◌++◌, length, replicate, Result, Ok, Err, OnOk, inl, inr, refl, sym, ap, ap₂, ◌∙◌, subst, arith}
 use Rattle.std.specs.Prelude.{count_by, slice_index_or, if◌then◌else◌}
 use Rattle.std.specs.List.{flat_map, range_with_len, sum_by}
 use Rattle.std.proofs.lemmas.Bool.{ltb-true, ltb-false, eqb-true, eq-eqb}
@@ -173,3 +173,8 @@ has_traffic scenario start end cell_start cell_end dim new cell_new does cell_do
 -- the text of a scenario is that of the walk by address
 pub text_is : (scenario : Scenario) → IsDim scenario.dim → scenario_text scenario ≡ traversals_text (traces scenario.trace) scenario.dim scenario.traversals
 text_is scenario dim = sym (traversals_are (traces scenario.trace) scenario.dim dim.1 scenario.traversals)
+
+-- what follows of all that holds at the end
+pub all_done : {X E : Type 0} {A B C D Z : Type 0} (result : Result X E) → OnOk result A → OnOk result B → OnOk result C → OnOk result D → (A → B → C → D → Z) → OnOk result Z
+all_done (Ok value) a b c d last = last a b c d
+all_done (Err cause) a b c d last = tt

@@ -180,6 +180,7 @@ pub fn traverse_all<K: Sink, DV: Depot<Vertex<Fields>>, DC: Depot<CellRec<Fields
     requires vertices { DV.holds vertices.old ≡ new_holdings 10 }
     requires cells { DC.holds cells.old ≡ new_holdings 2 }
     requires few { scenario.now.traversals ≤ 1000 }
+    ensures dim { IsDim scenario.now.dim }
     ensures ok { OnOk result (Appends (K.text sink.old) (scenario_text scenario.now) (K.text sink.new)) }
     ensures err { OnErr result (AppendsPrefix (K.text sink.old) (scenario_text scenario.now) (K.text sink.new)) }
     ensures faults { K.faults sink.old ≤ K.faults sink.new }
