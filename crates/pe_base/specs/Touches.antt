@@ -1,6 +1,6 @@
 -- The touches of a vertex: each cell that has it as a corner loads it and stores it once. The first touch is the
 -- one before which it was never loaded, the last one that after which all its cells have loaded it.
-use Rattle.std.specs.Prelude.{ℕ, ◌+◌, ◌^◌, ◌==◌, List, Option, Some, None, if◌then◌else◌}
+use Rattle.std.specs.Prelude.{ℕ, ◌+◌, ◌^◌, ◌==◌, Option, Some, None, if◌then◌else◌}
 use Rattle.std.specs.FinMap as map
 use Rattle.pe_base.specs.declared.place.Place.{Place}
 use Rattle.pe_base.specs.declared.state.State.TheVariants.{Unrefined}

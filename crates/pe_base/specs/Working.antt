@@ -1,6 +1,6 @@
 -- The working state of a traversal by address: what the grid holds at each place, how often each vertex was
 -- loaded, and what has been printed and counted.
-use Rattle.std.specs.Prelude.{ℕ, ◌+◌, max, ℤ, List, if◌then◌else◌}
+use Rattle.std.specs.Prelude.{ℕ, ℤ, List}
 use Rattle.std.specs.Ordering.{nat_cmp, ordering_then}
 use Rattle.std.specs.Cmp.Lexicographic.{slice_cmp}
 use Rattle.std.specs.declared.cmp.Ordering.{Ordering}
