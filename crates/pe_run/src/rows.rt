@@ -156,12 +156,14 @@ fn the_traffic_of_one_traversal(rt: HostRuntime) -> Result<(), Fail> {
         (8, 0, 0),
         (9, 4, 0),
     ] {
+        assert!(rt; s < depots.vertices.stacks());
         assert_eq!(rt; depots.vertices.pushes(s), pushes);
         assert_eq!(rt; depots.vertices.pops(s), pops);
     }
     assert_eq!(rt; depots.vertices.fresh(), 28);
     assert_eq!(rt; depots.vertices.spent(), 28);
     assert_eq!(rt; depots.vertices.most(), 8);
+    assert_eq!(rt; depots.cells.stacks(), 2);
     assert_eq!(rt; depots.cells.pushes(1), 9);
     assert_eq!(rt; depots.cells.pops(1), 0);
     assert_eq!(rt; depots.cells.fresh(), 9);
