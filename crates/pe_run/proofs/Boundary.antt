@@ -1,19 +1,18 @@
 -- No vertex that counts comes to the root or goes from it: those on the root's faces lie on its boundary.
-use Rattle.std.proofs.Common.{◌≡◌, ◌⊎◌, ℕ, zero, suc, ◌+◌, ◌-◌, ◌*◌, ◌/◌, ◌%◌, ◌^◌, ◌<◌, ◌≤◌, Bool, true, false, ◌&&◌, ◌==◌, List, [], ◌∷◌, ◌++◌, map, filter, reverse, length, take, get_or, inl, refl, sym, ap, subst, ◌∙◌, lit≤, arith}
+use Rattle.std.proofs.Common.{◌≡◌, ℕ, zero, suc, ◌+◌, ◌-◌, ◌*◌, ◌%◌, ◌^◌, ◌<◌, ◌≤◌, Bool, true, false, ◌&&◌, List, [], ◌∷◌, ◌++◌, map, reverse, length, take, inl, refl, sym, ap, subst, ◌∙◌, lit≤, arith}
 use Rattle.std.specs.Prelude.{nat_lt, slice_index}
-use Rattle.std.specs.List.{flat_map, range_with_len, list_all, list_any}
+use Rattle.std.specs.List.{flat_map, range_with_len, list_all}
 use Rattle.std.proofs.lemmas.Bool.Decides.{nat_tests}
 use Rattle.pe_base.specs.declared.place.Place.{Place}
 use Rattle.pe_base.specs.declared.way.Way.{Way}
-use Rattle.pe_base.specs.Places.{root, corner, moved, bits}
-use Rattle.pe_base.specs.Curve.{digit_lists, children, order}
+use Rattle.pe_base.specs.Places.{root, moved, bits}
+use Rattle.pe_base.specs.Curve.{digit_lists, children}
 use Rattle.pe_base.specs.Kinds.{is_inside}
-use Rattle.pe_base.specs.Faces.{Face, Touch, Turn, TurnsApart, face_on, is_on, loads, stores, corner_touches, comes_across, goes_across, at_face, arriving, leaving, in_corners, out_corners, child_turns, corner_turn}
+use Rattle.pe_base.specs.Faces.{Face, Touch, Turn, TurnsApart, face_on, is_on, loads, stores, corner_touches, arriving, leaving, in_corners, out_corners, child_turns, corner_turn}
 use Rattle.pe_base.proofs.Lists.{Each, Each-weaker, Each-append, Each-map, Each-all, Each-flat_map, Each-reverse, filter_none}
 use Rattle.pe_base.proofs.Mirrors.{Digits3, digit_lists_below}
 use Rattle.pe_base.proofs.Children.{child_of, children_are}
 use Rattle.pe_base.proofs.Ranks.{child_four}
-use Rattle.pe_base.proofs.Blocks.{TurnsApart-append}
 use Rattle.pe_base.proofs.Composition.{composes}
 use Rattle.pe_run.proofs.RangeCounts.{eqb-eq}
 

@@ -1,5 +1,5 @@
 -- The parts of what is fired in a cell, and how much is done in it.
-use Rattle.std.proofs.Common.{◌≡◌, ℕ, ◌+◌, ◌*◌, ◌^◌, ◌≤◌, Bool, true, false, ◌==◌, cond, lit≤, List, [], ◌∷◌, ◌++◌, reverse, length, count_by, refl, sym, ap, ◌∙◌, append_assoc, arith}
+use Rattle.std.proofs.Common.{◌≡◌, ℕ, ◌^◌, ◌≤◌, Bool, true, false, ◌==◌, cond, lit≤, List, [], ◌∷◌, ◌++◌, reverse, length, sym, ap, append_assoc, arith}
 use Rattle.std.specs.List.{flat_map, range_with_len}
 use Rattle.std.proofs.lemmas.List.{length-append, length-reverse}
 use Rattle.std.proofs.lemmas.List.FromFn.{length-range_with_len}

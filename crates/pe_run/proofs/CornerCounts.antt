@@ -1,28 +1,24 @@
 -- How often a cell pops a stack and pushes it.
-use Rattle.std.proofs.Common.{◌≡◌, ◌≢◌, ℕ, zero, suc, ◌+◌, ◌*◌, ◌/◌, ◌%◌, ◌^◌, ◌<◌, ◌≤◌, Bool, true, false, not, ◌&&◌, ◌==◌, cond, List, [], ◌∷◌, ◌++◌, map, filter, reverse, length, count_by, refl, sym, ap, subst, ◌∙◌, eq-eqb, arith}
-use Rattle.std.specs.List.{flat_map, range_with_len}
+use Rattle.std.proofs.Common.{◌≡◌, ◌≢◌, ℕ, ◌+◌, ◌*◌, ◌/◌, ◌%◌, ◌^◌, ◌<◌, ◌≤◌, Bool, true, false, not, ◌&&◌, ◌==◌, cond, List, map, filter, reverse, length, count_by, refl, sym, ap, ◌∙◌, eq-eqb, arith}
+use Rattle.std.specs.List.{range_with_len}
 use Rattle.std.proofs.lemmas.List.{length-map}
 use Rattle.std.proofs.lemmas.List.Sums.{length-filter}
 use Rattle.std.proofs.lemmas.Bool.{ne_eqb}
 use Rattle.pe_base.specs.declared.place.Place.{Place}
 use Rattle.pe_base.specs.declared.way.Way.{Way}
-use Rattle.pe_base.specs.declared.event.Event.TheVariants.{TouchVertexFirstTime, TouchVertexLastTime, CreateInnerVertex, CreateHangingVertex, DestroyHangingVertex}
-use Rattle.pe_base.specs.Places.{corner, root}
-use Rattle.pe_base.specs.Curve.{children}
+use Rattle.pe_base.specs.Places.{corner}
 use Rattle.pe_base.specs.Kinds.{is_inside}
 use Rattle.pe_base.specs.Ways.{way_of}
 use Rattle.pe_base.specs.Around.{around, steps}
-use Rattle.pe_base.specs.Faces.{Face, Touch, Turn, Turns, is_same, is_on, is_step, across, face_on, steps_to, steps_from, comes_across, goes_across, corner_touches, in_corners, out_corners, child_turn}
-use Rattle.pe_base.proofs.Lists.{Each, map-reverse, filter-map}
+use Rattle.pe_base.specs.Faces.{Face, Touch, is_same, is_on, is_step, across, face_on, steps_to, steps_from, comes_across, goes_across, in_corners, out_corners}
+use Rattle.pe_base.proofs.Lists.{map-reverse, filter-map}
 use Rattle.pe_run.specs.declared.walk.traversal.Traversal.{Traversal}
 use Rattle.pe_run.specs.LevelOne.{is_first, is_last}
-use Rattle.pe_run.specs.Traffic.{Op, lends, gives_up, pushes, pops, is_push_on, is_pop_from}
-use Rattle.pe_run.specs.Flows.{Flows}
-use Rattle.pe_run.specs.Walked.{stacks_to, stacks_from, comes_on, goes_on, face_of, input_of, output_of, load_ops, store_ops, cell_loads, cell_stores, vertex_ops}
+use Rattle.pe_run.specs.Traffic.{pushes, pops, is_push_on, is_pop_from}
+use Rattle.pe_run.specs.Walked.{stacks_to, stacks_from, comes_on, goes_on, input_of, output_of, load_ops, store_ops, cell_loads, cell_stores, vertex_ops}
 use Rattle.pe_run.proofs.TrafficLaws.{count_by-append}
-use Rattle.pe_run.proofs.Counting.{loads_by, stores_by, none_here, none_mapped, loads_none, stores_none}
+use Rattle.pe_run.proofs.Counting.{loads_by, stores_by, none_here, loads_none, stores_none}
 use Rattle.pe_run.proofs.RangeCounts.{one_picked, count_ones, none_first, none_second, and_none, count_reverse}
-use Rattle.pe_run.proofs.Boundary.{Small}
 
 -- a vertex that comes to a cell for the first time comes by no step; one that goes for the last time goes by none
 no_step_to : (axes : ℕ) (way : Way) (vertex a cell : Place) → (length (steps_to axes way vertex cell) == 0) ≡ true → is_step axes way vertex a cell ≡ false

@@ -1,16 +1,13 @@
 -- How often each thing is done in a cell, and how often each event fires in it.
-use Rattle.std.proofs.Common.{◌≡◌, ◌≢◌, ℕ, zero, suc, ◌+◌, ◌*◌, ◌^◌, ◌<◌, ◌≤◌, Bool, true, false, ◌==◌, cond, List, [], ◌∷◌, ◌++◌, map, filter, reverse, replicate, length, count_by, refl, sym, ap, ap₂, ◌∙◌, arith}
+use Rattle.std.proofs.Common.{◌≡◌, ℕ, zero, suc, ◌+◌, ◌^◌, Bool, true, false, ◌==◌, cond, List, [], ◌∷◌, map, reverse, replicate, count_by, refl, ap, arith}
 use Rattle.std.specs.List.{flat_map, range_with_len}
-use Rattle.std.proofs.lemmas.Bool.{ne_eqb}
 use Rattle.pe_base.specs.declared.place.Place.{Place}
-use Rattle.pe_base.specs.declared.event.Event.TheVariants.{TouchVertexFirstTime, TouchVertexLastTime, CreateInnerVertex, CreateHangingVertex, DestroyHangingVertex}
 use Rattle.pe_base.specs.Places.{corner}
 use Rattle.pe_base.specs.Kinds.{is_inside}
-use Rattle.pe_base.proofs.Lists.{Each, Each-filter, Each-weaker}
 use Rattle.pe_run.specs.declared.walk.traversal.Traversal.{Traversal}
-use Rattle.pe_run.specs.LevelOne.{is_first, is_last, first_firings, load_firings, store_firings, count_of}
-use Rattle.pe_run.specs.Traffic.{Op, lends, gives_up, pushes, pops, is_lend, is_give_up, is_push_on, is_pop_from, takes_out, puts_back}
-use Rattle.pe_run.specs.Walked.{stacks_to, stacks_from, comes_on, goes_on, input_of, output_of, load_ops, store_ops, cell_loads, cell_stores}
+use Rattle.pe_run.specs.LevelOne.{is_first, is_last}
+use Rattle.pe_run.specs.Traffic.{Op, lends, gives_up, pushes, pops}
+use Rattle.pe_run.specs.Walked.{stacks_to, stacks_from, input_of, output_of, load_ops, store_ops, cell_loads, cell_stores}
 use Rattle.pe_run.proofs.TrafficLaws.{count_by-append}
 
 -- counts over the parts of two lists that agree part by part

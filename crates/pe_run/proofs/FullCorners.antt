@@ -1,5 +1,5 @@
 -- Corners of which the last ones are full, after one more is put or taken.
-use Rattle.std.proofs.Common.{◌≡◌, ℕ, zero, suc, ◌+◌, ◌-◌, ◌^◌, ◌<◌, ◌≤◌, List, [], ◌∷◌, ◌++◌, map, length, get_or, set, replicate, Option, Some, None, IsSome, refl, sym, ap, subst, ◌∙◌, add-one, rules, arith}
+use Rattle.std.proofs.Common.{◌≡◌, ℕ, zero, suc, ◌+◌, ◌^◌, ◌<◌, List, [], ◌∷◌, ◌++◌, map, length, get_or, set, replicate, Option, Some, None, IsSome, refl, sym, ap, subst, ◌∙◌, add-one, rules, arith}
 use Rattle.std.proofs.lemmas.List.{append-nil}
 use Rattle.pe_stacks.specs.Corners.{CornerList, no_vertices, vertex_at, with_vertex}
 use Rattle.pe_run.specs.Filled.{FullFrom}

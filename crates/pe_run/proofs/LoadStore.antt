@@ -1,5 +1,5 @@
 -- What is fired for a corner, and on which stacks it comes and goes.
-use Rattle.std.proofs.Common.{◌≡◌, ℕ, zero, suc, ◌+◌, ◌*◌, ◌<◌, ◌≤◌, ◌++◌, length, map, Bool, true, false, List, [], ◌∷◌, filter, refl, sym, ap, subst, ◌∙◌, cond, lit≤, ◌==◌, arith}
+use Rattle.std.proofs.Common.{◌≡◌, ℕ, zero, suc, ◌+◌, ◌*◌, ◌<◌, ◌≤◌, length, map, Bool, true, false, List, [], ◌∷◌, filter, sym, ap, ◌∙◌, cond, lit≤, ◌==◌, arith}
 use Rattle.std.specs.List.{flat_map, range_with_len}
 use Rattle.std.proofs.lemmas.List.{length-append, length-map}
 use Rattle.std.proofs.lemmas.List.FromFn.{length-range_with_len}
@@ -7,7 +7,7 @@ use Rattle.std.proofs.lemmas.List.Sums.{length-filter, count_by-le-length}
 use Rattle.pe_base.specs.declared.place.Place.{Place}
 use Rattle.pe_base.specs.Places.{corner}
 use Rattle.pe_base.specs.Kinds.{is_inside}
-use Rattle.pe_access.specs.declared.route.Route.TheVariants.{Stream, Temp}
+use Rattle.pe_access.specs.declared.route.Route.TheVariants.{Temp}
 use Rattle.pe_run.specs.declared.walk.traversal.Traversal.{Traversal}
 use Rattle.pe_run.specs.Traffic.{Op, lends, gives_up, pushes, pops}
 use Rattle.pe_run.specs.LevelOne.{is_first, is_last, first_firings, load_firings}

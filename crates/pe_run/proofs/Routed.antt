@@ -1,6 +1,6 @@
 -- The routes of a cell of level 1 are the stacks by which its corners come and go: computed for the dimensions 2, 3 and 4,
 -- both ways, at every cell and corner.
-use Rattle.std.proofs.Common.{◌≡◌, ℕ, zero, suc, ◌+◌, ◌-◌, ◌*◌, ◌/◌, ◌%◌, ◌^◌, ◌<◌, ◌≤◌, Bool, true, false, not, ◌&&◌, ◌==◌, nat_eq, nat_lt, List, [], ◌∷◌, filter, length, take, replicate, slice_index, Option, Some, None, true≢false, refl, sym, ap, ap₂, subst, ◌∙◌, append-nil, arith}
+use Rattle.std.proofs.Common.{◌≡◌, ℕ, zero, suc, ◌-◌, ◌*◌, ◌/◌, ◌%◌, ◌^◌, ◌<◌, ◌≤◌, Bool, true, false, not, ◌&&◌, ◌==◌, nat_eq, nat_lt, List, [], ◌∷◌, filter, length, take, replicate, slice_index, Option, Some, None, refl, sym, ap, subst, ◌∙◌, append-nil, arith}
 use Rattle.std.specs.Prelude.{if◌then◌else◌}
 use Rattle.std.specs.List.{range_with_len, list_all, Contains}
 use Rattle.std.specs.Cmp.Lexicographic.{pointwise}
@@ -14,13 +14,11 @@ use Rattle.pe_base.specs.Curve.{children, order}
 use Rattle.pe_base.specs.Faces.{steps_to, steps_from}
 use Rattle.pe_base.specs.Kinds.{is_inside}
 use Rattle.pe_base.specs.Routes.{stack_in, stack_out}
-use Rattle.pe_base.proofs.Lists.{Each, Each-weaker, Each-In}
+use Rattle.pe_base.proofs.Lists.{Each, Each-In}
 use Rattle.pe_base.proofs.Ranks.{and_left, and_right, same_list}
 use Rattle.pe_base.proofs.InnerVertices.{corner_on_grid}
 use Rattle.pe_access.specs.declared.route.Route.{Route}
-use Rattle.pe_access.specs.declared.route.Route.TheVariants.{Stream, Temp}
 use Rattle.pe_access.specs.States.{route_of}
-use Rattle.pe_walk.specs.Laws.{IsCell}
 use Rattle.pe_walk.proofs.Unwalked.{contains_in}
 use Rattle.pe_walk.proofs.Steps.{zeros_behind}
 use Rattle.pe_walk.proofs.Trees.{place_is_cell, zeros_read}

@@ -1,12 +1,11 @@
 -- Laws of the run.
-use Rattle.std.proofs.Common.{◌≡◌, ◌≢◌, ◌⊎◌, ℕ, ◌+◌, ◌<◌, ◌≤◌, Bool, true, false, List, [], length, replicate, Option, Some, None, IsSome, Result, Ok, Err, IsErr, OnOk, refl, sym, ap, subst, ◌∙◌, inl, inr, rules, arith}
+use Rattle.std.proofs.Common.{◌≡◌, ◌≢◌, ◌⊎◌, ℕ, ◌+◌, ◌<◌, ◌≤◌, List, [], length, replicate, Option, Some, None, Result, Ok, Err, IsErr, OnOk, refl, sym, ap, subst, ◌∙◌, inl, inr, rules, arith}
 use Rattle.std.proofs.lemmas.List.{length-replicate}
 use Rattle.std.proofs.lemmas.Bool.{lt-ltb}
 use Rattle.pe_io.specs.declared.shelf.Got.{Got}
 use Rattle.pe_io.specs.declared.shelf.Got.TheVariants.{Absent}
 use Rattle.pe_io.specs.declared.shelf.ShelfCall.TheVariants.{Get}
-use Rattle.pe_io.specs.Counts.{Rises}
-use Rattle.pe_io.specs.Sink.{Appends, AppendsPrefix}
+use Rattle.pe_io.specs.Sink.{AppendsPrefix}
 use Rattle.pe_io.specs.Shelf.{Contents, FailedCall, FailedAt, IsGot, IsLonger, WhereTold}
 use Rattle.pe_io.proofs.Appending.{AppendsPrefix-nothing}
 use Rattle.pe_run.specs.declared.status.Status.{Status}
@@ -15,8 +14,8 @@ use Rattle.pe_run.specs.declared.status.Stop.{Stop}
 use Rattle.pe_run.specs.declared.status.Stop.TheVariants.{Sink, Memory}
 use Rattle.pe_stacks.specs.Holdings.{Holdings}
 use Rattle.pe_run.specs.Scenario.{too_long, scene_of, scenario_limit}
-use Rattle.pe_run.specs.Statuses.{code_of, ending_of}
-use Rattle.pe_run.specs.Run.{Ran, Step, scenario_step, no_job, no_scenario, run_scene, run_held, run_job, call_of, Holds, MayFail, Writes, Answers, CountsWalk, IsRun}
+use Rattle.pe_run.specs.Statuses.{ending_of}
+use Rattle.pe_run.specs.Run.{Ran, Step, scenario_step, no_job, no_scenario, run_scene, run_held, run_job, Holds, MayFail, Writes, Answers, CountsWalk, IsRun}
 use Rattle.pe_run.specs.Stages.{RunsTo, Counts}
 
 -- a stage that was stopped has written a part
@@ -82,8 +81,8 @@ status_of_refusal old new (Err Memory) stage other = absurd (other refl)
 module _ {V C : Type 0} (vertices : Holdings V) (cells : Holdings C) where
   -- a run, by what the shelf holds and the step that failed
   pub IsRun-stage : (job : Option (List ℕ)) (told : Option Contents) (before after : ℕ) (last : Option FailedCall) (old new : Option (List ℕ)) (result : Result Status Stop)
-    (held : Contents) (failed : Option Step) (ran : Ran) → Holds told held → MayFail job before after last (ending_of result) failed
-    → ran ≡ run_job job held failed → RunsTo ran old new result → Counts ran vertices cells result → IsRun job told before after last old new vertices cells (ending_of result)
+      (held : Contents) (failed : Option Step) (ran : Ran) → Holds told held → MayFail job before after last (ending_of result) failed
+      → ran ≡ run_job job held failed → RunsTo ran old new result → Counts ran vertices cells result → IsRun job told before after last old new vertices cells (ending_of result)
   IsRun-stage job told before after last old new result held failed ran holds may same stage counts = record {
     held = held;
     failed = failed;

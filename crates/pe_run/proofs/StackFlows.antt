@@ -1,5 +1,5 @@
 -- How many vertices lie on each stack while the children of the root are walked.
-use Rattle.std.proofs.Common.{◌≡◌, ◌≢◌, ◌⊎◌, ℕ, zero, suc, ◌+◌, ◌-◌, ◌*◌, ◌/◌, ◌%◌, ◌^◌, ◌<◌, ◌≤◌, Bool, true, false, not, ◌&&◌, ◌==◌, cond, List, [], ◌∷◌, ◌++◌, map, filter, reverse, length, count_by, refl, sym, ap, subst, ◌∙◌, eq-eqb, arith}
+use Rattle.std.proofs.Common.{◌≡◌, ◌≢◌, ℕ, ◌+◌, ◌-◌, ◌*◌, ◌/◌, ◌%◌, ◌^◌, ◌<◌, ◌≤◌, Bool, true, false, not, ◌&&◌, ◌==◌, cond, List, [], ◌∷◌, ◌++◌, map, filter, reverse, length, count_by, refl, ap, subst, eq-eqb, arith}
 use Rattle.std.specs.List.{flat_map, range_with_len}
 use Rattle.std.proofs.lemmas.List.{length-append}
 use Rattle.std.proofs.lemmas.Bool.{ne_eqb}
@@ -11,12 +11,12 @@ use Rattle.pe_base.specs.Ways.{way_of}
 use Rattle.pe_base.specs.Faces.{Turn, TurnsApart, face_on, child_turn, in_corners, out_corners}
 use Rattle.pe_run.specs.declared.walk.traversal.Traversal.{Traversal}
 use Rattle.pe_run.specs.LevelOne.{is_first, is_last}
-use Rattle.pe_run.specs.Traffic.{Op, lends, gives_up, pushes, pops, is_push_on, is_pop_from}
+use Rattle.pe_run.specs.Traffic.{pushes, pops, is_push_on, is_pop_from}
 use Rattle.pe_run.specs.Flows.{Flows}
 use Rattle.pe_run.specs.Walked.{stacks_to, stacks_from, comes_on, goes_on, input_of, output_of, load_ops, store_ops, cell_loads, cell_stores, vertex_ops}
 use Rattle.pe_run.proofs.TrafficLaws.{count_by-append}
-use Rattle.pe_run.proofs.Counting.{loads_by, stores_by, none_here, one_here, count_none, count_each, loads_none, stores_none}
-use Rattle.pe_run.proofs.RangeCounts.{none_ranged, count_ones, count_reverse}
+use Rattle.pe_run.proofs.Counting.{loads_by, stores_by, none_here, one_here, count_none, loads_none, stores_none}
+use Rattle.pe_run.proofs.RangeCounts.{none_ranged}
 use Rattle.pe_run.proofs.Boundary.{children_turns}
 use Rattle.pe_run.proofs.CornerCounts.{takes_count, gives_count}
 

@@ -1,24 +1,20 @@
 -- What is done with records in a traversal, and what is fired in it, in number.
-use Rattle.std.proofs.Common.{◌≡◌, ◌≢◌, ℕ, zero, suc, ◌+◌, ◌-◌, ◌*◌, ◌^◌, ◌<◌, ◌≤◌, Bool, true, false, not, ◌&&◌, ◌==◌, cond, List, [], ◌∷◌, ◌++◌, reverse, replicate, length, count_by, refl, sym, ap, ◌∙◌, eq-eqb, arith}
-use Rattle.std.specs.List.{flat_map, range_with_len}
+use Rattle.std.proofs.Common.{◌≡◌, ℕ, ◌+◌, ◌^◌, Bool, true, false, ◌&&◌, ◌==◌, cond, List, [], ◌∷◌, ◌++◌, reverse, count_by, refl, ap, arith}
+use Rattle.std.specs.List.{range_with_len}
 use Rattle.pe_base.specs.declared.place.Place.{Place}
 use Rattle.pe_base.specs.declared.event.Event.{Event}
-use Rattle.pe_base.specs.declared.event.Event.TheVariants.{BeginIteration, EndIteration, TouchVertexFirstTime, TouchVertexLastTime, CreateInnerVertex, CreateHangingVertex, DestroyHangingVertex, CreateCell, EnterCell, LeaveCell}
+use Rattle.pe_base.specs.declared.event.Event.TheVariants.{TouchVertexFirstTime, TouchVertexLastTime, CreateInnerVertex, CreateHangingVertex, DestroyHangingVertex, CreateCell, EnterCell, LeaveCell}
 use Rattle.pe_base.specs.Places.{corner, root}
-use Rattle.pe_base.specs.Curve.{children}
 use Rattle.pe_base.specs.Events.{number_of}
 use Rattle.pe_base.specs.Kinds.{is_inside}
-use Rattle.pe_base.specs.Ways.{way_of}
 use Rattle.pe_base.specs.Working.{Firing, fires}
 use Rattle.pe_run.specs.declared.walk.traversal.Traversal.{Traversal}
-use Rattle.pe_run.specs.LevelOne.{is_first, is_last, load_firings, store_firings, birth_firings, cell_firings, traversal_firings, count_of}
-use Rattle.pe_run.specs.Traffic.{Op, lends, gives_up, pushes, pops, is_lend, is_give_up, is_push_on, is_pop_from}
-use Rattle.pe_run.specs.Walked.{stacks_to, stacks_from, input_of, output_of, cell_input_of, cell_output_of, load_ops, store_ops, cell_loads, cell_stores, vertex_ops, cell_ops, traversal_vertex_ops, traversal_cell_ops}
+use Rattle.pe_run.specs.LevelOne.{is_first, is_last, load_firings, store_firings, cell_firings, count_of}
+use Rattle.pe_run.specs.Traffic.{pushes, pops, is_lend, is_give_up}
 use Rattle.pe_run.proofs.TrafficLaws.{count_by-append}
-use Rattle.pe_run.proofs.Counting.{loads_by, stores_by, none_mapped, none_repeated, all_repeated, count_none, count_each, loads_none, stores_none}
+use Rattle.pe_run.proofs.Counting.{loads_by, stores_by, none_mapped, count_none}
 use Rattle.pe_run.proofs.RangeCounts.{count_ones, count_reverse}
 use Rattle.pe_run.proofs.CellParts.{corner_loads, visit, corner_stores, cell_parts}
-use Rattle.pe_run.proofs.StackFlows.{load_read, store_written, cell_read, cell_written}
 
 -- what is fired for a corner, by its cases
 abbrev pub load_fired : Bool → Bool → Bool → Place → Place → List Firing

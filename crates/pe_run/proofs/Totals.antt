@@ -1,29 +1,27 @@
 -- What a traversal does with records, and what is fired in it, in number.
-use Rattle.std.proofs.Common.{◌≡◌, ◌≢◌, ◌⊎◌, ℕ, zero, suc, ◌+◌, ◌-◌, ◌*◌, ◌^◌, ◌<◌, ◌≤◌, Bool, true, false, not, ◌&&◌, ◌==◌, cond, List, [], ◌∷◌, ◌++◌, reverse, replicate, length, count_by, refl, sym, ap, subst, ◌∙◌, eq-eqb, arith}
+use Rattle.std.proofs.Common.{◌≡◌, ℕ, ◌+◌, ◌^◌, ◌≤◌, Bool, true, false, not, ◌&&◌, ◌==◌, cond, List, [], ◌∷◌, ◌++◌, reverse, replicate, count_by, refl, sym, ap, ◌∙◌, eq-eqb, arith}
 use Rattle.std.specs.List.{flat_map, range_with_len}
 use Rattle.pe_base.specs.declared.place.Place.{Place}
 use Rattle.pe_base.specs.declared.tally.Tally.{Tally}
 use Rattle.pe_base.specs.declared.event.Event.{Event}
-use Rattle.pe_base.specs.declared.event.Event.TheVariants.{BeginIteration, EndIteration, TouchVertexFirstTime, TouchVertexLastTime, CreateInnerVertex, CreateHangingVertex, DestroyHangingVertex, CreateCell, EnterCell, LeaveCell}
+use Rattle.pe_base.specs.declared.event.Event.TheVariants.{BeginIteration, EndIteration, TouchVertexFirstTime, TouchVertexLastTime, CreateInnerVertex, CreateHangingVertex, EnterCell}
 use Rattle.pe_base.specs.Places.{corner, root}
 use Rattle.pe_base.specs.Curve.{children}
 use Rattle.pe_base.specs.Events.{number_of}
-use Rattle.pe_base.specs.Kinds.{is_inside}
 use Rattle.pe_base.specs.Ways.{way_of}
 use Rattle.pe_base.specs.Working.{Firing, fires}
 use Rattle.pe_base.specs.Traces.{tally_line}
 use Rattle.pe_stacks.specs.Holdings.{Holdings}
 use Rattle.pe_run.specs.declared.walk.traversal.Traversal.{Traversal}
-use Rattle.pe_run.specs.LevelOne.{load_firings, store_firings, cell_firings, traversal_firings, count_of, tally_of}
+use Rattle.pe_run.specs.LevelOne.{load_firings, cell_firings, traversal_firings, count_of, tally_of}
 use Rattle.pe_run.specs.Traffic.{Op, lends, gives_up, pushes, pops, is_lend, is_give_up, is_push_on, is_pop_from, Counted}
 use Rattle.pe_run.specs.Tallies.{counts_in, IsAfter, tally_from}
 use Rattle.pe_run.specs.Walked.{stacks_to, stacks_from, input_of, output_of, cell_input_of, cell_output_of, load_ops, store_ops, cell_loads, cell_stores, vertex_ops, cell_ops, traversal_vertex_ops, traversal_cell_ops}
 use Rattle.pe_run.proofs.TrafficLaws.{count_by-append}
-use Rattle.pe_run.proofs.Counting.{count_cons, none_here, one_here, none_repeated, all_repeated, count_each, loads_none, stores_none}
+use Rattle.pe_run.proofs.Counting.{count_cons, none_repeated, all_repeated, count_each, loads_none, stores_none}
 use Rattle.pe_run.proofs.RangeCounts.{count_ones, count_reverse, and_none}
-use Rattle.pe_run.proofs.CellParts.{corner_loads, visit, corner_stores}
 use Rattle.pe_run.proofs.StackFlows.{load_read, store_written, cell_read, cell_written}
-use Rattle.pe_run.proofs.Tallying.{inside, first, last, born, created, hung, lent_for, given_for, in_cell, visit_of, not_in_loads, not_in_stores, entered, firsts, lasts}
+use Rattle.pe_run.proofs.Tallying.{inside, first, last, created, hung, lent_for, given_for, in_cell, visit_of, not_in_stores, entered, firsts, lasts}
 
 flipped : (b : Bool) → cond {A = ℕ} b 0 1 ≡ cond (not b) 1 0
 flipped true = refl

@@ -1,15 +1,15 @@
 -- Laws of what is done with records, one thing after another.
-use Rattle.std.proofs.Common.{◌≡◌, ◌≢◌, ◌⊎◌, ℕ, ◌+◌, ◌<◌, ◌≤◌, Bool, true, false, ◌==◌, List, [], ◌∷◌, ◌++◌, map, length, drop, take, slice_get, Some, count_by, refl, sym, ap, subst, ◌∙◌, inl, inr, arith}
+use Rattle.std.proofs.Common.{◌≡◌, ◌≢◌, ℕ, ◌+◌, ◌<◌, ◌≤◌, Bool, List, [], ◌∷◌, ◌++◌, length, drop, take, slice_get, Some, count_by, refl, sym, ap, subst, ◌∙◌, inl, inr, arith}
 use Rattle.std.specs.List.{flat_map}
 use Rattle.std.proofs.lemmas.List.Sums.{sum_by-append}
 use Rattle.std.proofs.lemmas.List.{append-nil, length-append, length-drop}
 use Rattle.std.proofs.lemmas.Bool.Decides.{eqb_tells}
 use Rattle.std.proofs.lemmas.Grind.{flat_map-append}
 use Rattle.pe_io.proofs.Appending.{take-member, split-member}
-use Rattle.pe_stacks.specs.Holdings.{Holdings, Stack, items_at, stack_count, stack_at, len_at, lent, given_up, pushed, popped, CountsWithin, RaisesCounts}
-use Rattle.pe_stacks.proofs.Counts.{raises_none, raises_more, raises_at_most, raises-lent, raises-given_up, raises-pushed, raises-popped}
+use Rattle.pe_stacks.specs.Holdings.{Holdings, Stack, items_at, stack_count, len_at, pushed, popped, CountsWithin, RaisesCounts}
+use Rattle.pe_stacks.proofs.Counts.{raises_none, raises_more, raises-lent, raises-given_up, raises-pushed, raises-popped}
 use Rattle.pe_stacks.proofs.StackAt.{stack_count-pushed, stack_at-pushed, stack_at-pushed_other, stack_count-popped, stack_at-popped, stack_at-popped_other}
-use Rattle.pe_run.specs.Traffic.{Op, lends, gives_up, pushes, pops, is_lend, is_give_up, is_push_on, is_pop_from, takes_out, puts_back, Does, DoesAll, Counted, Abandons}
+use Rattle.pe_run.specs.Traffic.{Op, lends, gives_up, pushes, pops, is_lend, is_give_up, is_push_on, is_pop_from, takes_out, puts_back, Does, DoesAll, Counted}
 
 pub count_by-append : {X : Type 0} (p : X → Bool) (xs ys : List X) → count_by p (xs ++ ys) ≡ count_by p xs + count_by p ys
 count_by-append p xs ys = sum_by-append _ xs ys

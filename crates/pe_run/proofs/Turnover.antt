@@ -1,5 +1,5 @@
 -- From one traversal to the next: what one writes the next one reads.
-use Rattle.std.proofs.Common.{◌≡◌, ◌≢◌, ◌⊎◌, ℕ, zero, suc, ◌+◌, ◌-◌, ◌*◌, ◌%◌, ◌^◌, ◌<◌, ◌≤◌, Bool, true, false, not, ◌&&◌, ◌==◌, cond, List, [], ◌∷◌, ◌++◌, reverse, replicate, length, get_or, count_by, refl, sym, ap, subst, ◌∙◌, inl, inr, eq-eqb, arith}
+use Rattle.std.proofs.Common.{◌≡◌, ◌≢◌, ℕ, zero, suc, ◌+◌, ◌*◌, ◌%◌, ◌^◌, ◌≤◌, Bool, true, false, not, ◌&&◌, ◌==◌, cond, List, [], ◌∷◌, ◌++◌, reverse, replicate, length, get_or, count_by, refl, sym, ap, subst, ◌∙◌, inl, inr, eq-eqb, arith}
 use Rattle.std.specs.List.{flat_map, range_with_len}
 use Rattle.std.proofs.lemmas.List.{append-nil}
 use Rattle.std.proofs.lemmas.Grind.{flat_map-append}
@@ -14,7 +14,7 @@ use Rattle.pe_base.proofs.Lists.{Each, Each-weaker, reverse-cons}
 use Rattle.pe_base.proofs.Children.{opposite, reverse-children}
 use Rattle.pe_stacks.specs.Holdings.{Holdings, Stack, new_stack, new_holdings, len_at}
 use Rattle.pe_run.specs.declared.walk.traversal.Traversal.{Traversal}
-use Rattle.pe_run.specs.Traffic.{Op, lends, gives_up, pushes, pops, is_push_on, is_pop_from, DoesAll}
+use Rattle.pe_run.specs.Traffic.{lends, gives_up, pushes, pops, is_push_on, is_pop_from, DoesAll}
 use Rattle.pe_run.specs.Flows.{Flows}
 use Rattle.pe_run.specs.Ready.{Ready, after}
 use Rattle.pe_run.specs.Walked.{input_of, output_of, cell_input_of, cell_output_of, vertex_ops, cell_ops, traversal_vertex_ops, traversal_cell_ops}

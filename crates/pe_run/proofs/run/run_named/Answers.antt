@@ -18,10 +18,10 @@ returns-in-Longer-clause-run g c =
 
 pub returns-in-Absent-clause-run : goal.returns-in-Absent-clause-run
 returns-in-Absent-clause-run g c = elim c.in-Absent.is [
-    | inl absent ↦ IsRun-absent _ _ (g.H.Shelf.contents c.args.shelf.now) c.args.name.now 1048576 _ _ _ _ _ c.refuse_shelf.result c.get.result
-        absent c.get.ensures.told c.get.ensures.untold c.refuse_shelf.ensures.run
-    | inr failed ↦ IsRun-failed _ _ (g.H.Shelf.contents c.args.shelf.now) c.args.name.now _ _ _ _ _ c.refuse_shelf.result
-        (c.get.ensures.failed failed) c.refuse_shelf.ensures.run c.refuse_shelf.ensures.no_memory
+  | inl absent ↦ IsRun-absent _ _ (g.H.Shelf.contents c.args.shelf.now) c.args.name.now 1048576 _ _ _ _ _ c.refuse_shelf.result c.get.result
+      absent c.get.ensures.told c.get.ensures.untold c.refuse_shelf.ensures.run
+  | inr failed ↦ IsRun-failed _ _ (g.H.Shelf.contents c.args.shelf.now) c.args.name.now _ _ _ _ _ c.refuse_shelf.result
+      (c.get.ensures.failed failed) c.refuse_shelf.ensures.run c.refuse_shelf.ensures.no_memory
 ]
 
 pub returns-in-Memory-clause-run : goal.returns-in-Memory-clause-run

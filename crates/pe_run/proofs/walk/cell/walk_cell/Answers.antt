@@ -1,4 +1,4 @@
-use Rattle.std.proofs.Common.{◌≡◌, ℕ, ◌+◌, ◌^◌, ◌≤◌, List, [], ◌∷◌, ◌++◌, OnOk, OnErr, refl, sym, subst, ◌∙◌, arith}
+use Rattle.std.proofs.Common.{◌^◌, ◌++◌, refl, subst, ◌∙◌, arith}
 use Rattle.std.proofs.lemmas.Result.{on_ok_weaker, on_err_weaker}
 use Rattle.pe_io.specs.Sink.{Appends, AppendsPrefix}
 use Rattle.pe_io.proofs.Appending.{OnErr-given}

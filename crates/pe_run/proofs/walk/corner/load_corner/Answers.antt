@@ -1,5 +1,4 @@
-use Rattle.std.proofs.Common.{◌≡◌, ◌+◌, ◌*◌, ◌<◌, ◌≤◌, ◌^◌, true, OnOk, OnErr, sym, ap, subst, ◌∙◌, arith}
-use Rattle.pe_base.specs.declared.place.Place.{Place}
+use Rattle.std.proofs.Common.{◌≡◌, ◌<◌, ◌^◌, true, OnOk, OnErr, sym, ap, subst, ◌∙◌, arith}
 use Rattle.pe_base.specs.Places.{corner}
 use Rattle.pe_base.specs.Kinds.{is_inside}
 use Rattle.pe_access.specs.declared.route.Route.TheVariants.{Stream, Temp}

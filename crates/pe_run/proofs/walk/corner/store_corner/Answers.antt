@@ -1,4 +1,4 @@
-use Rattle.std.proofs.Common.{◌≡◌, ◌+◌, ◌*◌, ◌<◌, ◌≤◌, ◌^◌, true, sym, ap, subst, ◌∙◌, arith}
+use Rattle.std.proofs.Common.{◌≡◌, ◌<◌, ◌^◌, true, sym, ap, subst, ◌∙◌, arith}
 use Rattle.pe_base.specs.Places.{corner}
 use Rattle.pe_base.specs.Kinds.{is_inside}
 use Rattle.pe_access.specs.declared.route.Route.TheVariants.{Temp}

@@ -1,5 +1,4 @@
 use Rattle.std.proofs.Common.{[], ◌∷◌}
-use Rattle.std.proofs.lemmas.List.{append-nil}
 use Rattle.pe_base.specs.declared.event.Event.TheVariants.{TouchVertexLastTime}
 use Rattle.pe_base.specs.Working.{fires}
 use Rattle.pe_io.proofs.Appending.{OnErr-given}

@@ -1,9 +1,9 @@
-use Rattle.std.proofs.Common.{◌≡◌, ℕ, ◌+◌, ◌-◌, ◌^◌, ◌<◌, ◌≤◌, [], ◌∷◌, ◌++◌, replicate, length, refl, sym, ap, subst, ◌∙◌, arith}
+use Rattle.std.proofs.Common.{◌≡◌, ◌+◌, ◌-◌, ◌^◌, [], ◌∷◌, replicate, refl, sym, ap, subst, arith}
 use Rattle.std.proofs.lemmas.List.{length-replicate}
 use Rattle.pe_stacks.specs.Holdings.{CountsWithin}
 use Rattle.pe_stacks.proofs.CornerPlaces.{corners_range}
 use Rattle.pe_run.specs.Filled.{FullFrom}
-use Rattle.pe_run.specs.Traffic.{Op, lends, DoesAll}
+use Rattle.pe_run.specs.Traffic.{lends, DoesAll}
 use Rattle.pe_run.proofs.FullCorners.{full_put}
 use Rattle.pe_run.proofs.TrafficLaws.{DoesAll-append, few_after}
 use Rattle.pe_run.proofs.CornerNumbers.{replicate_more}

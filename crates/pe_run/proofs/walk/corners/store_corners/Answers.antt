@@ -1,14 +1,12 @@
-use Rattle.std.proofs.Common.{◌≡◌, ℕ, ◌+◌, ◌-◌, ◌*◌, ◌^◌, ◌<◌, ◌≤◌, List, [], ◌∷◌, ◌++◌, reverse, take, length, OnOk, Some, refl, sym, ap, subst, ◌∙◌, arith}
+use Rattle.std.proofs.Common.{◌^◌, take, subst, ◌∙◌, arith}
 use Rattle.std.specs.List.{flat_map, range_with_len}
 use Rattle.pe_io.specs.Sink.{Appends}
-use Rattle.pe_stacks.specs.Holdings.{stack_count}
-use Rattle.pe_run.specs.Filled.{FullFrom}
 use Rattle.pe_run.specs.LevelOne.{store_firings}
 use Rattle.pe_run.specs.Traffic.{DoesAll}
 use Rattle.pe_run.specs.Walked.{fired, store_ops}
 use Rattle.pe_run.proofs.FiredTexts.{fired_next, fired_next_part}
-use Rattle.pe_run.proofs.FullCorners.{full_put, full_here, full_take, full_end}
-use Rattle.pe_run.proofs.TrafficLaws.{DoesAll-next, safe_next, few_after, counted}
+use Rattle.pe_run.proofs.FullCorners.{full_here, full_take}
+use Rattle.pe_run.proofs.TrafficLaws.{DoesAll-next, few_after, counted}
 use Rattle.pe_run.proofs.LoadStore.{store_few, few_each}
 use Rattle.pe_run.proofs.CornerNumbers.{ascending_at, ascending_all, ascending_few}
 use Rattle.pe_run.proofs.walk.corners.store_corners.Goals as goal

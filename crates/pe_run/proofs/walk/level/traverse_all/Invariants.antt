@@ -1,4 +1,4 @@
-use Rattle.std.proofs.Common.{◌≡◌, ℕ, ◌+◌, ◌*◌, ◌%◌, ◌^◌, ◌≤◌, ◌==◌, take}
+use Rattle.std.proofs.Common.{◌≡◌, ◌+◌, ◌*◌, ◌%◌, ◌^◌, ◌≤◌, ◌==◌, take}
 use Rattle.std.specs.List.{flat_map, range_with_len}
 use Rattle.pe_io.specs.Sink.{Appends}
 use Rattle.pe_run.specs.Ready.{Ready}

@@ -1,19 +1,17 @@
-use Rattle.std.proofs.Common.{◌≡◌, ℕ, ◌+◌, ◌*◌, ◌^◌, ◌<◌, ◌≤◌, List, [], ◌∷◌, ◌++◌, map, length, count_by, OnOk, refl, sym, ap, subst, ◌∙◌, arith}
+use Rattle.std.proofs.Common.{◌≡◌, ◌^◌, ◌≤◌, [], ◌∷◌, ◌++◌, map, count_by, refl, sym, subst, ◌∙◌, arith}
 use Rattle.std.specs.Prelude.{All}
 use Rattle.std.specs.List.{flat_map}
-use Rattle.std.proofs.lemmas.List.{length-append}
 use Rattle.pe_base.specs.declared.place.Place.{Place}
 use Rattle.pe_base.specs.Places.{IsDigits, child_at, root}
 use Rattle.pe_base.specs.Curve.{children}
 use Rattle.pe_base.specs.Ways.{way_of}
 use Rattle.pe_stacks.specs.Holdings.{len_at}
 use Rattle.pe_access.specs.States.{StandsFor}
-use Rattle.pe_io.specs.Sink.{Appends}
 use Rattle.pe_io.proofs.Appending.{Appends-nothing, OnErr-given}
 use Rattle.pe_run.specs.LevelOne.{cell_firings}
-use Rattle.pe_run.specs.Traffic.{Op, is_pop_from, DoesAll}
+use Rattle.pe_run.specs.Traffic.{is_pop_from}
 use Rattle.pe_run.specs.Flows.{Flows}
-use Rattle.pe_run.specs.Walked.{fired, vertex_ops, cell_ops}
+use Rattle.pe_run.specs.Walked.{vertex_ops, cell_ops}
 use Rattle.pe_run.proofs.TrafficLaws.{counted, few_after}
 use Rattle.pe_run.proofs.LoadStore.{few_each}
 use Rattle.pe_run.proofs.CellParts.{vertex_ops_few, cell_ops_few}

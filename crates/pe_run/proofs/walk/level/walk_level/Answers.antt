@@ -1,4 +1,4 @@
-use Rattle.std.proofs.Common.{◌≡◌, ℕ, ◌+◌, ◌-◌, ◌*◌, ◌^◌, ◌<◌, ◌≤◌, false, List, [], ◌∷◌, ◌++◌, replicate, length, count_by, max, OnOk, OnErr, refl, sym, ap, subst, ◌∙◌, arith}
+use Rattle.std.proofs.Common.{◌≡◌, ◌-◌, ◌^◌, ◌≤◌, ◌++◌, replicate, refl, subst, ◌∙◌, arith}
 use Rattle.std.specs.List.{flat_map}
 use Rattle.std.proofs.lemmas.List.{length-replicate}
 use Rattle.std.proofs.lemmas.Result.{on_ok_weaker, on_err_weaker}
@@ -7,7 +7,7 @@ use Rattle.pe_base.specs.Curve.{children}
 use Rattle.pe_base.specs.Ways.{way_of}
 use Rattle.pe_stacks.specs.Holdings.{len_at}
 use Rattle.pe_stacks.proofs.CornerPlaces.{corners_range}
-use Rattle.pe_run.specs.Traffic.{lends, gives_up, is_pop_from, is_push_on, takes_out, puts_back, DoesAll}
+use Rattle.pe_run.specs.Traffic.{lends, gives_up, is_pop_from, is_push_on, takes_out, DoesAll}
 use Rattle.pe_run.specs.Flows.{Flows}
 use Rattle.pe_run.specs.Walked.{vertex_ops}
 use Rattle.pe_run.proofs.TrafficLaws.{counted, few_after, DoesAll-append}

@@ -1,7 +1,6 @@
-use Rattle.std.proofs.Common.{[], ◌∷◌, ◌++◌, ◌∙◌, arith}
+use Rattle.std.proofs.Common.{[], ◌∷◌, ◌++◌, arith}
 use Rattle.std.specs.List.{flat_map}
 use Rattle.pe_base.specs.declared.event.Event.TheVariants.{BeginIteration, EndIteration}
-use Rattle.pe_base.specs.declared.place.Place.{Place}
 use Rattle.pe_base.specs.Places.{root}
 use Rattle.pe_base.specs.Curve.{children}
 use Rattle.pe_base.specs.Ways.{way_of}
