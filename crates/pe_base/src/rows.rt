@@ -1,9 +1,7 @@
 //! Worked rows of the definitions and of the calls. A function without a body computes the definitions
 //! that its contract names; the test that calls it has it checked.
-ghost use Rattle.std.specs.Prelude.{◌≡◌, [], ◌∷◌, map, codes, length, ℕ, List, Some};
-ghost use Rattle.std.specs.List.{flat_map};
+ghost use Rattle.std.specs.Prelude.{◌≡◌, [], ◌∷◌, map, codes, length, List, Some};
 ghost use Rattle.pe_base.specs.declared.way.Way.TheVariants.{Forward, Inverted};
-ghost use Rattle.pe_base.specs.declared.event.Event.{Event as AnEvent};
 ghost use Rattle.pe_base.specs.declared.event.Event.TheVariants.{EnterCell, BeginIteration, CreateHangingVertex};
 ghost use Rattle.pe_base.specs.Places.{root, at};
 ghost use Rattle.pe_base.specs.Curve.{children, order};

@@ -1,5 +1,5 @@
-ghost use Rattle.std.specs.Prelude.{◌≡◌, ◌≢◌, ℕ, ◌≤◌, List, None, Option};
-ghost use Rattle.pe_io.specs.Counts.{CountsOne, Rises};
+ghost use Rattle.std.specs.Prelude.{◌≡◌, ◌≢◌, ℕ, ◌≤◌, None, Option};
+ghost use Rattle.pe_io.specs.Counts.{CountsOne};
 ghost use Rattle.pe_io.specs.Shelf.{Contents, FailedCall, FailedAt, IsGot, IsWithinLimit, WhereTold};
 
 /// The calls of a shelf.

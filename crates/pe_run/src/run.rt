@@ -1,6 +1,6 @@
 // The run of the program, step by step.
 ghost use Rattle.std.specs.Prelude.{◌≡◌, ◌≢◌, ◌≤◌, ◌+◌, Result as Outcome, None, Some, Err, Ok, OnOk, OnErr, map, length, string_bytes};
-ghost use Rattle.pe_io.specs.Counts.{CountsOne, Rises};
+ghost use Rattle.pe_io.specs.Counts.{Rises};
 ghost use Rattle.pe_io.specs.Sink.{Appends, AppendsPrefix};
 ghost use Rattle.pe_base.specs.Traces.{traversals_text};
 ghost use Rattle.pe_stacks.specs.Holdings.{new_holdings, cleared};

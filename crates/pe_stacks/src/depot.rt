@@ -1,4 +1,4 @@
-ghost use Rattle.std.specs.Prelude.{◌≡◌, ℕ, ◌+◌, ◌^◌, ◌<◌, ◌≤◌, ◌∷◌, IfErr, OnOk, IsOk, is_ok, slice_get, Some, if◌then◌else◌};
+ghost use Rattle.std.specs.Prelude.{◌≡◌, ℕ, ◌+◌, ◌^◌, ◌<◌, ◌≤◌, IfErr, OnOk, IsOk, is_ok, slice_get, Some, if◌then◌else◌};
 ghost use Rattle.pe_stacks.specs.Holdings.{Holdings, KeepsRoom, stack_count, stack_at, items_at, len_at, total_len, lent, given_up, pushed, popped, cleared};
 
 use std::alloc::AllocError;

@@ -1,4 +1,4 @@
-ghost use Rattle.std.specs.Prelude.{◌≡◌, ℕ, ◌+◌, ◌≤◌, map, replicate, IfOk, vec_len};
+ghost use Rattle.std.specs.Prelude.{◌≡◌, ◌+◌, ◌≤◌, map, replicate, IfOk, vec_len};
 ghost use Rattle.pe_stacks.specs.Holdings.{new_stack, new_holdings, total_len, emptied};
 ghost use Rattle.pe_stacks.specs.VecStack.{stack_of, capacity_of};
 

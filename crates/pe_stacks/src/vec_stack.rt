@@ -1,4 +1,4 @@
-ghost use Rattle.std.specs.Prelude.{◌≡◌, ◌+◌, ◌^◌, ◌<◌, ◌≤◌, ◌∷◌, IfErr, IfOk, OnOk, IsOk, is_ok, slice_get, Some, if◌then◌else◌, vec_len};
+ghost use Rattle.std.specs.Prelude.{◌≡◌, ◌+◌, ◌^◌, ◌<◌, ◌≤◌, IfErr, OnOk, IsOk, is_ok, slice_get, Some, if◌then◌else◌, vec_len};
 
 use std::alloc::{AllocError, Global};
 

@@ -1,20 +1,17 @@
 // One corner of a cell, loaded and stored.
-ghost use Rattle.std.specs.Prelude.{◌≡◌, ◌≢◌, ℕ, ◌+◌, ◌-◌, ◌<◌, ◌≤◌, ◌^◌, [], ◌∷◌, ◌++◌, true, count_by, reverse, replicate, Err, OnOk, OnErr, IfOk};
-ghost use Rattle.std.specs.List.{flat_map, range_with_len};
+ghost use Rattle.std.specs.Prelude.{◌≡◌, ℕ, ◌+◌, ◌-◌, ◌<◌, ◌≤◌, ◌^◌, [], ◌∷◌, count_by, Err, OnOk, OnErr};
 ghost use Rattle.pe_base.specs.declared.place.Place.{Place as APlace};
-ghost use Rattle.pe_base.specs.declared.event.Event.TheVariants.{BeginIteration, EndIteration, TouchVertexFirstTime, TouchVertexLastTime, CreateInnerVertex, CreateHangingVertex, DestroyHangingVertex, CreateCell, EnterCell, LeaveCell};
+ghost use Rattle.pe_base.specs.declared.event.Event.TheVariants.{TouchVertexFirstTime, TouchVertexLastTime, CreateInnerVertex, CreateHangingVertex, DestroyHangingVertex};
 ghost use Rattle.pe_base.specs.Places.{IsCellPlace, corner, root};
-ghost use Rattle.pe_base.specs.Curve.{children};
 ghost use Rattle.pe_base.specs.Ways.{way_of};
 ghost use Rattle.pe_base.specs.Working.{fires};
-ghost use Rattle.pe_stacks.specs.Holdings.{stack_count, stack_at, len_at, lent, given_up, CountsWithin};
+ghost use Rattle.pe_stacks.specs.Holdings.{stack_count, len_at, CountsWithin};
 ghost use Rattle.pe_access.specs.States.{StandsFor};
 ghost use Rattle.pe_io.specs.Counts.{Rises};
 ghost use Rattle.pe_io.specs.Sink.{Appends, AppendsPrefix};
-ghost use Rattle.pe_run.specs.LevelOne.{first_firings, load_firings, store_firings, birth_firings, cell_firings, traversal_firings};
+ghost use Rattle.pe_run.specs.LevelOne.{first_firings, load_firings, store_firings};
 ghost use Rattle.pe_run.specs.Traffic.{lends, gives_up, pushes, pops, is_pop_from, DoesAll, Abandons};
-ghost use Rattle.pe_run.specs.Filled.{FullFrom};
-ghost use Rattle.pe_run.specs.Walked.{fired, input_of, output_of, first_ops, load_ops, store_ops, cell_loads, cell_stores, vertex_ops, cell_ops, traversal_vertex_ops, traversal_cell_ops};
+ghost use Rattle.pe_run.specs.Walked.{fired, input_of, output_of, first_ops, load_ops, store_ops};
 
 use crate::status::Stop;
 use crate::walk::place::{corner_of, is_inside};

@@ -1,5 +1,5 @@
 // Places of level 1.
-ghost use Rattle.std.specs.Prelude.{◌≡◌, ◌<◌, ◌≤◌, ◌^◌, length};
+ghost use Rattle.std.specs.Prelude.{◌≡◌, ◌<◌, ◌^◌};
 ghost use Rattle.pe_base.specs.Places.{IsDigits, IsCellPlace, child_at, root, corner};
 ghost use Rattle.pe_base.specs.Dim.{IsDim};
 ghost use Rattle.pe_base.specs.Kinds.{is_inside};

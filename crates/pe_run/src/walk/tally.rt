@@ -1,6 +1,5 @@
 // What a traversal has counted, by the counts of the depots.
-ghost use Rattle.std.specs.Prelude.{◌≡◌, ◌+◌, ◌-◌, ◌≤◌, ◌^◌, [], ◌∷◌, ◌++◌, length, decimal, OnOk, OnErr};
-ghost use Rattle.pe_base.specs.Ways.{way_of};
+ghost use Rattle.std.specs.Prelude.{◌≡◌, ◌+◌, ◌-◌, ◌≤◌, [], ◌∷◌, ◌++◌, length, decimal, OnOk, OnErr};
 ghost use Rattle.pe_base.specs.Traces.{tally_line, way_name};
 ghost use Rattle.pe_stacks.specs.Holdings.{stack_count};
 ghost use Rattle.pe_io.specs.Counts.{Rises};
