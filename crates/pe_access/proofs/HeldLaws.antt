@@ -8,10 +8,10 @@ use Rattle.std.proofs.lemmas.List.{get_or-map, length-set}
 use Rattle.std.proofs.lemmas.List.Elements.{All-weaker}
 use Rattle.pe_base.specs.declared.place.Place.{Place}
 use Rattle.pe_base.specs.declared.way.Way.{Way}
-use Rattle.pe_base.specs.Places.{IsCellPlace, padded, at}
+use Rattle.pe_base.specs.Places.{IsCellPlace, padded, at, is_same, is_same_pos}
 use Rattle.pe_base.specs.Curve.{order}
 use Rattle.pe_base.specs.Around.{threes}
-use Rattle.pe_base.specs.Routes.{way_turns, is_same, is_same_pos}
+use Rattle.pe_base.specs.Routes.{way_turns}
 use Rattle.pe_base.specs.Neighbours.{is_place}
 use Rattle.pe_base.proofs.RouteLaws.{Below, Below-front, length-front, at-front}
 use Rattle.pe_base.proofs.Spans.{parents}

@@ -8,7 +8,8 @@ use Rattle.std.proofs.lemmas.List.Elements.{All-head, All-tail, All-nil, All-con
 use Rattle.std.proofs.lemmas.List.Folds.{find-append}
 use Rattle.pe_base.specs.declared.way.Way.{Way}
 use Rattle.pe_base.specs.Curve.{mirrored}
-use Rattle.pe_base.specs.Routes.{way_turns, is_same_pos}
+use Rattle.pe_base.specs.Routes.{way_turns}
+use Rattle.pe_base.specs.Places.{is_same_pos}
 use Rattle.pe_base.proofs.RouteLaws.{Below}
 use Rattle.pe_base.proofs.Spans.{is_even, parents, or_none}
 use Rattle.pe_base.proofs.Levels.{kids, cells}

@@ -4,9 +4,9 @@ use Rattle.std.specs.List.{flat_map, list_any}
 use Rattle.pe_base.specs.declared.place.Place.{Place}
 use Rattle.pe_base.specs.declared.way.Way.{Way}
 use Rattle.pe_base.specs.declared.way.Way.TheVariants.{Forward, Inverted}
-use Rattle.pe_base.specs.Places.{finer}
+use Rattle.pe_base.specs.Places.{finer, is_same}
 use Rattle.pe_base.specs.Curve.{digit_lists, flip, children}
-use Rattle.pe_base.specs.Faces.{Turns, Turns, Face, is_same, Turn, TurnsApart, across, face_on, is_touched, loads, corner_touches, comes_across, goes_across, at_face, arriving, leaving, in_corners, out_corners, child_turn, corner_turn, cell_turns}
+use Rattle.pe_base.specs.Faces.{Turns, Turns, Face, Turn, TurnsApart, across, face_on, is_touched, loads, corner_touches, comes_across, goes_across, at_face, arriving, leaving, in_corners, out_corners, child_turn, corner_turn, cell_turns}
 use Rattle.pe_base.proofs.Lists.{In, In-map, Each-In, Each-left, Each-right, Each-parts, list_any_none, none_Each, Each, Each-weaker, Each-reverse, Each-filter, map-map, flat_map_same, flat_map-map, filter_same, filter-map, filter-reverse}
 use Rattle.pe_base.proofs.Mirrors.{Digits3, complement, digit_lists_below, reverse-digit_lists, turned_complement}
 use Rattle.pe_base.proofs.Children.{opposite, turn_of as way_turn, Pairs-range, flips_in, length-flips, child_of, child_ks, child_index, children_are}

@@ -8,10 +8,10 @@ use Rattle.std.proofs.lemmas.List.Concat.{flat_map_single}
 use Rattle.std.proofs.lemmas.Bool.Decides.{nat_tests}
 use Rattle.pe_base.specs.declared.place.Place.{Place}
 use Rattle.pe_base.specs.declared.way.Way.{Way}
-use Rattle.pe_base.specs.Places.{root, finer, moved}
+use Rattle.pe_base.specs.Places.{root, finer, moved, is_same}
 use Rattle.pe_base.specs.Curve.{digit_lists, children, order}
 use Rattle.pe_base.specs.Around.{is_corner_pos, is_corner, around, steps}
-use Rattle.pe_base.specs.Faces.{Touch, is_same, corner_touches, loads, stores, touched_for, steps_to, steps_from}
+use Rattle.pe_base.specs.Faces.{Touch, corner_touches, loads, stores, touched_for, steps_to, steps_from}
 use Rattle.pe_base.proofs.Lists.{Each, Each-all, Each-weaker, Each-map, Each-reverse, map-map, flat_map_same, flat_map_none, map-flat_map, flat_map-flat_map, filter-flat_map, filter-map, filter_none, filter_same, map-reverse, filter-reverse, reverse-flat_map}
 use Rattle.pe_base.proofs.Mirrors.{Digits3, digit_lists_below}
 use Rattle.pe_base.proofs.Children.{opposite, reverse-children, child_of, child_ks, child_ks-below, children_are, length-digits}

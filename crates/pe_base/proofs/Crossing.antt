@@ -6,10 +6,10 @@ use Rattle.std.proofs.lemmas.List.Elements.{filter-append}
 use Rattle.std.proofs.lemmas.Bool.Decides.{nat_tests}
 use Rattle.pe_base.specs.declared.place.Place.{Place}
 use Rattle.pe_base.specs.declared.way.Way.{Way}
-use Rattle.pe_base.specs.Places.{root, finer}
+use Rattle.pe_base.specs.Places.{root, finer, is_same}
 use Rattle.pe_base.specs.Curve.{digit_lists, mirrored, turned, children, order}
 use Rattle.pe_base.specs.Around.{is_corner_pos, is_corner, around, steps}
-use Rattle.pe_base.specs.Faces.{in_finest, is_same, is_step, loads, touched_for}
+use Rattle.pe_base.specs.Faces.{in_finest, is_step, loads, touched_for}
 use Rattle.pe_base.proofs.Lists.{Each, Each-all, Each-weaker, Each-filter, map-map, map_same, flat_map_same, flat_map-map, flat_map-filter, map-flat_map, filter-flat_map, filter-map, filter_same, filter_none, map-reverse, filter-reverse, reverse-cons, reverse-flat_map}
 use Rattle.pe_base.proofs.Mirrors.{Digits3, complement, digit_lists_below, reverse-digit_lists, mirrored_even, mirrored_odd, even_or_odd, Pairs-same, turned_complement, turned_across, turned_across-digit, up}
 use Rattle.pe_base.proofs.Children.{opposite, flips_in, flips_agree, length-flips, child_of, child_ks, child_ks-below, child_index, children_are, reverse-children, slice_index-below, length-digits}

@@ -6,10 +6,10 @@ use Rattle.std.proofs.lemmas.List.{length-replicate}
 use Rattle.std.proofs.lemmas.Bool.Decides.{nat_tests}
 use Rattle.pe_base.specs.declared.place.Place.{Place}
 use Rattle.pe_base.specs.declared.way.Way.{Way}
-use Rattle.pe_base.specs.Places.{finer}
+use Rattle.pe_base.specs.Places.{finer, is_same}
 use Rattle.pe_base.specs.Curve.{digit_lists, turned, children, order}
 use Rattle.pe_base.specs.Around.{is_corner, around, steps}
-use Rattle.pe_base.specs.Faces.{is_same, is_step}
+use Rattle.pe_base.specs.Faces.{is_step}
 use Rattle.pe_base.proofs.Lists.{Each, Each-all, Each-weaker, Each-append, Each-map, Each-flat_map}
 use Rattle.pe_base.proofs.Mirrors.{Digits3, digit_lists_below, sum_of, turned_twice}
 use Rattle.pe_base.proofs.Children.{flips_in, length-flips, child_pos, child_of, child_ks, child_ks-below, children_are, length-digits}

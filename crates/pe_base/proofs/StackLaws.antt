@@ -7,9 +7,9 @@ use Rattle.std.proofs.lemmas.Bool.{and_parts, eqb-true, eq-eqb, false≢true, ca
 use Rattle.std.proofs.lemmas.List.Elements.{All-head, All-tail, All-filter}
 use Rattle.pe_base.specs.declared.place.Place.{Place}
 use Rattle.pe_base.specs.declared.way.Way.{Way}
-use Rattle.pe_base.specs.Places.{padded, at}
+use Rattle.pe_base.specs.Places.{padded, at, is_same, is_same_pos}
 use Rattle.pe_base.specs.Curve.{mirrored}
-use Rattle.pe_base.specs.Routes.{way_turns, is_same, is_same_pos, axis_of, stack_of, stack_in, stack_out}
+use Rattle.pe_base.specs.Routes.{way_turns, axis_of, stack_of, stack_in, stack_out}
 use Rattle.pe_base.proofs.Walks.{Path}
 use Rattle.pe_base.proofs.Spans.{Spot, fits_all, Crosses, parents, is_even}
 use Rattle.pe_base.proofs.Levels.{kids, cells, holders, entry}

@@ -4,10 +4,10 @@ use Rattle.std.specs.List.{list_any}
 use Rattle.std.proofs.lemmas.Bool.Decides.{nat_tests}
 use Rattle.pe_base.specs.declared.place.Place.{Place}
 use Rattle.pe_base.specs.declared.way.Way.{Way}
-use Rattle.pe_base.specs.Places.{moved}
+use Rattle.pe_base.specs.Places.{moved, is_same}
 use Rattle.pe_base.specs.Curve.{digit_lists, children, order}
 use Rattle.pe_base.specs.Around.{is_corner_pos, is_corner, around, steps}
-use Rattle.pe_base.specs.Faces.{Face, Touch, across, is_same, is_step, corner_touches, loads, comes_across, goes_across, at_face, arriving, leaving, is_touched}
+use Rattle.pe_base.specs.Faces.{Face, Touch, across, is_step, corner_touches, loads, comes_across, goes_across, at_face, arriving, leaving, is_touched}
 use Rattle.pe_base.proofs.Lists.{Each, Each-all, Each-weaker, Each-append, Each-map, Each-flat_map, Each-filter, Each-reverse, In, In-append_left, In-append_right, In-map, In-flat_map, In-filter, Each-In, list_any_none}
 use Rattle.pe_base.proofs.Mirrors.{Digits3, digit_lists_below}
 use Rattle.pe_base.proofs.Children.{opposite, child_of, children_are}

@@ -9,12 +9,11 @@
 --     +-----v-----+       at the face between them
 --
 -- All is defined on the regular tree of cells, some levels deep below a cell. A test says which vertices count.
-use Rattle.std.specs.Prelude.{◌≡◌, ℕ, zero, suc, ◌+◌, ◌-◌, ◌*◌, ◌%◌, ◌^◌, Bool, false, ◌&&◌, ◌==◌, nat_eq, List, [], ◌∷◌, ◌++◌, map, filter, reverse, if◌then◌else◌, slice_index, slice_set}
+use Rattle.std.specs.Prelude.{◌≡◌, ℕ, zero, suc, ◌+◌, ◌-◌, ◌*◌, ◌%◌, ◌^◌, Bool, false, ◌&&◌, ◌==◌, List, [], ◌∷◌, ◌++◌, map, filter, reverse, if◌then◌else◌, slice_index, slice_set}
 use Rattle.std.specs.List.{flat_map, range_with_len, list_any}
-use Rattle.std.specs.Cmp.Lexicographic.{pointwise}
 use Rattle.pe_base.specs.declared.place.Place.{Place}
 use Rattle.pe_base.specs.declared.way.Way.{Way}
-use Rattle.pe_base.specs.Places.{corner}
+use Rattle.pe_base.specs.Places.{is_same, corner}
 use Rattle.pe_base.specs.Curve.{children}
 use Rattle.pe_base.specs.Around.{around, steps}
 
@@ -52,9 +51,6 @@ in_finest finest level x = x * 3 ^ (finest - level)
 abbrev pub is_on : ℕ → Face → Place → Place → Bool
 is_on finest face cell vertex =
     in_finest finest vertex.level (slice_index vertex.pos face.axis) == in_finest finest cell.level (plane face cell)
-
-abbrev pub is_same : Place → Place → Bool
-is_same a b = a.level == b.level && pointwise nat_eq a.pos b.pos
 
 -- around a vertex, a cell is followed by another
 abbrev pub is_step : ℕ → Way → Place → Place → Place → Bool

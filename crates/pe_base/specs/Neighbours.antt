@@ -5,7 +5,7 @@ use Rattle.pe_base.specs.declared.place.Place.{Place}
 use Rattle.pe_base.specs.declared.way.Way.{Way}
 use Rattle.pe_base.specs.Curve.{order}
 use Rattle.pe_base.specs.Around.{threes}
-use Rattle.pe_base.specs.Routes.{is_same}
+use Rattle.pe_base.specs.Places.{is_same}
 
 -- the coordinate of a face's plane
 abbrev pub plane_of : Place → ℕ → ℕ → ℕ

@@ -4,8 +4,9 @@
 --     level l     3^l cells along each axis, 3^l + 1 vertices along each axis
 --
 -- A position has four numbers, one for each axis. Axes from the dimension on hold 0.
-use Rattle.std.specs.Prelude.{◌≡◌, ℕ, ◌+◌, ◌-◌, ◌*◌, ◌/◌, ◌%◌, ◌^◌, ◌<◌, ◌≤◌, List, [], ◌∷◌, ◌++◌, map, length, replicate, slice_index}
+use Rattle.std.specs.Prelude.{◌≡◌, ℕ, ◌+◌, ◌-◌, ◌*◌, ◌/◌, ◌%◌, ◌^◌, ◌<◌, ◌≤◌, Bool, ◌&&◌, ◌==◌, nat_eq, List, [], ◌∷◌, ◌++◌, map, length, replicate, slice_index}
 use Rattle.std.specs.List.{range_with_len}
+use Rattle.std.specs.Cmp.Lexicographic.{pointwise}
 use Rattle.pe_base.specs.declared.place.Place.{Place}
 use Rattle.pe_base.specs.declared.place.Digits.{Digits}
 
@@ -31,6 +32,13 @@ padded xs = xs ++ replicate (4 - length xs) 0
 -- the place on a level with this position on the grid's axes
 abbrev pub at : ℕ → List ℕ → Place
 at level pos = record { level = level; pos = padded pos }
+
+-- two positions are one, and two places are one
+abbrev pub is_same_pos : List ℕ → List ℕ → Bool
+is_same_pos xs ys = pointwise nat_eq xs ys
+
+abbrev pub is_same : Place → Place → Bool
+is_same a b = a.level == b.level && is_same_pos a.pos b.pos
 
 -- the only cell of level 0
 abbrev pub root : Place

@@ -11,22 +11,13 @@ use Rattle.std.specs.Option.{option_map}
 use Rattle.pe_base.specs.declared.place.Place.{Place}
 use Rattle.pe_base.specs.declared.way.Way.{Way}
 use Rattle.pe_base.specs.declared.way.Way.TheVariants.{Forward, Inverted}
+use Rattle.pe_base.specs.Places.{is_same}
 use Rattle.pe_base.specs.Around.{around, crossings, steps}
 
 -- an inverted walk turns each axis once more than a forward one
 abbrev pub way_turns : Way → ℕ
 way_turns Forward = 0
 way_turns Inverted = 1
-
-abbrev pub is_same_pos : List ℕ → List ℕ → Bool
-is_same_pos [] [] = true
-is_same_pos (x ∷ xs) (y ∷ ys) = x == y && is_same_pos xs ys
-is_same_pos [] (y ∷ ys) = false
-is_same_pos (x ∷ xs) [] = false
-
--- two places are one
-abbrev pub is_same : Place → Place → Bool
-is_same a b = a.level == b.level && is_same_pos a.pos b.pos
 
 -- the first axis on which two positions differ
 abbrev pub axis_between : List ℕ → List ℕ → ℕ

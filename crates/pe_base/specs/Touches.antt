@@ -7,7 +7,7 @@ use Rattle.pe_base.specs.declared.state.State.TheVariants.{Unrefined}
 use Rattle.pe_base.specs.declared.kind.Kind.{Kind}
 use Rattle.pe_base.specs.declared.kind.Kind.TheVariants.{Kept, Born, Dying, Hanging}
 use Rattle.pe_base.specs.declared.event.Event.TheVariants.{TouchVertexFirstTime, TouchVertexLastTime, CreateInnerVertex, CreateHangingVertex, DestroyHangingVertex}
-use Rattle.pe_base.specs.Faces.{is_same}
+use Rattle.pe_base.specs.Places.{is_same}
 use Rattle.pe_base.specs.Payloads.{zeros}
 use Rattle.pe_base.specs.Working.{VertexRecord, World, Firing, fires}
 

@@ -7,9 +7,9 @@ use Rattle.std.proofs.lemmas.Bool.{eqb-true}
 use Rattle.pe_base.specs.declared.place.Place.{Place}
 use Rattle.pe_base.specs.declared.way.Way.{Way}
 use Rattle.pe_base.specs.declared.way.Way.TheVariants.{Forward, Inverted}
-use Rattle.pe_base.specs.Places.{root, corner}
+use Rattle.pe_base.specs.Places.{root, corner, is_same}
 use Rattle.pe_base.specs.Curve.{children}
-use Rattle.pe_base.specs.Faces.{is_same, steps_to, steps_from}
+use Rattle.pe_base.specs.Faces.{steps_to, steps_from}
 use Rattle.pe_base.specs.Kinds.{is_inside}
 use Rattle.pe_base.proofs.Lists.{Each, Each-weaker}
 use Rattle.pe_base.proofs.Ranks.{and_left, and_right}

@@ -8,11 +8,11 @@ use Rattle.std.proofs.lemmas.List.Sums.{length-filter}
 use Rattle.std.proofs.lemmas.List.Folds.{sum_by-replicate}
 use Rattle.pe_base.specs.declared.place.Place.{Place}
 use Rattle.pe_base.specs.Dim.{IsDim}
-use Rattle.pe_base.specs.Places.{root, corner}
+use Rattle.pe_base.specs.Places.{root, corner, is_same}
 use Rattle.pe_base.specs.Ways.{way_of}
 use Rattle.pe_base.specs.Curve.{children}
 use Rattle.pe_base.specs.Around.{around, steps}
-use Rattle.pe_base.specs.Faces.{is_same, face_on, across, is_on}
+use Rattle.pe_base.specs.Faces.{face_on, across, is_on}
 use Rattle.pe_base.specs.Kinds.{is_inside}
 use Rattle.pe_base.proofs.Lists.{Each, Each-weaker}
 use Rattle.pe_stacks.specs.Grid.{input_stack}

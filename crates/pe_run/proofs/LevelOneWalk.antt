@@ -8,11 +8,11 @@ use Rattle.std.proofs.lemmas.List.Elements.{filter-append}
 use Rattle.pe_base.specs.declared.place.Place.{Place}
 use Rattle.pe_base.specs.declared.event.Event.{Event}
 use Rattle.pe_base.specs.declared.event.Event.TheVariants.{BeginIteration, EndIteration, EnterCell, LeaveCell}
-use Rattle.pe_base.specs.Places.{root, corner}
+use Rattle.pe_base.specs.Places.{root, corner, is_same}
 use Rattle.pe_base.specs.Ways.{way_of}
 use Rattle.pe_base.specs.Curve.{children, order}
 use Rattle.pe_base.specs.Around.{is_corner, around}
-use Rattle.pe_base.specs.Faces.{Touch, is_same, corner_touches, touched_for}
+use Rattle.pe_base.specs.Faces.{Touch, corner_touches, touched_for}
 use Rattle.pe_base.specs.Kinds.{is_inside}
 use Rattle.pe_base.specs.Working.{World, Firing, fires}
 use Rattle.pe_base.specs.Walk.{each, begun, nothing_stored, counted, load_corner, store_corner, birth, walk_cell, traverse}

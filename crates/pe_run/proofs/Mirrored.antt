@@ -6,8 +6,8 @@ use Rattle.pe_base.specs.declared.place.Place.{Place}
 use Rattle.pe_base.specs.declared.way.Way.{Way}
 use Rattle.pe_base.specs.Around.{is_corner, around, steps}
 use Rattle.pe_base.specs.Curve.{children, order}
-use Rattle.pe_base.specs.Places.{root}
-use Rattle.pe_base.specs.Faces.{is_same, steps_to, steps_from}
+use Rattle.pe_base.specs.Places.{root, is_same}
+use Rattle.pe_base.specs.Faces.{steps_to, steps_from}
 use Rattle.pe_base.proofs.Lists.{reverse-cons, filter-reverse}
 use Rattle.pe_base.proofs.Children.{opposite, reverse-children}
 

@@ -14,7 +14,7 @@ use Rattle.pe_base.specs.declared.event.Event.TheVariants.{BeginIteration, EndIt
 use Rattle.pe_base.specs.declared.kind.Kind.{Kind}
 use Rattle.pe_base.specs.declared.kind.Kind.TheVariants.{Kept, Born, Dying, Hanging}
 use Rattle.pe_base.specs.Events.{number_of}
-use Rattle.pe_base.specs.Faces.{is_same}
+use Rattle.pe_base.specs.Places.{is_same}
 use Rattle.pe_base.specs.Kinds.{kind_from}
 use Rattle.pe_base.specs.Payloads.{zeros}
 use Rattle.pe_base.specs.Working.{World, Firing, fires}

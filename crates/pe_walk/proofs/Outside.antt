@@ -4,7 +4,8 @@ use Rattle.pe_base.specs.declared.place.Place.{Place}
 use Rattle.pe_base.specs.declared.way.Way.{Way}
 use Rattle.pe_base.specs.Curve.{digit_lists, children, order}
 use Rattle.pe_base.specs.Around.{is_corner, around, steps}
-use Rattle.pe_base.specs.Faces.{Face, across, is_same, is_step, comes_across, goes_across, arriving, leaving}
+use Rattle.pe_base.specs.Faces.{Face, across, is_step, comes_across, goes_across, arriving, leaving}
+use Rattle.pe_base.specs.Places.{is_same}
 use Rattle.pe_base.proofs.Lists.{Each, Each-weaker, Each-map, Each-flat_map, Each-filter, In, Each-In}
 use Rattle.pe_base.proofs.Mirrors.{Digits3, digit_lists_below}
 use Rattle.pe_base.proofs.Children.{opposite, child_of, children_are}

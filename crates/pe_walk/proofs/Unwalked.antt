@@ -5,7 +5,8 @@ use Rattle.pe_base.specs.declared.place.Place.{Place}
 use Rattle.pe_base.specs.declared.way.Way.{Way}
 use Rattle.pe_base.specs.Curve.{digit_lists, children, order}
 use Rattle.pe_base.specs.Around.{around, steps}
-use Rattle.pe_base.specs.Faces.{Face, Touch, across, is_same, is_step, loads, comes_across, goes_across, at_face, arriving, leaving, in_corners, out_corners}
+use Rattle.pe_base.specs.Faces.{Face, Touch, across, is_step, loads, comes_across, goes_across, at_face, arriving, leaving, in_corners, out_corners}
+use Rattle.pe_base.specs.Places.{is_same}
 use Rattle.pe_base.proofs.Lists.{Each, Each-weaker, Each-filter, In, In-map, In-reverse, Each-In, flat_map_none}
 use Rattle.pe_base.proofs.Mirrors.{Digits3, digit_lists_below}
 use Rattle.pe_base.proofs.Children.{opposite, child_of, children_are, reverse-children}

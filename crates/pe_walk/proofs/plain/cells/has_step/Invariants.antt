@@ -2,7 +2,7 @@
 use Rattle.std.proofs.Common.{◌≡◌, ◌-◌, ◌&&◌, drop}
 use Rattle.std.specs.List.{list_any}
 use Rattle.pe_base.specs.Around.{steps}
-use Rattle.pe_base.specs.Faces.{is_same}
+use Rattle.pe_base.specs.Places.{is_same}
 use Rattle.pe_walk.proofs.plain.cells.has_step.Given as goal
 
 abbrev pub invariant-loop-i : goal.invariant-loop-i
