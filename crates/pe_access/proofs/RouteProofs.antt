@@ -12,6 +12,7 @@ use Rattle.pe_base.specs.declared.way.Way.{Way}
 use Rattle.pe_base.specs.Places.{IsCellPlace, IsInside, bits, moved, corner, padded, at}
 use Rattle.pe_base.specs.Routes.{way_turns, stack_of, stack_in, stack_out}
 use Rattle.pe_base.proofs.PlaceLaws.{length-bits, bits-suc}
+use Rattle.pe_base.proofs.InnerVertices.{length-moved}
 use Rattle.pe_base.proofs.RouteLaws.{Below, Below-front, length-front, padded-front, at-front}
 use Rattle.pe_base.proofs.Spans.{fits_all, parents}
 use Rattle.pe_base.proofs.Levels.{entry}
@@ -135,11 +136,6 @@ moved-append [] (b ∷ bs) zs e = absurd (omega arith)
 moved-append (c ∷ cs) [] zs e = absurd (omega arith)
 moved-append (c ∷ cs) (b ∷ bs) zs e = ap (λ xs. (c + b) ∷ xs) (moved-append cs bs zs (omega arith))
 
-length-moved : (cs bs : List ℕ) → length bs ≡ length cs → length (moved cs bs) ≡ length cs
-length-moved [] bs e = refl
-length-moved (c ∷ cs) [] e = refl
-length-moved (c ∷ cs) (b ∷ bs) e = ap suc (length-moved cs bs (omega arith))
-
 moved-fits : (cs bs : List ℕ) → length bs ≡ length cs → Below 2 bs → fits_all (spots (moved cs bs)) cs ≡ true
 moved-fits [] [] e h = refl
 moved-fits [] (b ∷ bs) e h = absurd (omega arith)
@@ -168,7 +164,7 @@ vertex-at axes k cell few place =
     let same : length bs ≡ length cs = length-bits axes k ∙ sym long in
     let made : moved cell.pos bs ≡ padded (moved cs bs) =
     ap (λ xs. moved xs bs) (padded-front axes (3 ^ cell.level) cell.pos few place.pos) ∙ moved-append cs bs (replicate (4 - length cs) 0) same
-    ∙ ap (λ (l : ℕ). moved cs bs ++ replicate (4 - l) 0) (sym (length-moved cs bs same)) in
+    ∙ ap (λ (l : ℕ). moved cs bs ++ replicate (4 - l) 0) (sym (length-moved cs bs)) in
     ap (λ (xs : List ℕ). let p : Place = record { level = cell.level; pos = xs } in p) made
 
 touches : (axes k : ℕ) (cell : Place) → axes ≤ 4 → IsCellPlace axes cell → IsInside axes (corner axes cell k) → Touches axes cell.level (moved (take axes cell.pos) (bits axes k)) (take axes cell.pos)
@@ -178,7 +174,7 @@ touches axes k cell few place inside =
     let qs = moved cs bs in
     let long : length cs ≡ axes = length-front axes (3 ^ cell.level) cell.pos few place.pos in
     let same : length bs ≡ length cs = length-bits axes k ∙ sym long in
-    let len : length qs ≡ axes = length-moved cs bs same ∙ long in
+    let len : length qs ≡ axes = length-moved cs bs ∙ long in
     let P : Place → Type 0 = λ v. Below (3 ^ v.level) (take axes v.pos) in
     let below : Below (3 ^ cell.level) (take axes (padded qs)) = subst P (vertex-at axes k cell few place) (Below-front axes (3 ^ cell.level) (corner axes cell k).pos inside.pos.inside) in
     let front : take axes (padded qs) ≡ qs = ap (λ (n : ℕ). take n (padded qs)) (sym len) ∙ take-append_seam qs (replicate (4 - length qs) 0) in

@@ -147,7 +147,7 @@ corner_is_corner axes cell k = ap₂ (λ a b. a && b) (same_itself cell.level) (
     near (x ∷ p) [] e = own (x ∷ p)
     near (x ∷ p) (d ∷ ds) e = ap₂ (λ a b. a && b) (either x d e.0) (near p ds e.1)
 
-length-moved : (p ds : List ℕ) → length (moved p ds) ≡ length p
+pub length-moved : (p ds : List ℕ) → length (moved p ds) ≡ length p
 length-moved [] ds = refl
 length-moved (x ∷ p) [] = refl
 length-moved (x ∷ p) (d ∷ ds) = ap suc (length-moved p ds)

@@ -14,6 +14,7 @@ use Rattle.pe_base.proofs.Mirrors.{Digits3, digit_lists_below}
 use Rattle.pe_base.proofs.Children.{child_of, children_are}
 use Rattle.pe_base.proofs.Ranks.{child_four}
 use Rattle.pe_base.proofs.Composition.{composes}
+use Rattle.pe_base.proofs.InnerVertices.{length-moved}
 use Rattle.pe_run.proofs.RangeCounts.{eqb-eq}
 
 -- a cell of level 1
@@ -23,11 +24,6 @@ Small cell = (cell.level ≡ 1) × (length cell.pos ≡ 4)
 pub children_small : (axes : ℕ) (way : Way) → axes ≤ 4 → Each Small (children axes way root)
 children_small axes way four = subst (Each Small) (sym (children_are axes way root))
     (Each-map Small (child_of axes way root) (digit_lists axes) (Each-weaker (Digits3 axes) _ (λ ts d. (refl, child_four axes way root ts four refl d)) (digit_lists axes) (digit_lists_below axes)))
-
-length-moved : (pos ds : List ℕ) → length (moved pos ds) ≡ length pos
-length-moved [] ds = refl
-length-moved (x ∷ pos) [] = refl
-length-moved (x ∷ pos) (d ∷ ds) = ap suc (length-moved pos ds)
 
 -- a vertex of level 0 or 1
 abbrev Low : Touch → Type 0

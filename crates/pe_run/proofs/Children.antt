@@ -20,7 +20,8 @@ use Rattle.pe_run.specs.Traffic.{Op, is_pop_from, is_push_on, DoesAll}
 use Rattle.pe_run.specs.Flows.{Flows}
 use Rattle.pe_run.specs.Walked.{fired, cell_loads, cell_stores, vertex_ops}
 use Rattle.pe_run.proofs.FiredTexts.{fired_then, fired_then_part, fired_part}
-use Rattle.pe_run.proofs.TrafficLaws.{count_by-append, DoesAll-append, counted}
+use Rattle.pe_run.proofs.TrafficLaws.{DoesAll-append, counted}
+use Rattle.pe_run.proofs.Sums.{count_by-append}
 
 -- the root has no flips
 root_flips : (axes : ℕ) → IsDim axes → bits axes 0 ≡ flips axes root.pos

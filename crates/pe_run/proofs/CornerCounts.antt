@@ -16,16 +16,16 @@ use Rattle.pe_run.specs.declared.walk.traversal.Traversal.{Traversal}
 use Rattle.pe_run.specs.LevelOne.{is_first, is_last}
 use Rattle.pe_run.specs.Traffic.{pushes, pops, is_push_on, is_pop_from}
 use Rattle.pe_run.specs.Walked.{stacks_to, stacks_from, comes_on, goes_on, input_of, output_of, load_ops, store_ops, cell_loads, cell_stores, vertex_ops}
-use Rattle.pe_run.proofs.TrafficLaws.{count_by-append}
+use Rattle.pe_run.proofs.Sums.{count_by-append, none_to, none_from}
 use Rattle.pe_run.proofs.Counting.{loads_by, stores_by, none_here, loads_none, stores_none}
-use Rattle.pe_run.proofs.RangeCounts.{one_picked, count_ones, none_first, none_second, and_none, count_reverse}
+use Rattle.pe_run.proofs.RangeCounts.{one_picked, count_ones, and_none, count_reverse}
 
 -- a vertex that comes to a cell for the first time comes by no step; one that goes for the last time goes by none
 no_step_to : (axes : ℕ) (way : Way) (vertex a cell : Place) → (length (steps_to axes way vertex cell) == 0) ≡ true → is_step axes way vertex a cell ≡ false
-no_step_to axes way vertex a cell none = none_second (λ step. is_same step.0 a) (λ step. is_same step.1 cell) (steps (around axes way vertex)) none
+no_step_to axes way vertex a cell none = none_to (λ step. is_same step.1 cell) (λ step. is_same step.0 a) (steps (around axes way vertex)) none
 
 no_step_from : (axes : ℕ) (way : Way) (vertex cell b : Place) → (length (steps_from axes way vertex cell) == 0) ≡ true → is_step axes way vertex cell b ≡ false
-no_step_from axes way vertex cell b none = none_first (λ step. is_same step.0 cell) (λ step. is_same step.1 b) (steps (around axes way vertex)) none
+no_step_from axes way vertex cell b none = none_from (λ step. is_same step.0 cell) (λ step. is_same step.1 b) (steps (around axes way vertex)) none
 
 -- one load, on one temporary stack
 one_load : (inside first born : Bool) (s input n : ℕ) (p : ℕ → Bool) (on step : Bool) → s < n → input ≢ s → p s ≡ (on && step) → (first ≡ true → step ≡ false)

@@ -8,7 +8,7 @@ use Rattle.pe_run.specs.declared.walk.traversal.Traversal.{Traversal}
 use Rattle.pe_run.specs.LevelOne.{is_first, is_last}
 use Rattle.pe_run.specs.Traffic.{Op, lends, gives_up, pushes, pops}
 use Rattle.pe_run.specs.Walked.{stacks_to, stacks_from, input_of, output_of, load_ops, store_ops, cell_loads, cell_stores}
-use Rattle.pe_run.proofs.TrafficLaws.{count_by-append}
+use Rattle.pe_run.proofs.Sums.{count_by-append}
 
 -- counts over the parts of two lists that agree part by part
 pub count_each : {X Y Z : Type 0} (p : Y → Bool) (q : Z → Bool) (f : X → List Y) (g : X → List Z) (xs : List X) → ((x : X) → count_by p (f x) ≡ count_by q (g x)) → count_by p (flat_map f xs) ≡ count_by q (flat_map g xs)

@@ -22,7 +22,7 @@ use Rattle.pe_run.specs.declared.walk.traversal.Traversal.{Traversal}
 use Rattle.pe_run.specs.LevelOne.{is_first, is_last}
 use Rattle.pe_run.specs.Traffic.{Op, lends, gives_up, pushes, pops, is_lend, is_give_up, is_push_on, is_pop_from, takes_out, puts_back}
 use Rattle.pe_run.specs.Walked.{input_of, output_of, comes_on, goes_on, stacks_to, stacks_from, first_ops, load_ops, store_ops, cell_loads, cell_stores, vertex_ops, traversal_vertex_ops}
-use Rattle.pe_run.proofs.Sums.{sum_by_same, sum_by_none, sum_by_both, count-append, count-flat_map, count-map, sum_by-reverse, count_one, none_to, none_from, times_one, weighed, weighed_sums, count_none, count_all, sum_by_ones, same_sums}
+use Rattle.pe_run.proofs.Sums.{sum_by_same, sum_by_none, sum_by_both, count_by-append, count-flat_map, count-map, sum_by-reverse, count_one, none_to, none_from, times_one, weighed, weighed_sums, count_none, count_all, sum_by_ones, same_sums}
 
 -- a vertex that comes first comes by no stack, and one that goes last goes by none
 first_comes : (axes traversal axis parity : ℕ) (vertex cell : Place) → is_first axes traversal vertex cell ≡ true → comes_by axes (way_of traversal) axis parity vertex cell ≡ false
@@ -245,10 +245,10 @@ parts_count traversal p =
     let same : (op : Op) → count_by p (replicate n op) ≡ n * cond (p op) 1 0 = λ op. sum_by-replicate (λ x. cond (p x) 1 0) n op in
     let both : count_by p walk ≡ sum_by (λ c. count_by p (cell_loads traversal c)) (cells_of traversal) + sum_by (λ c. count_by p (cell_stores traversal c)) (cells_of traversal) =
     count-flat_map p (vertex_ops traversal) (cells_of traversal)
-    ∙ sum_by_same _ _ (λ c. count-append p (cell_loads traversal c) (cell_stores traversal c)) (cells_of traversal)
+    ∙ sum_by_same _ _ (λ c. count_by-append p (cell_loads traversal c) (cell_stores traversal c)) (cells_of traversal)
     ∙ sum_by_both (λ c. count_by p (cell_loads traversal c)) (λ c. count_by p (cell_stores traversal c)) (cells_of traversal) in
-    count-append p (replicate n lends ++ walk) (replicate n gives_up)
-    ∙ omega (arith, count-append p (replicate n lends) walk, same lends, same gives_up, both, count-flat_map p (cell_loads traversal) (cells_of traversal), count-flat_map p (cell_stores traversal) (cells_of traversal))
+    count_by-append p (replicate n lends ++ walk) (replicate n gives_up)
+    ∙ omega (arith, count_by-append p (replicate n lends) walk, same lends, same gives_up, both, count-flat_map p (cell_loads traversal) (cells_of traversal), count-flat_map p (cell_stores traversal) (cells_of traversal))
 
 -- a traversal takes from a temporary stack, and puts on it, once for each crossing
 pub traversal_pops : (traversal : Traversal) (s : ℕ) → IsDim traversal.dim → s < 2 * traversal.dim → count_by (is_pop_from s) (traversal_vertex_ops traversal) ≡ crossed traversal.dim (s / 2) (s % 2)

@@ -4,7 +4,7 @@ use Rattle.std.specs.List.{flat_map, range_with_len, list_any}
 use Rattle.std.proofs.lemmas.Bool.{cases_eq}
 use Rattle.std.proofs.lemmas.Bool.Decides.{nat_tests}
 use Rattle.pe_base.proofs.Lists.{reverse-cons}
-use Rattle.pe_run.proofs.TrafficLaws.{count_by-append}
+use Rattle.pe_run.proofs.Sums.{count_by-append, sum_by-reverse}
 use Rattle.pe_run.proofs.Counting.{count_cons, none_here, one_here}
 
 -- what passes no test
@@ -46,8 +46,7 @@ count_ones p q f (x ∷ xs) each = omega (arith, count_by-append p (f x) (flat_m
 
 -- the order does not matter
 pub count_reverse : {X : Type 0} (q : X → Bool) (xs : List X) → count_by q (reverse xs) ≡ count_by q xs
-count_reverse q [] = refl
-count_reverse q (x ∷ xs) = omega (arith, ap (count_by q) (reverse-cons x xs), count_by-append q (reverse xs) (x ∷ []), count_by-append q (x ∷ []) xs, count_reverse q xs)
+count_reverse q xs = sum_by-reverse (λ x. cond (q x) 1 0) xs
 
 pub eqb-eq : (a b : ℕ) → (a == b) ≡ true → a ≡ b
 eqb-eq a b h = grind (arith, nat_tests)
@@ -56,22 +55,6 @@ eqb-eq a b h = grind (arith, nat_tests)
 pub and_none : (a : Bool) → (a && false) ≡ false
 and_none true = refl
 and_none false = refl
-
-pub none_second : {X : Type 0} (p q : X → Bool) (xs : List X) → (length (filter q xs) == 0) ≡ true → list_any (λ x. p x && q x) xs ≡ false
-none_second p q [] none = refl
-none_second p q (x ∷ xs) none = go (q x) none (none_second p q xs)
-  where
-    go : (b : Bool) → (length (cond b (x ∷ filter q xs) (filter q xs)) == 0) ≡ true → ((length (filter q xs) == 0) ≡ true → list_any (λ y. p y && q y) xs ≡ false) → ((p x && b) || list_any (λ y. p y && q y) xs) ≡ false
-    go true none rest = absurd (omega (arith, eqb-eq _ 0 none))
-    go false none rest = rw (and_none (p x)) (rest none)
-
-pub none_first : {X : Type 0} (p q : X → Bool) (xs : List X) → (length (filter p xs) == 0) ≡ true → list_any (λ x. p x && q x) xs ≡ false
-none_first p q [] none = refl
-none_first p q (x ∷ xs) none = go (p x) none (none_first p q xs)
-  where
-    go : (b : Bool) → (length (cond b (x ∷ filter p xs) (filter p xs)) == 0) ≡ true → ((length (filter p xs) == 0) ≡ true → list_any (λ y. p y && q y) xs ≡ false) → ((b && q x) || list_any (λ y. p y && q y) xs) ≡ false
-    go true none rest = absurd (omega (arith, eqb-eq _ 0 none))
-    go false none rest = rest none
 
 -- none of a range passes a test
 pub none_ranged : {X : Type 0} (q : X → Bool) (f : ℕ → X) (p : ℕ → Bool) (low n : ℕ) → ((x : ℕ) → x < low + n → q (f x) ≡ false) → count_by q (map f (filter p (range_with_len low n))) ≡ 0

@@ -14,7 +14,7 @@ use Rattle.pe_run.specs.LevelOne.{is_first, is_last}
 use Rattle.pe_run.specs.Traffic.{pushes, pops, is_push_on, is_pop_from}
 use Rattle.pe_run.specs.Flows.{Flows}
 use Rattle.pe_run.specs.Walked.{stacks_to, stacks_from, comes_on, goes_on, input_of, output_of, load_ops, store_ops, cell_loads, cell_stores, vertex_ops}
-use Rattle.pe_run.proofs.TrafficLaws.{count_by-append}
+use Rattle.pe_run.proofs.Sums.{count_by-append}
 use Rattle.pe_run.proofs.Counting.{loads_by, stores_by, none_here, one_here, count_none, loads_none, stores_none}
 use Rattle.pe_run.proofs.RangeCounts.{none_ranged}
 use Rattle.pe_run.proofs.Boundary.{children_turns}

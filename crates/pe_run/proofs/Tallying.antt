@@ -11,7 +11,7 @@ use Rattle.pe_base.specs.Working.{Firing, fires}
 use Rattle.pe_run.specs.declared.walk.traversal.Traversal.{Traversal}
 use Rattle.pe_run.specs.LevelOne.{is_first, is_last, load_firings, store_firings, cell_firings, count_of}
 use Rattle.pe_run.specs.Traffic.{pushes, pops, is_lend, is_give_up}
-use Rattle.pe_run.proofs.TrafficLaws.{count_by-append}
+use Rattle.pe_run.proofs.Sums.{count_by-append}
 use Rattle.pe_run.proofs.Counting.{loads_by, stores_by, none_mapped, count_none}
 use Rattle.pe_run.proofs.RangeCounts.{count_ones, count_reverse}
 use Rattle.pe_run.proofs.CellParts.{corner_loads, visit, corner_stores, cell_parts}

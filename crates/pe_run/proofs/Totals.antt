@@ -17,7 +17,7 @@ use Rattle.pe_run.specs.LevelOne.{load_firings, cell_firings, traversal_firings,
 use Rattle.pe_run.specs.Traffic.{Op, lends, gives_up, pushes, pops, is_lend, is_give_up, is_push_on, is_pop_from, Counted}
 use Rattle.pe_run.specs.Tallies.{counts_in, IsAfter, tally_from}
 use Rattle.pe_run.specs.Walked.{stacks_to, stacks_from, input_of, output_of, cell_input_of, cell_output_of, load_ops, store_ops, cell_loads, cell_stores, vertex_ops, cell_ops, traversal_vertex_ops, traversal_cell_ops}
-use Rattle.pe_run.proofs.TrafficLaws.{count_by-append}
+use Rattle.pe_run.proofs.Sums.{count_by-append}
 use Rattle.pe_run.proofs.Counting.{count_cons, none_repeated, all_repeated, count_each, loads_none, stores_none}
 use Rattle.pe_run.proofs.RangeCounts.{count_ones, count_reverse, and_none}
 use Rattle.pe_run.proofs.StackFlows.{load_read, store_written, cell_read, cell_written}

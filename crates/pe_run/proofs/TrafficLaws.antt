@@ -9,10 +9,8 @@ use Rattle.pe_io.proofs.Appending.{take-member, split-member}
 use Rattle.pe_stacks.specs.Holdings.{Holdings, Stack, items_at, stack_count, len_at, pushed, popped, CountsWithin, RaisesCounts}
 use Rattle.pe_stacks.proofs.Counts.{raises_none, raises_more, raises-lent, raises-given_up, raises-pushed, raises-popped}
 use Rattle.pe_stacks.proofs.StackAt.{stack_count-pushed, stack_at-pushed, stack_at-pushed_other, stack_count-popped, stack_at-popped, stack_at-popped_other}
+use Rattle.pe_run.proofs.Sums.{count_by-append}
 use Rattle.pe_run.specs.Traffic.{Op, lends, gives_up, pushes, pops, is_lend, is_give_up, is_push_on, is_pop_from, takes_out, puts_back, Does, DoesAll, Counted}
-
-pub count_by-append : {X : Type 0} (p : X → Bool) (xs ys : List X) → count_by p (xs ++ ys) ≡ count_by p xs + count_by p ys
-count_by-append p xs ys = sum_by-append _ xs ys
 
 -- counts that are within a bound are within a greater one
 pub within_more : {X : Type 0} (held : Holdings X) (n m : ℕ) → n ≤ m → CountsWithin held n → CountsWithin held m

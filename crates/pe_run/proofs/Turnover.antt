@@ -18,7 +18,8 @@ use Rattle.pe_run.specs.Traffic.{lends, gives_up, pushes, pops, is_push_on, is_p
 use Rattle.pe_run.specs.Flows.{Flows}
 use Rattle.pe_run.specs.Ready.{Ready, after}
 use Rattle.pe_run.specs.Walked.{input_of, output_of, cell_input_of, cell_output_of, vertex_ops, cell_ops, traversal_vertex_ops, traversal_cell_ops}
-use Rattle.pe_run.proofs.TrafficLaws.{count_by-append, counted}
+use Rattle.pe_run.proofs.TrafficLaws.{counted}
+use Rattle.pe_run.proofs.Sums.{count_by-append}
 use Rattle.pe_run.proofs.Counting.{none_here, one_here, none_repeated, count_each, count_none}
 use Rattle.pe_run.proofs.Boundary.{Small, children_small}
 use Rattle.pe_run.proofs.StackFlows.{flows_temporary, flows_enough, balanced, none_popped, none_pushed}
