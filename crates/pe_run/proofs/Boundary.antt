@@ -5,7 +5,7 @@ use Rattle.std.specs.List.{flat_map, range_with_len, list_all}
 use Rattle.std.proofs.lemmas.Bool.Decides.{nat_tests}
 use Rattle.pe_base.specs.declared.place.Place.{Place}
 use Rattle.pe_base.specs.declared.way.Way.{Way}
-use Rattle.pe_base.specs.Places.{root, moved, bits}
+use Rattle.pe_base.specs.Places.{root, bits}
 use Rattle.pe_base.specs.Curve.{digit_lists, children}
 use Rattle.pe_base.specs.Kinds.{is_inside}
 use Rattle.pe_base.specs.Faces.{Face, Touch, Turn, TurnsApart, face_on, is_on, loads, stores, corner_touches, arriving, leaving, in_corners, out_corners, child_turns, corner_turn}

@@ -1,9 +1,8 @@
 -- Counts over ranges of which a test picks some.
-use Rattle.std.proofs.Common.{◌≡◌, ◌≢◌, ℕ, zero, suc, ◌+◌, ◌<◌, ◌≤◌, Bool, true, false, ◌&&◌, ◌||◌, ◌==◌, cond, List, [], ◌∷◌, map, filter, reverse, length, count_by, refl, sym, ap, subst, inl, inr, arith}
-use Rattle.std.specs.List.{flat_map, range_with_len, list_any}
+use Rattle.std.proofs.Common.{◌≡◌, ◌≢◌, ℕ, zero, suc, ◌+◌, ◌<◌, ◌≤◌, Bool, true, false, ◌&&◌, ◌==◌, cond, List, [], ◌∷◌, map, filter, reverse, count_by, refl, sym, subst, inl, inr, arith}
+use Rattle.std.specs.List.{flat_map, range_with_len}
 use Rattle.std.proofs.lemmas.Bool.{cases_eq}
 use Rattle.std.proofs.lemmas.Bool.Decides.{nat_tests}
-use Rattle.pe_base.proofs.Lists.{reverse-cons}
 use Rattle.pe_run.proofs.Sums.{count_by-append, sum_by-reverse}
 use Rattle.pe_run.proofs.Counting.{count_cons, none_here, one_here}
 
