@@ -2,6 +2,7 @@
 ghost use Rattle.std.specs.Prelude.{◌≡◌, ◌≢◌, ◌≤◌, ◌+◌, Result as Outcome, None, Some, Err, Ok, OnOk, OnErr, map, length, string_bytes};
 ghost use Rattle.pe_io.specs.Counts.{Rises};
 ghost use Rattle.pe_io.specs.Sink.{Appends, AppendsPrefix};
+ghost use Rattle.pe_base.specs.Dim.{IsDim};
 ghost use Rattle.pe_base.specs.Traces.{traversals_text};
 ghost use Rattle.pe_stacks.specs.Holdings.{new_holdings, cleared};
 ghost use Rattle.pe_run.specs.Trace.{traces};
@@ -50,6 +51,7 @@ fn walk_scenario<K: Sink, DV: Depot<Vertex<Fields>>, DC: Depot<CellRec<Fields>>>
     vertices: &mut DV,
     cells: &mut DC,
 ) -> Result<(), Stop>
+    requires dim { IsDim scenario.now.dim }
     requires few { scenario.now.traversals ≤ 1000 }
     requires vertices { DV.holds vertices.old ≡ new_holdings 10 }
     requires cells { DC.holds cells.old ≡ new_holdings 2 }
@@ -71,6 +73,7 @@ fn run_scenario<K: Sink, DV: Depot<Vertex<Fields>>, DC: Depot<CellRec<Fields>>>(
     vertices: &mut DV,
     cells: &mut DC,
 ) -> Result<Status, Stop>
+    requires dim { IsDim scenario.now.dim }
     requires few { scenario.now.traversals ≤ 1000 }
     requires vertices { DV.holds vertices.old ≡ new_holdings 10 }
     requires cells { DC.holds cells.old ≡ new_holdings 2 }

@@ -2,6 +2,7 @@
 ghost use Rattle.std.specs.Prelude.{◌≡◌, ◌≤◌, IfSome, IfOk, option_map, [], codes};
 ghost use Rattle.toml.specs.View.{view, table_view, items_view};
 ghost use Rattle.toml.specs.Data.{get_member};
+ghost use Rattle.pe_base.specs.Dim.{IsDim};
 ghost use Rattle.pe_run.specs.Scenario.{is_known, all_known, number_at, events_in, events_after, next_event, built_form, scene_of};
 ghost use Rattle.std.specs.Prelude.{Err};
 ghost use Rattle.pe_run.specs.Scenario.{unbuilt as not_built};
@@ -69,7 +70,7 @@ fn value_at<'a>(table: &'a Table, key: &str) -> Option<&'a Value>
 
 fn number_at(table: &Table, key: &str, low: u64, high: u64) -> Option<u64>
     ensures value { result ≡ number_at key.now low high (table_view table.now) }
-    ensures range { IfSome result (λ number. number ≤ high) }
+    ensures range { IfSome result (λ number. (low ≤ number) × (number ≤ high)) }
 {
     let number = u64::try_from(value_at(table, key)?.as_integer()?).ok()?;
     if low <= number && number <= high {
@@ -110,6 +111,7 @@ fn trace_in(table: &Table) -> Option<Trace>
 #[tactic(auto, unfolding(crate::specs::Scenario::built_form))]
 fn built_form(table: &Table) -> Option<Scenario>
     ensures scene { option_map scene_view result ≡ built_form (table_view table.now) }
+    ensures dim { IfSome result (λ scenario. IsDim scenario.dim) }
     ensures few { IfSome result (λ scenario. scenario.traversals ≤ 1000) }
 {
     if !all_known(table) {
@@ -130,6 +132,7 @@ fn built_form(table: &Table) -> Option<Scenario>
 #[tactic(auto, unfolding(crate::specs::Scenario::scene_of))]
 pub fn read_scenario(alloc: Global, bytes: &[u8]) -> Result<Scenario, SceneFault>
     ensures scene { GivesScene result (scene_of bytes.now) }
+    ensures dim { IfOk result (λ scenario. IsDim scenario.dim) }
     ensures few { IfOk result (λ scenario. scenario.traversals ≤ 1000) }
 {
     if bytes.len() as u64 > SCENARIO_LIMIT {

@@ -175,8 +175,8 @@ pub fn traverse_all<K: Sink, DV: Depot<Vertex<Fields>>, DC: Depot<CellRec<Fields
 ) -> Result<(), Stop>
     requires vertices { DV.holds vertices.old ≡ new_holdings 10 }
     requires cells { DC.holds cells.old ≡ new_holdings 2 }
+    requires dim { IsDim scenario.now.dim }
     requires few { scenario.now.traversals ≤ 1000 }
-    ensures dim { IsDim scenario.now.dim }
     ensures ok { OnOk result (Appends (K.text sink.old) (scenario_text scenario.now) (K.text sink.new)) }
     ensures err { OnErr result (AppendsPrefix (K.text sink.old) (scenario_text scenario.now) (K.text sink.new)) }
     ensures faults { K.faults sink.old ≤ K.faults sink.new }
@@ -191,7 +191,6 @@ pub fn traverse_all<K: Sink, DV: Depot<Vertex<Fields>>, DC: Depot<CellRec<Fields
     ensures most { OnOk result ((DV.holds vertices.new).most ≤ 2 * 2 ^ scenario.now.dim) }
     ensures cell_most { OnOk result ((DC.holds cells.new).most ≤ 1) }
 {
-    let _axes = scenario.dim.axes();
     let mut grid = Grid::fresh(scenario.dim, Fields::zero());
     for done in 0..scenario.traversals {
         let traversal = Traversal {

@@ -28,14 +28,13 @@ pub fn child_of_root(dim: Dim, digits: Digits) -> Place
 
 /// A corner of a cell.
 pub fn corner_of(dim: Dim, cell: &Place, k: u8) -> Place
+    requires dim { IsDim dim }
     requires cell { IsCellPlace dim cell.now }
     requires level { cell.now.level ≡ 1 }
     requires corner { k < 2 ^ dim }
     ensures place { result ≡ corner dim cell.now k }
-    ensures dim { IsDim dim }
     ensures level { result.level ≡ 1 }
 {
-    let _axes = dim.axes();
     let [x, y, z, w] = cell.pos;
     Place {
         level: cell.level,

@@ -13,7 +13,7 @@ pop-requires-clause-stack g c =
     let cell = c.args.cell.now in
     let inside : is_inside t.dim (corner t.dim cell c.args.k) ≡ true = ap (is_inside t.dim) (sym c.corner_of-place.ensures.place) ∙ sym c.if-not-is_inside.ensures in
     let by : ComesBy t (corner t.dim cell c.args.k) cell (Temp c.in-Temp.s) = c.in-Temp.ensures t cell c.requires.state c.requires.cell c.requires.level c.requires.corner inside in
-    omega (arith, comes_below t (corner t.dim cell c.args.k) cell c.in-Temp.s by, c.corner_of-place.ensures.dim.1, c.requires.stacks)
+    omega (arith, comes_below t (corner t.dim cell c.args.k) cell c.in-Temp.s by, c.requires.state.grid.1, c.requires.stacks)
 
 pub returns-in-Stream-clause-ok : goal.returns-in-Stream-clause-ok
 returns-in-Stream-clause-ok g c =
@@ -37,3 +37,6 @@ returns-in-Stream-clause-err g c =
 
 pub comes_by-requires : goal.comes_by-requires
 comes_by-requires g c = subst (λ axes. c.args.k < 2 ^ axes) (sym c.requires.state.same_axes) c.requires.corner
+
+pub corner_of-place-requires-clause-dim : goal.corner_of-place-requires-clause-dim
+corner_of-place-requires-clause-dim g c = c.requires.state.grid

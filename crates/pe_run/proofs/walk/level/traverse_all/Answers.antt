@@ -15,7 +15,7 @@ use Rattle.pe_run.proofs.walk.level.traverse_all.Goals as goal
 pub loop-done-init : goal.loop-done-init
 loop-done-init g c =
     let scenario = c.args.scenario.now in
-    let four = subst (λ axes. axes ≤ 4) c.axes-axes.ensures.value c.axes-axes.ensures.range.1 in
+    let four = c.requires.dim.1 in
     record {
       finished = rw c.fresh-grid.ensures refl;
       swapped = rw c.fresh-grid.ensures refl;
@@ -56,7 +56,7 @@ traverse-requires-clause-counts g c =
     let cell_start = g.DC.Depot.holds c.args.cells.now in
     let cell_before = g.DC.Depot.holds c.loop-done.cells in
     let now = c.loop-done.invariant in
-    let within = subst IsDim c.axes-axes.ensures.value c.axes-axes.ensures.range in
+    let within = c.requires.dim in
     few_after 0 (2 ^ 57) (flat_map vertex_parts (take done numbers)) start before (new_within start 10 c.requires.vertices) now.moved
     (omega (arith, all_few vertex_parts scenario.traversals done c.requires.few (λ n. vertices_few (traversal_at scenario n) within)))
 
@@ -86,7 +86,7 @@ traverse-requires-clause-cell_counts g c =
     let cell_start = g.DC.Depot.holds c.args.cells.now in
     let cell_before = g.DC.Depot.holds c.loop-done.cells in
     let now = c.loop-done.invariant in
-    let within = subst IsDim c.axes-axes.ensures.value c.axes-axes.ensures.range in
+    let within = c.requires.dim in
     few_after 0 (2 ^ 57) (flat_map cell_parts (take done numbers)) cell_start cell_before (new_within cell_start 2 c.requires.cells) now.cell_moved
     (omega (arith, all_few cell_parts scenario.traversals done c.requires.few (λ n. cells_few (traversal_at scenario n) within)))
 
@@ -165,7 +165,7 @@ loop-done-preserved g c =
     let now = c.loop-done.invariant in
     let same = at_is scenario (done + 1) c.cell_input.result c.loop-done.grid.swapped c.cell_input.ensures now.swapped in
     let member = number_at scenario.traversals done (omega arith) in
-    let four = subst (λ axes. axes ≤ 4) c.axes-axes.ensures.value c.axes-axes.ensures.range.1 in
+    let four = c.requires.dim.1 in
     let later = g.DV.Depot.holds c.traverse.new.vertices in
     let cell_later = g.DC.Depot.holds c.traverse.new.cells in
     let moved = subst (λ t. DoesAll (traversal_vertex_ops t) before later) same c.in-Ok.ensures.moved in
