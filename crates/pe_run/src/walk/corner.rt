@@ -2,6 +2,8 @@
 ghost use Rattle.std.specs.Prelude.{◌≡◌, ℕ, ◌+◌, ◌-◌, ◌<◌, ◌≤◌, ◌^◌, [], ◌∷◌, count_by, Err, OnOk, OnErr};
 ghost use Rattle.pe_base.specs.declared.place.Place.{Place as APlace};
 ghost use Rattle.pe_base.specs.declared.event.Event.TheVariants.{TouchVertexFirstTime, TouchVertexLastTime, CreateInnerVertex, CreateHangingVertex, DestroyHangingVertex};
+ghost use Rattle.pe_base.specs.declared.state.State.TheVariants.{Unrefined};
+ghost use Rattle.pe_base.specs.Payloads.{zeros};
 ghost use Rattle.pe_base.specs.Places.{IsCellPlace, corner, root};
 ghost use Rattle.pe_base.specs.Ways.{way_of};
 ghost use Rattle.pe_base.specs.Working.{fires};
@@ -24,7 +26,9 @@ use pe_io::{Sink, SinkFailed};
 use pe_stacks::{Depot, Vertex};
 
 /// A vertex that is made anew: unrefined, with a payload of zeros.
-pub fn new_vertex(kind: Kind) -> Vertex<Fields> {
+pub fn new_vertex(kind: Kind) -> Vertex<Fields>
+    ensures { result ≡ record { state = Unrefined; kind = kind; payload = record { a = zeros } } }
+{
     Vertex::new(State::Unrefined, kind, Fields::zero())
 }
 

@@ -1,5 +1,3 @@
-use Rattle.std.proofs.Common.{subst}
-use Rattle.pe_base.specs.Dim.{IsDim}
 use Rattle.pe_run.proofs.Places.{corner_is}
 use Rattle.pe_run.proofs.walk.place.corner_of.Goals as goal
 
