@@ -10,7 +10,7 @@ use Rattle.std.proofs.lemmas.List.Sums.{sum_by-append}
 use Rattle.pe_base.specs.declared.place.Place.{Place}
 use Rattle.pe_base.specs.declared.way.Way.{Way}
 use Rattle.pe_base.specs.Places.{IsCellPlace, IsInside, bits, moved, corner, padded, at}
-use Rattle.pe_base.specs.Routes.{way_turns, stack_of, stack_in, stack_out}
+use Rattle.pe_base.specs.Routes.{way_turns, waiting_stack, stack_in, stack_out}
 use Rattle.pe_base.proofs.PlaceLaws.{length-bits, bits-suc}
 use Rattle.pe_base.proofs.InnerVertices.{length-moved}
 use Rattle.pe_base.proofs.RouteLaws.{Below, Below-front, length-front, padded-front, at-front}
@@ -187,14 +187,14 @@ touches axes k cell few place inside =
       corner = moved-fits cs bs same (bits-small axes k);
     }
 
-stacks-same : (vertex : Place) (level : ℕ) (qs : List ℕ) (o : Option ℕ) → vertex ≡ at level qs → route_of (option_map (λ i. 2 * (0 + i) + slice_index qs i % 2) o) ≡ route_of (option_map (stack_of vertex) o)
+stacks-same : (vertex : Place) (level : ℕ) (qs : List ℕ) (o : Option ℕ) → vertex ≡ at level qs → route_of (option_map (λ i. 2 * (0 + i) + slice_index qs i % 2) o) ≡ route_of (option_map (waiting_stack vertex) o)
 stacks-same vertex level qs None e = refl
 stacks-same vertex level qs (Some i) e =
     let coordinate : slice_index qs i ≡ slice_index vertex.pos i = sym (index-padded qs (4 - length qs) i) ∙ ap (λ (v : Place). slice_index v.pos i) (sym e) in
     ap Temp (omega arith)
 
 -- the choice among the faces at a corner, by how the cell is entered or left around the vertex
-route-fastest : (relation : Relation) (way : Way) (b axes k : ℕ) (cell : Place) (all rest : List Line) → Sees relation (way_turns way) b → axes ≤ 4 → IsCellPlace axes cell → k < 2 ^ axes → all ≡ lines_of way cell.level (take axes cell.pos) ++ rest → Idle rest → (fastest relation 0 (bits 4 k) all).route ≡ route_of (option_map (stack_of (corner axes cell k)) (entry b cell.level (spots (moved (take axes cell.pos) (bits axes k))) (take axes cell.pos)))
+route-fastest : (relation : Relation) (way : Way) (b axes k : ℕ) (cell : Place) (all rest : List Line) → Sees relation (way_turns way) b → axes ≤ 4 → IsCellPlace axes cell → k < 2 ^ axes → all ≡ lines_of way cell.level (take axes cell.pos) ++ rest → Idle rest → (fastest relation 0 (bits 4 k) all).route ≡ route_of (option_map (waiting_stack (corner axes cell k)) (entry b cell.level (spots (moved (take axes cell.pos) (bits axes k))) (take axes cell.pos)))
 route-fastest relation way b axes k cell all rest sees few place small is idle =
     let level = cell.level in
     let cs = take axes cell.pos in
@@ -223,8 +223,8 @@ route_in-is way axes k cell all rest few place small is idle inside =
     let cs = take axes cell.pos in
     let qs = moved cs (bits axes k) in
     let o = entry (way_turns way) cell.level (spots qs) cs in
-    let P : Place → Type 0 = λ c. stack_in axes way (at cell.level qs) c ≡ option_map (stack_of (at cell.level qs)) o in
-    let Q : Place → Type 0 = λ v. stack_in axes way v cell ≡ option_map (stack_of v) o in
+    let P : Place → Type 0 = λ c. stack_in axes way (at cell.level qs) c ≡ option_map (waiting_stack (at cell.level qs)) o in
+    let Q : Place → Type 0 = λ v. stack_in axes way v cell ≡ option_map (waiting_stack v) o in
     route-fastest Earlier way (way_turns way) axes k cell all rest refl few place small is idle
     ∙ ap route_of (sym (subst Q (sym (vertex-at axes k cell few place)) (subst P (sym (at-front axes (3 ^ cell.level) cell few place.pos)) (stack_in-entry axes cell.level way qs cs (touches axes k cell few place inside)))))
 
@@ -233,7 +233,7 @@ route_out-is way axes k cell all rest few place small is idle inside =
     let cs = take axes cell.pos in
     let qs = moved cs (bits axes k) in
     let o = entry (suc (way_turns way)) cell.level (spots qs) cs in
-    let P : Place → Type 0 = λ c. stack_out axes way (at cell.level qs) c ≡ option_map (stack_of (at cell.level qs)) o in
-    let Q : Place → Type 0 = λ v. stack_out axes way v cell ≡ option_map (stack_of v) o in
+    let P : Place → Type 0 = λ c. stack_out axes way (at cell.level qs) c ≡ option_map (waiting_stack (at cell.level qs)) o in
+    let Q : Place → Type 0 = λ v. stack_out axes way v cell ≡ option_map (waiting_stack v) o in
     route-fastest Later way (suc (way_turns way)) axes k cell all rest refl few place small is idle
     ∙ ap route_of (sym (subst Q (sym (vertex-at axes k cell few place)) (subst P (sym (at-front axes (3 ^ cell.level) cell few place.pos)) (stack_out-entry axes cell.level way qs cs (touches axes k cell few place inside)))))

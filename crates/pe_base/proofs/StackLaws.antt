@@ -9,7 +9,7 @@ use Rattle.pe_base.specs.declared.place.Place.{Place}
 use Rattle.pe_base.specs.declared.way.Way.{Way}
 use Rattle.pe_base.specs.Places.{padded, at, is_same, is_same_pos}
 use Rattle.pe_base.specs.Curve.{mirrored}
-use Rattle.pe_base.specs.Routes.{way_turns, axis_of, stack_of, stack_in, stack_out}
+use Rattle.pe_base.specs.Routes.{way_turns, axis_of, waiting_stack, stack_in, stack_out}
 use Rattle.pe_base.proofs.Walks.{Path}
 use Rattle.pe_base.proofs.Spans.{Spot, fits_all, Crosses, parents, is_even}
 use Rattle.pe_base.proofs.Levels.{kids, cells, holders, entry}
@@ -198,7 +198,7 @@ pub record Touches (axes level : ℕ) (qs cs : List ℕ) : Type 0 where
 Member-holders : (axes w level : ℕ) (qs cs : List ℕ) → Touches axes level qs cs → Member cs (holders axes w level (spots qs))
 Member-holders axes w level qs cs h = Member-filter (fits_all (spots qs)) cs (cells axes w level) h.corner (Member-cells axes w level cs h.cell h.room)
 
-pub stack_in-entry : (axes level : ℕ) (way : Way) (qs cs : List ℕ) → Touches axes level qs cs → stack_in axes way (at level qs) (at level cs) ≡ option_map (stack_of (at level qs)) (entry (way_turns way) level (spots qs) cs)
+pub stack_in-entry : (axes level : ℕ) (way : Way) (qs cs : List ℕ) → Touches axes level qs cs → stack_in axes way (at level qs) (at level cs) ≡ option_map (waiting_stack (at level qs)) (entry (way_turns way) level (spots qs) cs)
 stack_in-entry axes level way qs cs h =
     let w = way_turns way in
     let r = round_at axes w level qs h.vertex h.inside in
@@ -207,11 +207,11 @@ stack_in-entry axes level way qs cs h =
     let long : All (λ x. length x ≡ axes) (r.first ∷ r.walk.rest) = subst L r.walk.is (All-filter (fits_all (spots qs)) (λ x. length x ≡ axes) (cells axes w level) (cells-long axes w level)) in
     let member : Member cs (r.first ∷ r.walk.rest) = subst M r.walk.is (Member-holders axes w level qs cs h) in
     let left : Member cs r.walk.rest ⊎ (entry w level (spots qs) cs ≡ None) = elim member [ inl e ↦ inr (ap (entry w level (spots qs)) (sym e) ∙ r.walk.starts) | inr m ↦ inl m ] in
-    ap (λ xs. option_map (λ step. stack_of (at level qs) (axis_of step)) (find (λ step. is_same step.1 (at level cs)) xs)) (steps-round axes level way qs h.vertex h.few r)
-    ∙ option_map-both (stack_of (at level qs)) axis_of _
-    ∙ ap (option_map (stack_of (at level qs))) (find-to (entry w level (spots qs)) (entry (suc w) level (spots qs)) (spots qs) level axes cs r.first r.walk.rest r.last h.cell long r.walk.path left)
+    ap (λ xs. option_map (λ step. waiting_stack (at level qs) (axis_of step)) (find (λ step. is_same step.1 (at level cs)) xs)) (steps-round axes level way qs h.vertex h.few r)
+    ∙ option_map-both (waiting_stack (at level qs)) axis_of _
+    ∙ ap (option_map (waiting_stack (at level qs))) (find-to (entry w level (spots qs)) (entry (suc w) level (spots qs)) (spots qs) level axes cs r.first r.walk.rest r.last h.cell long r.walk.path left)
 
-pub stack_out-entry : (axes level : ℕ) (way : Way) (qs cs : List ℕ) → Touches axes level qs cs → stack_out axes way (at level qs) (at level cs) ≡ option_map (stack_of (at level qs)) (entry (turns_back way) level (spots qs) cs)
+pub stack_out-entry : (axes level : ℕ) (way : Way) (qs cs : List ℕ) → Touches axes level qs cs → stack_out axes way (at level qs) (at level cs) ≡ option_map (waiting_stack (at level qs)) (entry (turns_back way) level (spots qs) cs)
 stack_out-entry axes level way qs cs h =
     let w = way_turns way in
     let r = round_at axes w level qs h.vertex h.inside in
@@ -219,6 +219,6 @@ stack_out-entry axes level way qs cs h =
     let L : List (List ℕ) → Type 0 = λ xs. All (λ x. length x ≡ axes) xs in
     let long : All (λ x. length x ≡ axes) (r.first ∷ r.walk.rest) = subst L r.walk.is (All-filter (fits_all (spots qs)) (λ x. length x ≡ axes) (cells axes w level) (cells-long axes w level)) in
     let member : Member cs (r.first ∷ r.walk.rest) = subst M r.walk.is (Member-holders axes w level qs cs h) in
-    ap (λ xs. option_map (λ step. stack_of (at level qs) (axis_of step)) (find (λ step. is_same step.0 (at level cs)) xs)) (steps-round axes level way qs h.vertex h.few r)
-    ∙ option_map-both (stack_of (at level qs)) axis_of _
-    ∙ ap (option_map (stack_of (at level qs))) (find-from (entry w level (spots qs)) (entry (suc w) level (spots qs)) (spots qs) level axes cs r.first r.walk.rest r.last h.cell long r.walk.path r.walk.ends member)
+    ap (λ xs. option_map (λ step. waiting_stack (at level qs) (axis_of step)) (find (λ step. is_same step.0 (at level cs)) xs)) (steps-round axes level way qs h.vertex h.few r)
+    ∙ option_map-both (waiting_stack (at level qs)) axis_of _
+    ∙ ap (option_map (waiting_stack (at level qs))) (find-from (entry w level (spots qs)) (entry (suc w) level (spots qs)) (spots qs) level axes cs r.first r.walk.rest r.last h.cell long r.walk.path r.walk.ends member)

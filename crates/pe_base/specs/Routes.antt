@@ -36,8 +36,8 @@ pub record SharesFace (axis : ℕ) (a b : Place) : Type 0 where
   pub along : (other : ℕ) → other ≢ axis → slice_index a.pos other ≡ slice_index b.pos other
 
 -- the temporary stack on which a vertex waits while it crosses a face normal to an axis
-abbrev pub stack_of : Place → ℕ → ℕ
-stack_of vertex axis = 2 * axis + slice_index vertex.pos axis % 2
+abbrev pub waiting_stack : Place → ℕ → ℕ
+waiting_stack vertex axis = 2 * axis + slice_index vertex.pos axis % 2
 
 -- the step around a vertex that ends at a cell, from the cell before it
 abbrev pub step_to : ℕ → Way → Place → Place → Option (Place × Place)
@@ -49,11 +49,11 @@ step_from axes way vertex cell = find (λ step. is_same step.0 cell) (steps (aro
 
 -- the stack from which a cell takes a vertex; none for the first of the cells around it, which takes it from the stream
 abbrev pub stack_in : ℕ → Way → Place → Place → Option ℕ
-stack_in axes way vertex cell = option_map (λ step. stack_of vertex (axis_of step)) (step_to axes way vertex cell)
+stack_in axes way vertex cell = option_map (λ step. waiting_stack vertex (axis_of step)) (step_to axes way vertex cell)
 
 -- the stack to which a cell gives a vertex; none for the last of the cells around it, which gives it to the stream
 abbrev pub stack_out : ℕ → Way → Place → Place → Option ℕ
-stack_out axes way vertex cell = option_map (λ step. stack_of vertex (axis_of step)) (step_from axes way vertex cell)
+stack_out axes way vertex cell = option_map (λ step. waiting_stack vertex (axis_of step)) (step_from axes way vertex cell)
 
 -- around a vertex there are as many cells as a cell has corners
 abbrev pub HasCells : ℕ → Way → Place → Type 0

@@ -182,12 +182,9 @@ pub fn traverse_all<K: Sink, DV: Depot<Vertex<Fields>>, DC: Depot<CellRec<Fields
     ensures faults { K.faults sink.old ≤ K.faults sink.new }
     ensures failed { result ≡ Err Stop.Sink → Rises (K.faults sink.old) (K.faults sink.new) }
     ensures out { (DV.holds vertices.new).out ≡ 0 }
-    ensures stacks { stack_count (DV.holds vertices.new) ≡ 10 }
     ensures cell_out { (DC.holds cells.new).out ≡ 0 }
-    ensures cell_stacks { stack_count (DC.holds cells.new) ≡ 2 }
     ensures traffic { OnOk result (DoesAll (vertex_traffic scenario.now) (DV.holds vertices.old) (DV.holds vertices.new)) }
     ensures cell_traffic { OnOk result (DoesAll (cell_traffic scenario.now) (DC.holds cells.old) (DC.holds cells.new)) }
-    ensures temporary { OnOk result ((s : ℕ) → s < 8 → len_at (DV.holds vertices.new) s ≡ 0) }
     ensures most { OnOk result ((DV.holds vertices.new).most ≤ 2 * 2 ^ scenario.now.dim) }
     ensures cell_most { OnOk result ((DC.holds cells.new).most ≤ 1) }
 {

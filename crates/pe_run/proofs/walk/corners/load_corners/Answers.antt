@@ -18,7 +18,6 @@ load_corner-requires-clause-stacks g c =
     let cell = c.args.cell.now in
     let ks = reverse (range_with_len 0 (2 ^ t.dim)) in
     let n = c.loop-done.done in
-    let k = c.corners-count.result - 1 - n in
     let start = g.D.Depot.holds c.args.vertices.now in
     let before = g.D.Depot.holds c.loop-done.vertices in
     (counted (flat_map (load_ops t cell) (take n ks)) start before c.loop-done.invariant.moved).stacks ∙ c.requires.stacks
@@ -29,7 +28,6 @@ load_corner-requires-clause-counts g c =
     let cell = c.args.cell.now in
     let ks = reverse (range_with_len 0 (2 ^ t.dim)) in
     let n = c.loop-done.done in
-    let k = c.corners-count.result - 1 - n in
     let start = g.D.Depot.holds c.args.vertices.now in
     let before = g.D.Depot.holds c.loop-done.vertices in
     few_after (2 ^ 61) (2 ^ 62) (flat_map (load_ops t cell) (take n ks)) start before c.requires.counts c.loop-done.invariant.moved
@@ -54,8 +52,6 @@ returns-in-Err-clause-err g c =
     let ks = reverse (range_with_len 0 (2 ^ t.dim)) in
     let n = c.loop-done.done in
     let k = c.corners-count.result - 1 - n in
-    let start = g.D.Depot.holds c.args.vertices.now in
-    let before = g.D.Depot.holds c.loop-done.vertices in
     let member = descending_at (2 ^ t.dim) c.corners-count.result n c.corners-count.ensures.value (omega arith) in
     fired_next_part t (load_firings t.dim t.number cell) ks n k (g.K.Sink.text c.args.sink.now) (g.K.Sink.text c.loop-done.sink) (g.K.Sink.text c.load_corner.new.sink) member c.loop-done.invariant.text c.in-Err.ensures.err
 
@@ -65,7 +61,6 @@ returns-in-Err-clause-dropped g c =
     let cell = c.args.cell.now in
     let ks = reverse (range_with_len 0 (2 ^ t.dim)) in
     let n = c.loop-done.done in
-    let k = c.corners-count.result - 1 - n in
     let start = g.D.Depot.holds c.args.vertices.now in
     let before = g.D.Depot.holds c.loop-done.vertices in
     record {
@@ -97,11 +92,7 @@ pub returns-clause-ok : goal.returns-clause-ok
 returns-clause-ok g c =
     let t = c.args.traversal.now in
     let cell = c.args.cell.now in
-    let ks = reverse (range_with_len 0 (2 ^ t.dim)) in
     let n = c.loop-done.done in
-    let k = c.corners-count.result - 1 - n in
-    let start = g.D.Depot.holds c.args.vertices.now in
-    let before = g.D.Depot.holds c.loop-done.vertices in
     subst (λ js. Appends (g.K.Sink.text c.args.sink.now) (fired t (flat_map (load_firings t.dim t.number cell) js)) (g.K.Sink.text c.loop-done.sink))
     (descending_all (2 ^ t.dim) n (omega (arith, c.corners-count.ensures.value))) c.loop-done.invariant.text
 
@@ -109,9 +100,7 @@ pub returns-clause-moved : goal.returns-clause-moved
 returns-clause-moved g c =
     let t = c.args.traversal.now in
     let cell = c.args.cell.now in
-    let ks = reverse (range_with_len 0 (2 ^ t.dim)) in
     let n = c.loop-done.done in
-    let k = c.corners-count.result - 1 - n in
     let start = g.D.Depot.holds c.args.vertices.now in
     let before = g.D.Depot.holds c.loop-done.vertices in
     subst (λ js. DoesAll (flat_map (load_ops t cell) js) start before) (descending_all (2 ^ t.dim) n (omega (arith, c.corners-count.ensures.value))) c.loop-done.invariant.moved

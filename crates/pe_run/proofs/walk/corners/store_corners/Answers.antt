@@ -45,8 +45,6 @@ returns-in-Err-clause-err g c =
     let cell = c.args.cell.now in
     let ks = range_with_len 0 (2 ^ t.dim) in
     let n = c.loop-k.k in
-    let start = g.D.Depot.holds c.args.vertices.now in
-    let before = g.D.Depot.holds c.loop-k.vertices in
     let member = ascending_at (2 ^ t.dim) n (omega (arith, c.corners-k-end.ensures.value)) in
     fired_next_part t (store_firings t.dim t.number cell) ks n n (g.K.Sink.text c.args.sink.now) (g.K.Sink.text c.loop-k.sink) (g.K.Sink.text c.store_corner.new.sink) member c.loop-k.invariant.text c.in-Err.ensures.err
 
@@ -84,10 +82,7 @@ pub returns-clause-ok : goal.returns-clause-ok
 returns-clause-ok g c =
     let t = c.args.traversal.now in
     let cell = c.args.cell.now in
-    let ks = range_with_len 0 (2 ^ t.dim) in
     let n = c.loop-k.k in
-    let start = g.D.Depot.holds c.args.vertices.now in
-    let before = g.D.Depot.holds c.loop-k.vertices in
     subst (λ js. Appends (g.K.Sink.text c.args.sink.now) (fired t (flat_map (store_firings t.dim t.number cell) js)) (g.K.Sink.text c.loop-k.sink))
     (ascending_all (2 ^ t.dim) n (omega (arith, c.corners-k-end.ensures.value))) c.loop-k.invariant.text
 
@@ -95,7 +90,6 @@ pub returns-clause-moved : goal.returns-clause-moved
 returns-clause-moved g c =
     let t = c.args.traversal.now in
     let cell = c.args.cell.now in
-    let ks = range_with_len 0 (2 ^ t.dim) in
     let n = c.loop-k.k in
     let start = g.D.Depot.holds c.args.vertices.now in
     let before = g.D.Depot.holds c.loop-k.vertices in

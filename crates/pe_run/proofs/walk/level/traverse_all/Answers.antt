@@ -35,11 +35,8 @@ traverse-requires-clause-stacks g c =
     let done = c.loop-done.done in
     let numbers = range_with_len 1 scenario.traversals in
     let vertex_parts = λ (n : ℕ). traversal_vertex_ops (traversal_at scenario n) in
-    let cell_parts = λ (n : ℕ). traversal_cell_ops (traversal_at scenario n) in
     let start = g.DV.Depot.holds c.args.vertices.now in
     let before = g.DV.Depot.holds c.loop-done.vertices in
-    let cell_start = g.DC.Depot.holds c.args.cells.now in
-    let cell_before = g.DC.Depot.holds c.loop-done.cells in
     let now = c.loop-done.invariant in
     (counted (flat_map vertex_parts (take done numbers)) start before now.moved).stacks ∙ ap stack_count c.requires.vertices
 
@@ -49,11 +46,8 @@ traverse-requires-clause-counts g c =
     let done = c.loop-done.done in
     let numbers = range_with_len 1 scenario.traversals in
     let vertex_parts = λ (n : ℕ). traversal_vertex_ops (traversal_at scenario n) in
-    let cell_parts = λ (n : ℕ). traversal_cell_ops (traversal_at scenario n) in
     let start = g.DV.Depot.holds c.args.vertices.now in
     let before = g.DV.Depot.holds c.loop-done.vertices in
-    let cell_start = g.DC.Depot.holds c.args.cells.now in
-    let cell_before = g.DC.Depot.holds c.loop-done.cells in
     let now = c.loop-done.invariant in
     let within = c.requires.dim in
     few_after 0 (2 ^ 57) (flat_map vertex_parts (take done numbers)) start before (new_within start 10 c.requires.vertices) now.moved
@@ -64,10 +58,7 @@ traverse-requires-clause-cell_stacks g c =
     let scenario = c.args.scenario.now in
     let done = c.loop-done.done in
     let numbers = range_with_len 1 scenario.traversals in
-    let vertex_parts = λ (n : ℕ). traversal_vertex_ops (traversal_at scenario n) in
     let cell_parts = λ (n : ℕ). traversal_cell_ops (traversal_at scenario n) in
-    let start = g.DV.Depot.holds c.args.vertices.now in
-    let before = g.DV.Depot.holds c.loop-done.vertices in
     let cell_start = g.DC.Depot.holds c.args.cells.now in
     let cell_before = g.DC.Depot.holds c.loop-done.cells in
     let now = c.loop-done.invariant in
@@ -78,10 +69,7 @@ traverse-requires-clause-cell_counts g c =
     let scenario = c.args.scenario.now in
     let done = c.loop-done.done in
     let numbers = range_with_len 1 scenario.traversals in
-    let vertex_parts = λ (n : ℕ). traversal_vertex_ops (traversal_at scenario n) in
     let cell_parts = λ (n : ℕ). traversal_cell_ops (traversal_at scenario n) in
-    let start = g.DV.Depot.holds c.args.vertices.now in
-    let before = g.DV.Depot.holds c.loop-done.vertices in
     let cell_start = g.DC.Depot.holds c.args.cells.now in
     let cell_before = g.DC.Depot.holds c.loop-done.cells in
     let now = c.loop-done.invariant in
@@ -93,16 +81,10 @@ pub traverse-requires-clause-ready : goal.traverse-requires-clause-ready
 traverse-requires-clause-ready g c =
     let scenario = c.args.scenario.now in
     let done = c.loop-done.done in
-    let numbers = range_with_len 1 scenario.traversals in
-    let vertex_parts = λ (n : ℕ). traversal_vertex_ops (traversal_at scenario n) in
-    let cell_parts = λ (n : ℕ). traversal_cell_ops (traversal_at scenario n) in
-    let start = g.DV.Depot.holds c.args.vertices.now in
     let before = g.DV.Depot.holds c.loop-done.vertices in
-    let cell_start = g.DC.Depot.holds c.args.cells.now in
     let cell_before = g.DC.Depot.holds c.loop-done.cells in
     let now = c.loop-done.invariant in
     let same = at_is scenario (done + 1) c.cell_input.result c.loop-done.grid.swapped c.cell_input.ensures now.swapped in
-    let member = number_at scenario.traversals done (omega arith) in
     subst (λ t. Ready t before cell_before) (sym same) now.ready
 
 pub returns-in-Err-clause-err : goal.returns-in-Err-clause-err
@@ -110,45 +92,11 @@ returns-in-Err-clause-err g c =
     let scenario = c.args.scenario.now in
     let done = c.loop-done.done in
     let numbers = range_with_len 1 scenario.traversals in
-    let vertex_parts = λ (n : ℕ). traversal_vertex_ops (traversal_at scenario n) in
-    let cell_parts = λ (n : ℕ). traversal_cell_ops (traversal_at scenario n) in
-    let start = g.DV.Depot.holds c.args.vertices.now in
-    let before = g.DV.Depot.holds c.loop-done.vertices in
-    let cell_start = g.DC.Depot.holds c.args.cells.now in
-    let cell_before = g.DC.Depot.holds c.loop-done.cells in
     let now = c.loop-done.invariant in
     let same = at_is scenario (done + 1) c.cell_input.result c.loop-done.grid.swapped c.cell_input.ensures now.swapped in
     let member = number_at scenario.traversals done (omega arith) in
     AppendsPrefix-next (λ n. traversal_text (traversal_at scenario n)) numbers done (done + 1) (g.K.Sink.text c.args.sink.now) (g.K.Sink.text c.loop-done.sink) (g.K.Sink.text c.traverse.new.sink) member now.text
     (subst (λ t. AppendsPrefix (g.K.Sink.text c.loop-done.sink) (traversal_text t) (g.K.Sink.text c.traverse.new.sink)) same c.in-Err.ensures.err)
-
-pub returns-in-Err-clause-stacks : goal.returns-in-Err-clause-stacks
-returns-in-Err-clause-stacks g c =
-    let scenario = c.args.scenario.now in
-    let done = c.loop-done.done in
-    let numbers = range_with_len 1 scenario.traversals in
-    let vertex_parts = λ (n : ℕ). traversal_vertex_ops (traversal_at scenario n) in
-    let cell_parts = λ (n : ℕ). traversal_cell_ops (traversal_at scenario n) in
-    let start = g.DV.Depot.holds c.args.vertices.now in
-    let before = g.DV.Depot.holds c.loop-done.vertices in
-    let cell_start = g.DC.Depot.holds c.args.cells.now in
-    let cell_before = g.DC.Depot.holds c.loop-done.cells in
-    let now = c.loop-done.invariant in
-    c.in-Err.ensures.dropped.stacks ∙ (counted (flat_map vertex_parts (take done numbers)) start before now.moved).stacks ∙ ap stack_count c.requires.vertices
-
-pub returns-in-Err-clause-cell_stacks : goal.returns-in-Err-clause-cell_stacks
-returns-in-Err-clause-cell_stacks g c =
-    let scenario = c.args.scenario.now in
-    let done = c.loop-done.done in
-    let numbers = range_with_len 1 scenario.traversals in
-    let vertex_parts = λ (n : ℕ). traversal_vertex_ops (traversal_at scenario n) in
-    let cell_parts = λ (n : ℕ). traversal_cell_ops (traversal_at scenario n) in
-    let start = g.DV.Depot.holds c.args.vertices.now in
-    let before = g.DV.Depot.holds c.loop-done.vertices in
-    let cell_start = g.DC.Depot.holds c.args.cells.now in
-    let cell_before = g.DC.Depot.holds c.loop-done.cells in
-    let now = c.loop-done.invariant in
-    c.in-Err.ensures.cell_dropped.stacks ∙ (counted (flat_map cell_parts (take done numbers)) cell_start cell_before now.cell_moved).stacks ∙ ap stack_count c.requires.cells
 
 pub loop-done-preserved : goal.loop-done-preserved
 loop-done-preserved g c =
@@ -188,55 +136,16 @@ pub returns-clause-ok : goal.returns-clause-ok
 returns-clause-ok g c =
     let scenario = c.args.scenario.now in
     let done = c.loop-done.done in
-    let numbers = range_with_len 1 scenario.traversals in
-    let vertex_parts = λ (n : ℕ). traversal_vertex_ops (traversal_at scenario n) in
-    let cell_parts = λ (n : ℕ). traversal_cell_ops (traversal_at scenario n) in
-    let start = g.DV.Depot.holds c.args.vertices.now in
-    let before = g.DV.Depot.holds c.loop-done.vertices in
-    let cell_start = g.DC.Depot.holds c.args.cells.now in
-    let cell_before = g.DC.Depot.holds c.loop-done.cells in
     let now = c.loop-done.invariant in
     subst (λ ns. Appends (g.K.Sink.text c.args.sink.now) (flat_map (λ n. traversal_text (traversal_at scenario n)) ns) (g.K.Sink.text c.loop-done.sink)) (all_numbers scenario.traversals done (omega arith)) now.text
-
-pub returns-clause-stacks : goal.returns-clause-stacks
-returns-clause-stacks g c =
-    let scenario = c.args.scenario.now in
-    let done = c.loop-done.done in
-    let numbers = range_with_len 1 scenario.traversals in
-    let vertex_parts = λ (n : ℕ). traversal_vertex_ops (traversal_at scenario n) in
-    let cell_parts = λ (n : ℕ). traversal_cell_ops (traversal_at scenario n) in
-    let start = g.DV.Depot.holds c.args.vertices.now in
-    let before = g.DV.Depot.holds c.loop-done.vertices in
-    let cell_start = g.DC.Depot.holds c.args.cells.now in
-    let cell_before = g.DC.Depot.holds c.loop-done.cells in
-    let now = c.loop-done.invariant in
-    (counted (flat_map vertex_parts (take done numbers)) start before now.moved).stacks ∙ ap stack_count c.requires.vertices
-
-pub returns-clause-cell_stacks : goal.returns-clause-cell_stacks
-returns-clause-cell_stacks g c =
-    let scenario = c.args.scenario.now in
-    let done = c.loop-done.done in
-    let numbers = range_with_len 1 scenario.traversals in
-    let vertex_parts = λ (n : ℕ). traversal_vertex_ops (traversal_at scenario n) in
-    let cell_parts = λ (n : ℕ). traversal_cell_ops (traversal_at scenario n) in
-    let start = g.DV.Depot.holds c.args.vertices.now in
-    let before = g.DV.Depot.holds c.loop-done.vertices in
-    let cell_start = g.DC.Depot.holds c.args.cells.now in
-    let cell_before = g.DC.Depot.holds c.loop-done.cells in
-    let now = c.loop-done.invariant in
-    (counted (flat_map cell_parts (take done numbers)) cell_start cell_before now.cell_moved).stacks ∙ ap stack_count c.requires.cells
 
 pub returns-clause-traffic : goal.returns-clause-traffic
 returns-clause-traffic g c =
     let scenario = c.args.scenario.now in
     let done = c.loop-done.done in
-    let numbers = range_with_len 1 scenario.traversals in
     let vertex_parts = λ (n : ℕ). traversal_vertex_ops (traversal_at scenario n) in
-    let cell_parts = λ (n : ℕ). traversal_cell_ops (traversal_at scenario n) in
     let start = g.DV.Depot.holds c.args.vertices.now in
     let before = g.DV.Depot.holds c.loop-done.vertices in
-    let cell_start = g.DC.Depot.holds c.args.cells.now in
-    let cell_before = g.DC.Depot.holds c.loop-done.cells in
     let now = c.loop-done.invariant in
     subst (λ ns. DoesAll (flat_map vertex_parts ns) start before) (all_numbers scenario.traversals done (omega arith)) now.moved
 
@@ -244,11 +153,7 @@ pub returns-clause-cell_traffic : goal.returns-clause-cell_traffic
 returns-clause-cell_traffic g c =
     let scenario = c.args.scenario.now in
     let done = c.loop-done.done in
-    let numbers = range_with_len 1 scenario.traversals in
-    let vertex_parts = λ (n : ℕ). traversal_vertex_ops (traversal_at scenario n) in
     let cell_parts = λ (n : ℕ). traversal_cell_ops (traversal_at scenario n) in
-    let start = g.DV.Depot.holds c.args.vertices.now in
-    let before = g.DV.Depot.holds c.loop-done.vertices in
     let cell_start = g.DC.Depot.holds c.args.cells.now in
     let cell_before = g.DC.Depot.holds c.loop-done.cells in
     let now = c.loop-done.invariant in
