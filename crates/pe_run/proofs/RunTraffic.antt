@@ -15,13 +15,13 @@ use Rattle.pe_run.specs.declared.walk.traversal.Traversal.{Traversal}
 use Rattle.pe_run.specs.declared.scenario.Scenario.{Scenario}
 use Rattle.pe_run.specs.Trace.{traces}
 use Rattle.pe_run.specs.Crossed.{crossed}
-use Rattle.pe_run.specs.Depots.{stream_of, is_odd, vertex_pushes, vertex_pops, cell_pushes, cell_pops, in_all, HasTraffic}
-use Rattle.pe_run.specs.Traffic.{Op, lends, pushes, pops, is_push_on, is_pop_from, DoesAll}
+use Rattle.pe_run.specs.Depots.{stream_of, is_odd, vertex_pushes, vertex_pops, cell_pushes, cell_pops, vertex_lends, cell_lends, in_all, HasTraffic}
+use Rattle.pe_run.specs.Traffic.{Op, lends, pushes, pops, is_lend, is_push_on, is_pop_from, DoesAll}
 use Rattle.pe_run.specs.Walked.{input_of, output_of, cell_input_of, cell_output_of, cell_ops, traversal_vertex_ops, traversal_cell_ops, traversal_at, scenario_text, vertex_traffic, cell_traffic}
 use Rattle.pe_run.proofs.LevelOneWalk.{traversals_are}
 use Rattle.pe_run.proofs.TrafficLaws.{counted}
 use Rattle.pe_run.proofs.Sums.{sum_by_same, count-flat_map}
-use Rattle.pe_run.proofs.Crossings.{traversal_pops, traversal_pushes, traversal_reads, traversal_writes}
+use Rattle.pe_run.proofs.Crossings.{traversal_pops, traversal_pushes, traversal_reads, traversal_writes, traversal_lends}
 
 -- the streams are exchanged before each even traversal
 abbrev pub Alternates : Traversal → Type 0
@@ -121,6 +121,13 @@ module _ (t : Traversal) (dim : IsDim t.dim) (alternates : Alternates t) where
       one true = none (cell_input_of t == s)
       one false = times (cell_input_of t == s)
 
+  pub cell_lends_are : count_by is_lend (traversal_cell_ops t) ≡ cell_lends t.dim t.number
+  cell_lends_are = each_cell t is_lend ∙ one (t.number == 1)
+    where
+      one : (first : Bool) → 3 ^ t.dim * count_by is_lend ((if first then lends ∷ [] else (pops (cell_input_of t) ∷ [])) ++ pushes (cell_output_of t) ∷ []) ≡ (if first then 3 ^ t.dim else 0)
+      one true = omega arith
+      one false = omega arith
+
 -- of the two remainders of 2
 halves : (r : ℕ) → r < 2 → (r == 0) ≡ not (r == 1)
 halves zero h = refl
@@ -144,6 +151,9 @@ module _ {X : Type 0} (count : ℕ) (ops : List Op) (start end : Holdings X) (ne
   pushed_all : (s : ℕ) → (stack_at end s).pushes ≡ count_by (is_push_on s) ops
   pushed_all s = omega (arith, (counted ops start end does).pushes s, ap (λ (stack : Stack X). stack.pushes) (first_at s))
 
+  lent_all : end.fresh ≡ count_by is_lend ops
+  lent_all = omega (arith, (counted ops start end does).fresh, ap (λ (held : Holdings X). held.fresh) new)
+
   popped_all : (s : ℕ) → (stack_at end s).pops ≡ count_by (is_pop_from s) ops
   popped_all s = omega (arith, (counted ops start end does).pops s, ap (λ (stack : Stack X). stack.pops) (first_at s))
 
@@ -166,6 +176,10 @@ has_traffic scenario start end cell_start cell_end dim new cell_new does cell_do
           ∙ in_traversals (is_push_on s) (λ n. traversal_cell_ops (t n)) (cell_pushes scenario.dim s) (λ n. cell_pushes_are (t n) dim (alternates scenario n) s) count;
       cell_pops_are = λ s. popped_all 2 (cell_traffic scenario) cell_start cell_end cell_new cell_does s
           ∙ in_traversals (is_pop_from s) (λ n. traversal_cell_ops (t n)) (cell_pops scenario.dim s) (λ n. cell_pops_are (t n) dim (alternates scenario n) s) count;
+      vertices_lent = lent_all 10 (vertex_traffic scenario) start end new does
+          ∙ in_traversals is_lend (λ n. traversal_vertex_ops (t n)) (vertex_lends scenario.dim) (λ n. traversal_lends (t n) dim) count;
+      cells_lent = lent_all 2 (cell_traffic scenario) cell_start cell_end cell_new cell_does
+          ∙ in_traversals is_lend (λ n. traversal_cell_ops (t n)) (cell_lends scenario.dim) (λ n. cell_lends_are (t n) dim (alternates scenario n)) count;
       vertices_out = omega (arith, most);
       cells_out = cell_most;
     }

@@ -7,6 +7,8 @@ mod run;
 mod scenario;
 mod status;
 mod trace;
+#[cfg(test)]
+mod traffic_rows;
 mod walk;
 mod words;
 
