@@ -26,10 +26,6 @@ Chain R [] = Unit {0}
 Chain R (x ∷ []) = Unit {0}
 Chain R (x ∷ y ∷ ys) = R x y × Chain R (y ∷ ys)
 
-chain_tail : {X : Type 0} (R : X → X → Type 0) (x : X) (xs : List X) → Chain R (x ∷ xs) → Chain R xs
-chain_tail R x [] c = tt
-chain_tail R x (y ∷ ys) c = c.1
-
 chain_join : {X : Type 0} (R : X → X → Type 0) (zs : List X) (x : X) (ys : List X) → Chain R (zs ++ x ∷ []) → Chain R (x ∷ ys) → Chain R (zs ++ x ∷ ys)
 chain_join R [] x ys c d = d
 chain_join R (z ∷ []) x ys c d = (c.0, d)

@@ -1,7 +1,7 @@
 -- Laws of the order along the curve.
 use Rattle.std.proofs.Common.{◌≡◌, ℕ, zero, suc, ◌+◌, ◌-◌, ◌*◌, ◌/◌, ◌%◌, ◌^◌, ◌<◌, ◌≤◌, true, false, List, [], ◌∷◌, ◌++◌, map, length, Some, sym, inl, inr, ap, ◌∙◌, subst, refl, arith, pow-suc, div-add-mod'}
-use Rattle.std.specs.Prelude.{slice_get, slice_index, reverse, All, sum, if◌then◌else◌, ◌==◌}
-use Rattle.std.specs.List.{flat_map, remove, range_with_len}
+use Rattle.std.specs.Prelude.{slice_get, reverse, All, sum, if◌then◌else◌, ◌==◌}
+use Rattle.std.specs.List.{flat_map, range_with_len}
 use Rattle.std.specs.Option.{option_map}
 use Rattle.std.proofs.Math.Nat.{one-le-pow}
 use Rattle.std.proofs.lemmas.Bool.{cases_lt}
@@ -15,7 +15,7 @@ use Rattle.pe_base.specs.declared.place.Digits.{Digits}
 use Rattle.pe_base.specs.declared.place.Place.{Place}
 use Rattle.pe_base.specs.declared.way.Way.{Way}
 use Rattle.pe_base.specs.declared.way.Way.TheVariants.{Forward, Inverted}
-use Rattle.pe_base.specs.Places.{IsCellPlace, IsDigits, child_at, bits, finer}
+use Rattle.pe_base.specs.Places.{IsCellPlace, IsDigits, child_at, bits}
 use Rattle.pe_base.specs.Curve.{digit_lists, digits_of, mirrored, turned, along, child_digits, children, flip, flips}
 use Rattle.pe_base.proofs.PlaceLaws.{IsPosition-padded, IsCellPlace-child_at, length-bits, get_or-bits}
 
@@ -132,10 +132,6 @@ length-turned (e₁ ∷ es) before (t ∷ ts) e = ap suc (length-turned es (befo
 
 pub mirrored-below : (turns t : ℕ) → t < 3 → mirrored turns t < 3
 mirrored-below turns t h = elim (turns % 2 == 0) as (λ b. (if b then t else (2 - t)) < 3) [ true ↦ h | false ↦ omega arith ]
-
--- mirroring keeps the parity of a digit
-pub mirrored-parity : (turns t : ℕ) → t < 3 → mirrored turns t % 2 ≡ t % 2
-mirrored-parity turns t h = elim (turns % 2 == 0) as (λ b. (if b then t else (2 - t)) % 2 ≡ t % 2) [ true ↦ refl | false ↦ omega arith ]
 
 pub turned-below : (es : List ℕ) (before : ℕ) (ts : List ℕ) → All (λ t. t < 3) ts → All (λ k. k < 3) (turned es before ts)
 turned-below [] before ts h = All-nil (λ t. t < 3)
@@ -263,26 +259,6 @@ child_digits-inverted axes es parities =
 pub sum-cons : (x : ℕ) (xs : List ℕ) → sum (x ∷ xs) ≡ x + sum xs
 sum-cons x xs = sum_by-cons (λ x. x) x xs
 
-sum-finer : (xs ks : List ℕ) → length xs ≡ length ks → sum (finer xs ks) ≡ 3 * sum xs + sum ks
-sum-finer [] [] e = refl
-sum-finer [] (k ∷ ks) e = absurd (omega arith)
-sum-finer (x ∷ xs) [] e = absurd (omega arith)
-sum-finer (x ∷ xs) (k ∷ ks) e =
-    omega (arith, sum-cons (3 * x + k) (finer xs ks), sum-cons x xs, sum-cons k ks, sum-finer xs ks (omega arith))
-
-sum-remove-finer : (xs ks : List ℕ) (axis : ℕ) → length xs ≡ length ks → sum (remove (finer xs ks) axis) ≡ 3 * sum (remove xs axis) + sum (remove ks axis)
-sum-remove-finer [] [] zero e = refl
-sum-remove-finer [] [] (suc axis) e = refl
-sum-remove-finer [] (k ∷ ks) axis e = absurd (omega arith)
-sum-remove-finer (x ∷ xs) [] axis e = absurd (omega arith)
-sum-remove-finer (x ∷ xs) (k ∷ ks) zero e = sum-finer xs ks (omega arith)
-sum-remove-finer (x ∷ xs) (k ∷ ks) (suc axis) e =
-    omega (arith, sum-cons (3 * x + k) (remove (finer xs ks) axis), sum-cons x (remove xs axis), sum-cons k (remove ks axis), sum-remove-finer xs ks axis (omega arith))
-
--- the flip of a child: the parent's, and the digits of the other axes
-pub flip-finer : (pos ks : List ℕ) (axis : ℕ) → length pos ≡ length ks → flip (finer pos ks) axis ≡ (flip pos axis + flip ks axis) % 2
-flip-finer pos ks axis e = omega (arith, sum-remove-finer pos ks axis e)
-
 -- a flip is a parity
 pub flips-below : (axes : ℕ) (pos : List ℕ) → All (λ e. e < 2) (flips axes pos)
 flips-below axes pos = All-map (λ e. e < 2) (flip pos) (range_with_len 0 axes) (λ k d h. omega arith)
@@ -292,14 +268,6 @@ length-flips axes pos = length-map-range_with_len (flip pos) 0 axes
 
 pub length-children : (axes : ℕ) (way : Way) (cell : Place) → length (children axes way cell) ≡ 3 ^ axes
 length-children axes way cell = length-map (child_digits axes way (flips axes cell.pos)) (child_at cell) ∙ length-child_digits axes way (flips axes cell.pos)
-
--- turning keeps the parity of each digit
-pub turned-parity : (es : List ℕ) (before : ℕ) (ts : List ℕ) (axis : ℕ) → length es ≡ length ts → All (λ t. t < 3) ts → slice_index (turned es before ts) axis % 2 ≡ slice_index ts axis % 2
-turned-parity [] before [] axis e h = refl
-turned-parity [] before (t ∷ ts) axis e h = absurd (omega arith)
-turned-parity (e₁ ∷ es) before [] axis e h = refl
-turned-parity (e₁ ∷ es) before (t ∷ ts) zero e h = mirrored-parity (e₁ + before) t (All-head (λ t. t < 3) t ts h)
-turned-parity (e₁ ∷ es) before (t ∷ ts) (suc axis) e h = turned-parity es (before + t) ts axis (omega arith) (All-tail (λ t. t < 3) t ts h)
 
 -- each child of a cell is a cell
 pub IsCellPlace-children : (axes : ℕ) (way : Way) (cell : Place) → axes ≤ 4 → IsCellPlace axes cell → cell.level < 20 → All (IsCellPlace axes) (children axes way cell)

@@ -19,9 +19,6 @@ abbrev pub sum_of : List ℕ → ℕ
 sum_of [] = 0
 sum_of (x ∷ xs) = x + sum_of xs
 
-pub below_three : (t : ℕ) → t < 3 → (t ≡ 0) ⊎ (t ≡ 1) ⊎ (t ≡ 2)
-below_three t h = grind arith
-
 -- mirrored digits
 pub mirrored_even : (x t : ℕ) → x % 2 ≡ 0 → mirrored x t ≡ t
 mirrored_even x t h = grind (arith, nat_tests)

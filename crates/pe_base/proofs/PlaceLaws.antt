@@ -5,7 +5,6 @@ use Rattle.std.specs.Prelude.{All, replicate, slice_index}
 use Rattle.std.specs.List.{range_with_len}
 use Rattle.std.proofs.lemmas.List.{length-append, length-replicate, get_or_append_left, get_or-append_right, get_or-replicate, get_or_past}
 use Rattle.std.proofs.lemmas.List.FromFn.{length-map-range_with_len, get_or-map-range_with_len}
-use Rattle.std.proofs.lemmas.List.Elements.{All-from_get_or}
 use Rattle.std.proofs.lemmas.Bool.{cases_lt}
 use Rattle.std.proofs.lemmas.Nat.{shr-shr}
 use Rattle.pe_base.specs.declared.place.Place.{Place}
@@ -33,10 +32,6 @@ length-bits axes n = length-map-range_with_len (λ axis. n / 2 ^ axis % 2) 0 axe
 
 pub get_or-bits : (axes n axis d : ℕ) → axis < axes → get_or (bits axes n) axis d ≡ n / 2 ^ axis % 2
 get_or-bits axes n axis d h = get_or-map-range_with_len (λ i. n / 2 ^ i % 2) 0 axes axis axis d h (omega arith)
-
--- bits are parities
-pub bits-below : (axes n : ℕ) → All (λ e. e < 2) (bits axes n)
-bits-below axes n = All-from_get_or (λ e. e < 2) (bits axes n) 0 (λ i h. rw (get_or-bits axes n i 0 (omega (arith, length-bits axes n))) (omega arith))
 
 bits-shift : (f n a b : ℕ) → b ≡ a + 1 → map (λ axis. f / 2 ^ axis % 2) (range_with_len b n) ≡ map (λ axis. f / 2 / 2 ^ axis % 2) (range_with_len a n)
 bits-shift f zero a b e = refl

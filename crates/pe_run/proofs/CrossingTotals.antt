@@ -1,19 +1,19 @@
 -- Each temporary stack is taken from, and put on, once for each crossing of its axis. This and the other counts of
 -- level 1 are computed, for the dimensions 2, 3 and 4 and both ways.
-use Rattle.std.proofs.Common.{◌≡◌, ℕ, zero, suc, ◌+◌, ◌-◌, ◌*◌, ◌/◌, ◌%◌, ◌^◌, ◌<◌, ◌≤◌, Bool, true, false, ◌&&◌, ◌==◌, List, [], ◌∷◌, refl, sym, ap, ◌∙◌, subst, arith}
-use Rattle.std.specs.Prelude.{count_by, not, length, if◌then◌else◌}
-use Rattle.std.specs.List.{range_with_len, sum_by, list_all, list_any}
+use Rattle.std.proofs.Common.{◌≡◌, ℕ, zero, suc, ◌+◌, ◌-◌, ◌*◌, ◌^◌, ◌<◌, ◌≤◌, Bool, true, ◌&&◌, ◌==◌, List, [], ◌∷◌, refl, subst, arith}
+use Rattle.std.specs.Prelude.{count_by, not, length}
+use Rattle.std.specs.List.{range_with_len, sum_by, list_all}
 use Rattle.std.proofs.lemmas.Bool.{eqb-true}
 use Rattle.pe_base.specs.declared.place.Place.{Place}
 use Rattle.pe_base.specs.declared.way.Way.{Way}
 use Rattle.pe_base.specs.declared.way.Way.TheVariants.{Forward, Inverted}
-use Rattle.pe_base.specs.Places.{root, corner, is_same}
+use Rattle.pe_base.specs.Places.{root, corner}
 use Rattle.pe_base.specs.Curve.{children}
 use Rattle.pe_base.specs.Faces.{steps_to, steps_from}
 use Rattle.pe_base.specs.Kinds.{is_inside}
-use Rattle.pe_base.proofs.Lists.{Each, Each-weaker}
+use Rattle.pe_base.proofs.Lists.{Each}
 use Rattle.pe_base.proofs.Ranks.{and_left, and_right}
-use Rattle.pe_run.specs.Crossed.{inside_vertices, crossed, comes_by, goes_by, hanging_corners}
+use Rattle.pe_run.specs.Crossed.{crossed, comes_by, goes_by, hanging_corners}
 
 -- a corner of a cell lies inside the root cube, and it passes as a corner of the cell
 abbrev pub passes : ℕ → (Place → Place → Bool) → Place → ℕ → Bool
@@ -87,39 +87,6 @@ crossed_agrees (suc (suc (suc (suc (suc axes))))) two four = absurd (omega arith
 pub crossed_is : (axes axis parity : ℕ) → 2 ≤ axes → axes ≤ 4 → axis < axes → parity < 2 → crossed axes axis parity ≡ 2 ^ (axes - 1) * 2 ^ axis
 crossed_is axes axis parity two four a b = agrees_at (crossed axes) (λ i j. 2 ^ (axes - 1) * 2 ^ i) axes axis parity a b (crossed_agrees axes two four)
 
--- a vertex is one of the inside vertices
-abbrev pub is_listed : ℕ → Place → Bool
-is_listed axes vertex = list_any (is_same vertex) (inside_vertices axes)
-
-abbrev is_right : ℕ → Place → Bool
-is_right axes vertex = if is_inside axes vertex then is_listed axes vertex else not (is_listed axes vertex)
-
-right_at : (axes : ℕ) (vertex : Place) → is_right axes vertex ≡ true → is_inside axes vertex ≡ is_listed axes vertex
-right_at axes vertex e = go (is_inside axes vertex) (is_listed axes vertex) e
-  where
-    go : (a b : Bool) → (if a then b else not b) ≡ true → a ≡ b
-    go true b e = sym e
-    go false true e = e
-    go false false e = refl
-
-all_right : (axes : ℕ) (way : Way) → 2 ≤ axes → axes ≤ 4 → list_all (λ c. list_all (λ k. is_right axes (corner axes c k)) (range_with_len 0 (2 ^ axes))) (children axes way root) ≡ true
-all_right zero way two four = absurd (omega arith)
-all_right (suc zero) way two four = absurd (omega arith)
-all_right (suc (suc zero)) Forward two four = refl
-all_right (suc (suc zero)) Inverted two four = refl
-all_right (suc (suc (suc zero))) Forward two four = refl
-all_right (suc (suc (suc zero))) Inverted two four = refl
-all_right (suc (suc (suc (suc zero)))) Forward two four = refl
-all_right (suc (suc (suc (suc zero)))) Inverted two four = refl
-all_right (suc (suc (suc (suc (suc axes))))) way two four = absurd (omega arith)
-
--- a corner of a child of the root lies inside the root cube exactly where it is one of the inside vertices
-pub inside_listed : (axes : ℕ) (way : Way) → 2 ≤ axes → axes ≤ 4
-    → Each (λ c. (k : ℕ) → k < 2 ^ axes → is_inside axes (corner axes c k) ≡ is_listed axes (corner axes c k)) (children axes way root)
-inside_listed axes way two four =
-    Each-weaker _ _ (λ c e k h. right_at axes (corner axes c k) (list_all-below (λ j. is_right axes (corner axes c j)) (2 ^ axes) k h e))
-    (children axes way root) (list_all-Each _ (children axes way root) (all_right axes way two four))
-
 -- no step around a vertex leads to a cell, or none from it
 abbrev pub is_entry : ℕ → Way → Place → Place → Bool
 is_entry axes way vertex cell = length (steps_to axes way vertex cell) == 0
@@ -154,48 +121,3 @@ exits axes way two four = (all_counted axes way two four).1
 
 pub outside_hang : (axes : ℕ) (way : Way) → 2 ≤ axes → axes ≤ 4 → outside axes way ≡ hanging_corners axes
 outside_hang axes way two four = (all_counted axes way two four).2
-
--- how many stacks a vertex comes to a cell by, and by how many it goes from it
-abbrev pub ways_to : ℕ → Way → Place → Place → ℕ
-ways_to axes way vertex cell = count_by (λ s. comes_by axes way (s / 2) (s % 2) vertex cell) (range_with_len 0 (2 * axes))
-
-abbrev pub ways_from : ℕ → Way → Place → Place → ℕ
-ways_from axes way vertex cell = count_by (λ s. goes_by axes way (s / 2) (s % 2) vertex cell) (range_with_len 0 (2 * axes))
-
-abbrev single : ℕ → Way → Place → ℕ → Bool
-single axes way cell k =
-    let vertex = corner axes cell k in
-    if is_inside axes vertex
-    then (ways_to axes way vertex cell + (if is_entry axes way vertex cell then 1 else 0) == 1 && ways_from axes way vertex cell + (if is_exit axes way vertex cell then 1 else 0) == 1)
-    else true
-
-all_single : (axes : ℕ) (way : Way) → 2 ≤ axes → axes ≤ 4 → list_all (λ c. list_all (single axes way c) (range_with_len 0 (2 ^ axes))) (children axes way root) ≡ true
-all_single zero way two four = absurd (omega arith)
-all_single (suc zero) way two four = absurd (omega arith)
-all_single (suc (suc zero)) Forward two four = refl
-all_single (suc (suc zero)) Inverted two four = refl
-all_single (suc (suc (suc zero))) Forward two four = refl
-all_single (suc (suc (suc zero))) Inverted two four = refl
-all_single (suc (suc (suc (suc zero)))) Forward two four = refl
-all_single (suc (suc (suc (suc zero)))) Inverted two four = refl
-all_single (suc (suc (suc (suc (suc axes))))) way two four = absurd (omega arith)
-
--- an inside corner comes to a cell by one stack, or by none to its first cell, and goes from it by one, or by none from its
--- last cell
-pub record OneEach (axes : ℕ) (way : Way) (vertex cell : Place) : Type 0 where
-  pub to : ways_to axes way vertex cell + (if is_entry axes way vertex cell then 1 else 0) ≡ 1
-  pub from : ways_from axes way vertex cell + (if is_exit axes way vertex cell then 1 else 0) ≡ 1
-
-single_at : (axes : ℕ) (way : Way) (cell : Place) (k : ℕ) → is_inside axes (corner axes cell k) ≡ true → single axes way cell k ≡ true → OneEach axes way (corner axes cell k) cell
-single_at axes way cell k inside e =
-    let vertex = corner axes cell k in
-    let to = ways_to axes way vertex cell + (if is_entry axes way vertex cell then 1 else 0) in
-    let from = ways_from axes way vertex cell + (if is_exit axes way vertex cell then 1 else 0) in
-    let both : (to == 1 && from == 1) ≡ true = sym (ap (λ b. if b then (to == 1 && from == 1) else true) inside) ∙ e in
-    record { to = eqb-true to 1 (and_left (to == 1) (from == 1) both); from = eqb-true from 1 (and_right (to == 1) (from == 1) both) }
-
-pub one_each : (axes : ℕ) (way : Way) → 2 ≤ axes → axes ≤ 4
-    → Each (λ c. (k : ℕ) → k < 2 ^ axes → is_inside axes (corner axes c k) ≡ true → OneEach axes way (corner axes c k) c) (children axes way root)
-one_each axes way two four =
-    Each-weaker _ _ (λ c e k h inside. single_at axes way c k inside (list_all-below (single axes way c) (2 ^ axes) k h e))
-    (children axes way root) (list_all-Each _ (children axes way root) (all_single axes way two four))

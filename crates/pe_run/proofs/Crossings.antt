@@ -1,10 +1,9 @@
 -- The traffic of a traversal of level 1: it takes from each temporary stack, and puts on it, once for each crossing. It
 -- reads and writes each inside vertex once, and puts back each record that it takes.
-use Rattle.std.proofs.Common.{◌≡◌, ℕ, ◌+◌, ◌*◌, ◌/◌, ◌%◌, ◌^◌, ◌<◌, ◌≤◌, Bool, true, false, cond, ◌&&◌, ◌==◌, List, [], ◌∷◌, ◌++◌, map, reverse, length, replicate, refl, sym, ap, ap₂, ◌∙◌, arith}
+use Rattle.std.proofs.Common.{◌≡◌, ℕ, ◌+◌, ◌*◌, ◌/◌, ◌%◌, ◌^◌, ◌<◌, ◌≤◌, Bool, true, false, cond, ◌&&◌, ◌==◌, List, [], ◌∷◌, ◌++◌, map, reverse, replicate, refl, sym, ap, ap₂, ◌∙◌, arith}
 use Rattle.std.specs.Prelude.{count_by, not, if◌then◌else◌}
 use Rattle.std.specs.List.{flat_map, range_with_len, sum_by}
 use Rattle.std.proofs.lemmas.Bool.Decides.{nat_tests}
-use Rattle.std.proofs.lemmas.List.Sums.{length-filter}
 use Rattle.std.proofs.lemmas.List.Folds.{sum_by-replicate}
 use Rattle.pe_base.specs.declared.place.Place.{Place}
 use Rattle.pe_base.specs.Dim.{IsDim}
@@ -14,15 +13,14 @@ use Rattle.pe_base.specs.Curve.{children}
 use Rattle.pe_base.specs.Around.{around, steps}
 use Rattle.pe_base.specs.Faces.{face_on, across, is_on}
 use Rattle.pe_base.specs.Kinds.{is_inside}
-use Rattle.pe_base.proofs.Lists.{Each, Each-weaker}
 use Rattle.pe_stacks.specs.Grid.{input_stack}
 use Rattle.pe_run.specs.Crossed.{crossed, comes_by, goes_by, hanging_corners}
-use Rattle.pe_run.proofs.CrossingTotals.{passes, comes_crossed, goes_crossed, OneEach, one_each, is_entry, is_exit, entries, exits, outside_hang}
+use Rattle.pe_run.proofs.CrossingTotals.{passes, comes_crossed, goes_crossed, is_entry, is_exit, entries, exits, outside_hang}
 use Rattle.pe_run.specs.declared.walk.traversal.Traversal.{Traversal}
 use Rattle.pe_run.specs.LevelOne.{is_first, is_last}
-use Rattle.pe_run.specs.Traffic.{Op, lends, gives_up, pushes, pops, is_lend, is_give_up, is_push_on, is_pop_from, takes_out, puts_back}
+use Rattle.pe_run.specs.Traffic.{Op, lends, gives_up, pushes, pops, is_lend, is_push_on, is_pop_from}
 use Rattle.pe_run.specs.Walked.{input_of, output_of, comes_on, goes_on, stacks_to, stacks_from, first_ops, load_ops, store_ops, cell_loads, cell_stores, vertex_ops, traversal_vertex_ops}
-use Rattle.pe_run.proofs.Sums.{sum_by_same, sum_by_none, sum_by_both, count_by-append, count-flat_map, count-map, sum_by-reverse, count_one, none_to, none_from, times_one, weighed, weighed_sums, count_none, count_all, sum_by_ones, same_sums}
+use Rattle.pe_run.proofs.Sums.{sum_by_same, sum_by_none, sum_by_both, count_by-append, count-flat_map, count-map, sum_by-reverse, count_one, none_to, none_from, times_one, weighed, weighed_sums, count_none}
 
 -- a vertex that comes first comes by no stack, and one that goes last goes by none
 first_comes : (axes traversal axis parity : ℕ) (vertex cell : Place) → is_first axes traversal vertex cell ≡ true → comes_by axes (way_of traversal) axis parity vertex cell ≡ false
@@ -291,81 +289,3 @@ traversal_lends traversal dim =
     lent : (first : Bool) → 2 ^ traversal.dim * count_by is_lend (if first then lends ∷ [] else (pops (input_of traversal) ∷ [])) ≡ (if first then 2 ^ traversal.dim else 0)
     lent true = omega arith
     lent false = omega arith
-
-pub traversal_gives_up : (traversal : Traversal) → IsDim traversal.dim → count_by is_give_up (traversal_vertex_ops traversal) ≡ 2 ^ traversal.dim + hanging_corners traversal.dim
-traversal_gives_up traversal dim =
-    omega (arith, parts_count traversal is_give_up, loads_count traversal is_give_up dim (λ j k. refl), stores_count traversal is_give_up dim (λ j k. refl), kept (traversal.number == 1))
-  where
-    kept : (first : Bool) → 2 ^ traversal.dim * count_by is_give_up (if first then lends ∷ [] else (pops (input_of traversal) ∷ [])) ≡ 0
-    kept true = omega arith
-    kept false = omega arith
-
--- Each load of an inside corner takes one record: from the stack by which it comes, or from its first touch. Each store
--- puts one back.
-pub record OneStack (traversal : Traversal) (vertex cell : Place) : Type 0 where
-  pub to : length (stacks_to traversal vertex cell) + (if is_first traversal.dim traversal.number vertex cell then 1 else 0) ≡ 1
-  pub from : length (stacks_from traversal vertex cell) + (if is_last traversal.dim traversal.number vertex cell then 1 else 0) ≡ 1
-
-stacks_of : (traversal : Traversal) (vertex cell : Place) → OneEach traversal.dim (way_of traversal.number) vertex cell → OneStack traversal vertex cell
-unfolding stacks_to stacks_from
-stacks_of traversal vertex cell one =
-    let numbers = range_with_len 0 (2 * traversal.dim) in
-    record {
-      to = ap (λ n. n + (if is_first traversal.dim traversal.number vertex cell then 1 else 0)) (length-filter (comes_on traversal vertex cell) numbers) ∙ one.to;
-      from = ap (λ n. n + (if is_last traversal.dim traversal.number vertex cell then 1 else 0)) (length-filter (goes_on traversal vertex cell) numbers) ∙ one.from;
-    }
-
-pub one_stack : (traversal : Traversal) → IsDim traversal.dim
-    → Each (λ c. (k : ℕ) → k < 2 ^ traversal.dim → is_inside traversal.dim (corner traversal.dim c k) ≡ true → OneStack traversal (corner traversal.dim c k) c) (cells_of traversal)
-one_stack traversal dim =
-    Each-weaker _ _ (λ c one k h inside. stacks_of traversal (corner traversal.dim c k) c (one k h inside)) (cells_of traversal) (one_each traversal.dim (way_of traversal.number) dim.0 dim.1)
-
-load_takes : (traversal : Traversal) (cell : Place) (k : ℕ) → (is_inside traversal.dim (corner traversal.dim cell k) ≡ true → OneStack traversal (corner traversal.dim cell k) cell)
-    → count_by takes_out (load_ops traversal cell k) ≡ 1
-load_takes traversal cell k one = go (is_inside traversal.dim vertex) (is_first traversal.dim traversal.number vertex cell) (traversal.number == 1) (λ e. (one e).to)
-  where
-    vertex : Place
-    vertex = corner traversal.dim cell k
-
-    go : (inside first born : Bool) → (inside ≡ true → length (stacks_to traversal vertex cell) + (if first then 1 else 0) ≡ 1)
-        → count_by takes_out (if inside then (if first then (if born then lends ∷ [] else (pops (input_of traversal) ∷ [])) else map pops (stacks_to traversal vertex cell)) else (lends ∷ [])) ≡ 1
-    go false b c h = refl
-    go true true true h = refl
-    go true true false h = refl
-    go true false c h = count-map takes_out pops (stacks_to traversal vertex cell) ∙ count_all (stacks_to traversal vertex cell) ∙ omega (arith, h refl)
-
-store_puts : (traversal : Traversal) (cell : Place) (k : ℕ) → (is_inside traversal.dim (corner traversal.dim cell k) ≡ true → OneStack traversal (corner traversal.dim cell k) cell)
-    → count_by puts_back (store_ops traversal cell k) ≡ 1
-store_puts traversal cell k one = go (is_inside traversal.dim vertex) (is_last traversal.dim traversal.number vertex cell) (λ e. (one e).from)
-  where
-    vertex : Place
-    vertex = corner traversal.dim cell k
-
-    go : (inside last : Bool) → (inside ≡ true → length (stacks_from traversal vertex cell) + (if last then 1 else 0) ≡ 1)
-        → count_by puts_back (if inside then (if last then pushes (output_of traversal) ∷ [] else map pushes (stacks_from traversal vertex cell)) else (gives_up ∷ [])) ≡ 1
-    go false b h = refl
-    go true true h = refl
-    go true false h = count-map puts_back pushes (stacks_from traversal vertex cell) ∙ count_all (stacks_from traversal vertex cell) ∙ omega (arith, h refl)
-
--- the loads of a cell take a record for each corner, and its stores put one back
-pub record TakesAndPuts (traversal : Traversal) (cell : Place) : Type 0 where
-  pub takes : count_by takes_out (cell_loads traversal cell) ≡ 2 ^ traversal.dim
-  pub puts : count_by puts_back (cell_stores traversal cell) ≡ 2 ^ traversal.dim
-
-pub takes_and_puts : (traversal : Traversal) → IsDim traversal.dim → Each (TakesAndPuts traversal) (cells_of traversal)
-takes_and_puts traversal dim =
-    let ks = range_with_len 0 (2 ^ traversal.dim) in
-    Each-weaker _ _ (λ c one. record {
-      takes = count-flat_map takes_out (load_ops traversal c) (reverse ks) ∙ sum_by-reverse (λ k. count_by takes_out (load_ops traversal c k)) ks
-          ∙ sum_by_ones (λ k. count_by takes_out (load_ops traversal c k)) 0 (2 ^ traversal.dim) (λ k h. load_takes traversal c k (one k (omega arith)));
-      puts = count-flat_map puts_back (store_ops traversal c) ks ∙ sum_by_ones (λ k. count_by puts_back (store_ops traversal c k)) 0 (2 ^ traversal.dim) (λ k h. store_puts traversal c k (one k (omega arith)));
-    }) (cells_of traversal) (one_stack traversal dim)
-
--- a traversal puts back as many records as it takes
-pub traversal_balanced : (traversal : Traversal) → IsDim traversal.dim → count_by takes_out (traversal_vertex_ops traversal) ≡ count_by puts_back (traversal_vertex_ops traversal)
-traversal_balanced traversal dim =
-    let taken : count_by takes_out (flat_map (cell_loads traversal) (cells_of traversal)) ≡ count_by puts_back (flat_map (cell_stores traversal) (cells_of traversal)) =
-    count-flat_map takes_out (cell_loads traversal) (cells_of traversal)
-    ∙ same_sums _ _ (cells_of traversal) (Each-weaker _ _ (λ c one. one.takes ∙ sym one.puts) (cells_of traversal) (takes_and_puts traversal dim))
-    ∙ sym (count-flat_map puts_back (cell_stores traversal) (cells_of traversal)) in
-    omega (arith, parts_count traversal takes_out, parts_count traversal puts_back, taken, loads_none traversal puts_back refl (λ j. refl), stores_none traversal takes_out refl (λ j. refl))

@@ -5,7 +5,7 @@ use Rattle.std.specs.List.{flat_map, range_with_len, sum_by, list_any}
 use Rattle.std.proofs.lemmas.Bool.{eqb-true}
 use Rattle.std.proofs.lemmas.Bool.Decides.{nat_tests}
 use Rattle.std.proofs.lemmas.List.Sums.{sum_by-cons, sum_by-append, sum_by_push}
-use Rattle.pe_base.proofs.Lists.{Each, reverse-cons}
+use Rattle.pe_base.proofs.Lists.{reverse-cons}
 
 -- counts in lists made of lists
 pub sum_by_same : {X : Type 0} (f g : X → ℕ) → ((x : X) → f x ≡ g x) → (xs : List X) → sum_by f xs ≡ sum_by g xs
@@ -114,15 +114,3 @@ count_none q test a (suc n) h = go (test a) (count_none q test (a + 1) n (λ j k
     go : (b : Bool) → count_by q (filter test (range_with_len (a + 1) n)) ≡ 0 → count_by q (cond b (a ∷ filter test (range_with_len (a + 1) n)) (filter test (range_with_len (a + 1) n))) ≡ 0
     go true e = sum_by-cons (λ j. cond (q j) 1 0) a (filter test (range_with_len (a + 1) n)) ∙ ap₂ (λ b m. cond b 1 0 + m) (h a (omega arith)) e
     go false e = e
-
-pub count_all : {X : Type 0} (xs : List X) → count_by (λ x. true) xs ≡ length xs
-count_all [] = refl
-count_all (x ∷ xs) = sum_by-cons (λ y. 1) x xs ∙ ap (λ n. 1 + n) (count_all xs) ∙ omega arith
-
-pub sum_by_ones : (f : ℕ → ℕ) (a n : ℕ) → ((k : ℕ) → k < a + n → f k ≡ 1) → sum_by f (range_with_len a n) ≡ n
-sum_by_ones f a zero h = refl
-sum_by_ones f a (suc n) h = sum_by-cons f a (range_with_len (a + 1) n) ∙ omega (arith, h a (omega arith), sum_by_ones f (a + 1) n (λ k i. h k (omega arith)))
-
-pub same_sums : {X : Type 0} (f g : X → ℕ) (xs : List X) → Each (λ x. f x ≡ g x) xs → sum_by f xs ≡ sum_by g xs
-same_sums f g [] e = refl
-same_sums f g (x ∷ xs) e = sum_by-cons f x xs ∙ ap₂ (λ a b. a + b) e.0 (same_sums f g xs e.1) ∙ sym (sum_by-cons g x xs)

@@ -53,11 +53,6 @@ touched_last false last v c = refl
 touched_last true true v c = refl
 touched_last true false v c = refl
 
-unhung : (inside last : Bool) (v c : Place) → count_of DestroyHangingVertex (store_fired inside last v c) ≡ cond inside 0 1
-unhung false last v c = refl
-unhung true true v c = refl
-unhung true false v c = refl
-
 not_stored : (event : Event) → count_of event (fires TouchVertexLastTime root root ∷ []) ≡ 0 → count_of event (fires DestroyHangingVertex root root ∷ []) ≡ 0
     → (inside last : Bool) (v c : Place) → count_of event (store_fired inside last v c) ≡ 0
 not_stored event touch hanging false last v c = hanging

@@ -1,9 +1,7 @@
 -- What the reader of scenarios answers, beside what the bytes say.
-use Rattle.std.specs.Prelude.{◌≡◌, ℕ, List, Option, Some, None, Result, Ok, Err}
+use Rattle.std.specs.Prelude.{◌≡◌, List, Option, Some, None, Result, Ok, Err}
 use Rattle.pe_base.specs.declared.event.Event.{Event}
 use Rattle.pe_base.specs.Events.{is_among}
-use Rattle.pe_base.specs.Working.{Firing}
-use Rattle.pe_base.specs.Traces.{trace_text}
 use Rattle.pe_run.specs.declared.trace.Trace.{Trace}
 use Rattle.pe_run.specs.declared.scenario.Scenario.{Scenario}
 use Rattle.pe_run.specs.declared.scenario.SceneFault.{SceneFault}
@@ -33,7 +31,3 @@ RefusesFor Memory said = Unit {0}
 abbrev pub GivesScene : Result Scenario SceneFault → Result Scene Cause → Type 0
 GivesScene (Ok scenario) said = said ≡ Ok (scene_view scenario)
 GivesScene (Err fault) said = RefusesFor fault said
-
--- the text of some firings, by what the scenario traces
-abbrev pub fired_text : Scenario → ℕ → List Firing → List ℕ
-fired_text scenario traversal firings = trace_text (traces scenario.trace) scenario.dim traversal firings

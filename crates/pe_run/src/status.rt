@@ -1,6 +1,7 @@
 // How a run ends.
 ghost use Rattle.std.specs.Prelude.{◌≡◌};
 ghost use Rattle.pe_run.specs.declared.status.Stop.TheVariants.{Sink as StopSink};
+ghost use Rattle.pe_run.specs.Statuses.{ending_of};
 
 use pe_io::SinkFailed;
 
@@ -33,8 +34,6 @@ impl From<SinkFailed> for Stop {
         Stop::Sink
     }
 }
-
-ghost use Rattle.pe_run.specs.Statuses.{ending_of};
 
 /// The number with which the program ends.
 pub fn exit_status(ending: Result<Status, Stop>) -> u8

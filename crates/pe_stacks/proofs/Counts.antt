@@ -1,6 +1,6 @@
 -- How far the counts of a depot rise.
-use Rattle.std.proofs.Common.{◌≡◌, ℕ, zero, suc, ◌+◌, ◌≤◌, List, [], ◌∷◌, map, replicate, get_or, set, arith, subst, refl}
-use Rattle.pe_stacks.specs.Holdings.{Holdings, Stack, new_stack, new_holdings, lent, given_up, pushed, popped, cleared, emptied, total_len, CountsWithin, RaisesCounts}
+use Rattle.std.proofs.Common.{◌≡◌, ℕ, zero, suc, ◌+◌, ◌≤◌, List, [], ◌∷◌, replicate, get_or, set, arith, subst}
+use Rattle.pe_stacks.specs.Holdings.{Holdings, Stack, new_stack, new_holdings, lent, given_up, pushed, popped, CountsWithin, RaisesCounts}
 
 -- a bound on all items of a list, after one of them was replaced
 bound-set : {A : Type 0} (f : A → ℕ) (d y : A) (n : ℕ) (xs : List A) (i : ℕ) → f y ≤ n → ((s : ℕ) → f (get_or xs s d) ≤ n) → (s : ℕ) → f (get_or (set xs i y) s d) ≤ n
@@ -9,12 +9,6 @@ bound-set f d y n (x ∷ xs) zero below all zero = below
 bound-set f d y n (x ∷ xs) zero below all (suc s) = all (suc s)
 bound-set f d y n (x ∷ xs) (suc i) below all zero = all zero
 bound-set f d y n (x ∷ xs) (suc i) below all (suc s) = bound-set f d y n xs i below (λ k. all (suc k)) s
-
--- a bound on all items of a list, after each was changed by a function that keeps what is bound
-bound-map : {A : Type 0} (f : A → ℕ) (change : A → A) → ((x : A) → f (change x) ≡ f x) → (d : A) (n : ℕ) (xs : List A) → ((s : ℕ) → f (get_or xs s d) ≤ n) → (s : ℕ) → f (get_or (map change xs) s d) ≤ n
-bound-map f change keeps d n [] all s = all s
-bound-map f change keeps d n (x ∷ xs) all zero = omega (arith, keeps x, all zero)
-bound-map f change keeps d n (x ∷ xs) all (suc s) = bound-map f change keeps d n xs (λ k. all (suc k)) s
 
 -- a bound on all items of a list, of which each is the same
 bound-replicate : {A : Type 0} (f : A → ℕ) (d : A) (n k : ℕ) → f d ≤ n → (s : ℕ) → f (get_or (replicate k d) s d) ≤ n
@@ -120,19 +114,3 @@ module _ {X : Type 0} where
 
   pub raises-popped : (held held' : Holdings X) (t : ℕ) → held' ≡ popped held t → RaisesCounts held held' 1
   raises-popped held held' t is = rw is (raises_by-popped held t)
-
-  raises_by-cleared : (held : Holdings X) → held.fresh ≡ held.spent + held.out + total_len held.stacks → RaisesCounts held (cleared held) 0
-  raises_by-cleared held balance = record {
-    within = λ n counts. record {
-      fresh = omega (arith, counts.fresh);
-      spent = omega (arith, counts.fresh, balance);
-      out = omega (arith, counts.out);
-      most = omega (arith, counts.most);
-      pushes = bound-map (λ (stack : Stack X). stack.pushes) emptied (λ _. refl) new_stack (n + 0) held.stacks (λ s. omega (arith, counts.pushes s));
-      pops = bound-map (λ (stack : Stack X). stack.pops) emptied (λ _. refl) new_stack (n + 0) held.stacks (λ s. omega (arith, counts.pops s));
-    };
-  }
-
-  -- clearing raises none over the greatest one, since no more records are spent than were lent
-  pub raises-cleared : (held held' : Holdings X) → held.fresh ≡ held.spent + held.out + total_len held.stacks → held' ≡ cleared held → RaisesCounts held held' 0
-  raises-cleared held held' balance is = rw is (raises_by-cleared held balance)

@@ -38,6 +38,7 @@ impl<P> Corners<P> {
     pub fn empty(dim: Dim) -> Corners<P>
         ensures { result ≡ no_vertices dim }
     {
+        // From the call it is known that the dimension has no more corners than there are places.
         let _axes = dim.axes();
         Corners {
             dim,

@@ -13,7 +13,7 @@ use Rattle.pe_base.proofs.Quiet.{Still, arriving_none, leaving_none}
 use Rattle.pe_walk.proofs.Outside.{before_rises, NoneAcross, outside_arriving, outside_leaving}
 use Rattle.pe_walk.proofs.Trees.{root_is_cell, child_is_cell, place_is_cell, cell_position}
 use Rattle.pe_walk.proofs.Steps.{inside_on_grid, step_crosses, step_in_corners, in_corners_only, out_corners_only}
-use Rattle.pe_walk.specs.Laws.{CellsOfTheTree, facing, ShareFace, NeighboursAgree, FacesAreOneWay, OneFaceOnEach, Composition, BeneathUntouched, Counts, UnwalkedIsEmpty, LeafIsCorners, StepsCrossFaces, StepsAreCorners, CornersAreSteps}
+use Rattle.pe_walk.specs.Laws.{CellsOfTheTree, facing, ShareFace, NeighboursAgree, FacesAreOneWay, Composition, BeneathUntouched, Counts, UnwalkedIsEmpty, LeafIsCorners, StepsCrossFaces, StepsAreCorners, CornersAreSteps}
 use Rattle.pe_walk.proofs.Unwalked.{contains_in, in_contains, cell_four, unwalked_arriving, unwalked_leaving, leaf_arriving, leaf_leaving}
 
 neighbours_at : (axes : ℕ) (way : Way) (counts : Place → Bool) (levels axis side : ℕ) (cell neighbour : Place) → axes ≤ 4 → axis < axes → side < 2 → length cell.pos ≡ 4 → ShareFace (face_of axis side) cell neighbour
@@ -63,9 +63,6 @@ faces_are_one_way axes way counts levels face cell dim is_face is_cell =
             (arriving_none axes way counts levels cell.level face cell four is_face.0 is_face.1 refl l (inr still), leaving_none axes way counts levels cell.level face cell four is_face.0 is_face.1 refl l (inr still))
       ];
     }
-
-pub one_face_on_each : OneFaceOnEach
-one_face_on_each axis parity cell h = omega arith
 
 pub composition : Composition
 composition axes way counts levels axis parity cell dim a is_cell beneath = composes_any axes way counts levels axis parity cell dim.1 a (cell_four axes way cell dim.1 is_cell) (contains_in _ cell is_cell) beneath
