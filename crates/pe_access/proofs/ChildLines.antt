@@ -1,7 +1,7 @@
 -- The lines of a cell from those of its parent.
 use Rattle.std.specs.Prelude.{ℕ, zero, suc, ◌+◌, ◌/◌, ◌%◌, List, [], ◌∷◌, map, sum}
 use Rattle.pe_base.specs.declared.way.Way.{Way}
-use Rattle.pe_base.specs.Routes.{way_turns}
+use Rattle.pe_base.specs.Steps.Routes.{way_turns}
 use Rattle.pe_access.specs.declared.line.Line.{Line}
 use Rattle.pe_access.specs.Lines.{root_line, child_line}
 

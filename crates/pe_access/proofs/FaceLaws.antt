@@ -4,13 +4,13 @@ use Rattle.std.specs.Prelude.{◌==◌, if◌then◌else◌, sum, slice_index, n
 use Rattle.std.specs.Option.{option_map}
 use Rattle.std.proofs.lemmas.Bool.{or_cases, and_parts, eqb-true, eqb-false, eq-eqb, ne_eqb, lt-ltb, le-ltb, false≢true, cases_lt}
 use Rattle.pe_base.specs.declared.way.Way.{Way}
-use Rattle.pe_base.specs.Places.{moved}
-use Rattle.pe_base.specs.Routes.{way_turns}
-use Rattle.pe_base.proofs.RouteLaws.{Below}
-use Rattle.pe_base.proofs.Spans.{Spot, fits, fits_all, coarse, two, two_on, low, low_on, other, is_even, is_other, deeper, enter, parents, same_test}
-use Rattle.pe_base.proofs.Levels.{entry, or_else, fits-parents}
-use Rattle.pe_base.proofs.Rounds.{spots}
-use Rattle.pe_base.proofs.StackLaws.{length-parents}
+use Rattle.pe_base.specs.Tree.Places.{moved}
+use Rattle.pe_base.specs.Steps.Routes.{way_turns}
+use Rattle.pe_base.proofs.Steps.RouteLaws.{Below}
+use Rattle.pe_base.proofs.Steps.Spans.{Spot, fits, fits_all, coarse, two, two_on, low, low_on, other, is_even, is_other, deeper, enter, parents, same_test}
+use Rattle.pe_base.proofs.Steps.Levels.{entry, or_else, fits-parents}
+use Rattle.pe_base.proofs.Steps.Rounds.{spots}
+use Rattle.pe_base.proofs.Steps.StackLaws.{length-parents}
 use Rattle.pe_access.specs.declared.face.Face.{Face}
 use Rattle.pe_access.specs.declared.face.Relation.{Relation}
 use Rattle.pe_access.specs.declared.face.Relation.TheVariants.{Earlier, Later, Outside}

@@ -8,17 +8,17 @@ use Rattle.std.proofs.lemmas.List.{get_or-map, length-set}
 use Rattle.std.proofs.lemmas.List.Elements.{All-weaker}
 use Rattle.pe_base.specs.declared.place.Place.{Place}
 use Rattle.pe_base.specs.declared.way.Way.{Way}
-use Rattle.pe_base.specs.Places.{IsCellPlace, padded, at, is_same, is_same_pos}
-use Rattle.pe_base.specs.Curve.{order}
-use Rattle.pe_base.specs.Around.{threes}
-use Rattle.pe_base.specs.Routes.{way_turns}
-use Rattle.pe_base.specs.Neighbours.{is_place}
-use Rattle.pe_base.proofs.RouteLaws.{Below, Below-front, length-front, at-front}
-use Rattle.pe_base.proofs.Spans.{parents}
-use Rattle.pe_base.proofs.Levels.{cells}
-use Rattle.pe_base.proofs.Rounds.{order-cells, cells-long}
-use Rattle.pe_base.proofs.SlowerLaws.{times, count-tally, threes-times}
-use Rattle.pe_base.proofs.StackLaws.{length-parents, is_same_pos-refl}
+use Rattle.pe_base.specs.Tree.Places.{IsCellPlace, padded, at, is_same, is_same_pos}
+use Rattle.pe_base.specs.Tree.Curve.{order}
+use Rattle.pe_base.specs.Steps.Around.{threes}
+use Rattle.pe_base.specs.Steps.Routes.{way_turns}
+use Rattle.pe_base.specs.Steps.Neighbours.{is_place}
+use Rattle.pe_base.proofs.Steps.RouteLaws.{Below, Below-front, length-front, at-front}
+use Rattle.pe_base.proofs.Steps.Spans.{parents}
+use Rattle.pe_base.proofs.Steps.Levels.{cells}
+use Rattle.pe_base.proofs.Steps.Rounds.{order-cells, cells-long}
+use Rattle.pe_base.proofs.Steps.SlowerLaws.{times, count-tally, threes-times}
+use Rattle.pe_base.proofs.Steps.StackLaws.{length-parents, is_same_pos-refl}
 use Rattle.pe_access.specs.declared.face.Face.{Face}
 use Rattle.pe_access.specs.declared.face.Relation.TheVariants.{Earlier, Later, Outside}
 use Rattle.pe_access.specs.declared.line.Line.{Line}

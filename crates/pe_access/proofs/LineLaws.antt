@@ -3,12 +3,12 @@ use Rattle.std.proofs.Common.{◌≡◌, ℕ, zero, suc, ◌+◌, ◌*◌, ◌/�
 use Rattle.std.specs.Prelude.{◌==◌, if◌then◌else◌, sum, slice_index}
 use Rattle.std.proofs.lemmas.Bool.{eqb-true, eqb-false, cases_lt}
 use Rattle.pe_base.specs.declared.way.Way.{Way}
-use Rattle.pe_base.specs.Places.{finer}
-use Rattle.pe_base.specs.Curve.{flip}
-use Rattle.pe_base.specs.Routes.{way_turns}
-use Rattle.pe_base.proofs.PlaceLaws.{four}
-use Rattle.pe_base.proofs.RouteLaws.{Below}
-use Rattle.pe_base.proofs.StackLaws.{Below-parents, length-parents}
+use Rattle.pe_base.specs.Tree.Places.{finer}
+use Rattle.pe_base.specs.Tree.Curve.{flip}
+use Rattle.pe_base.specs.Steps.Routes.{way_turns}
+use Rattle.pe_base.proofs.Tree.PlaceLaws.{four}
+use Rattle.pe_base.proofs.Steps.RouteLaws.{Below}
+use Rattle.pe_base.proofs.Steps.StackLaws.{Below-parents, length-parents}
 use Rattle.std.proofs.lemmas.List.{length-map, get_or-map}
 use Rattle.pe_access.specs.declared.face.Face.{Face}
 use Rattle.pe_access.specs.declared.face.Relation.TheVariants.{Earlier, Later}

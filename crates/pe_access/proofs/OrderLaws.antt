@@ -7,13 +7,13 @@ use Rattle.std.proofs.lemmas.Bool.{or_parts, or_from, and_left, eq-eqb, ne_eqb, 
 use Rattle.std.proofs.lemmas.List.Elements.{All-head, All-tail, All-nil, All-cons, All-append, All-map, All-weaker}
 use Rattle.std.proofs.lemmas.List.Folds.{find-append}
 use Rattle.pe_base.specs.declared.way.Way.{Way}
-use Rattle.pe_base.specs.Curve.{mirrored}
-use Rattle.pe_base.specs.Routes.{way_turns}
-use Rattle.pe_base.specs.Places.{is_same_pos}
-use Rattle.pe_base.proofs.RouteLaws.{Below}
-use Rattle.pe_base.proofs.Spans.{is_even, parents, or_none}
-use Rattle.pe_base.proofs.Levels.{kids, cells}
-use Rattle.pe_base.proofs.StackLaws.{Member, Member-cells, Below-parents, length-parents, same_pos, is_same_pos-refl}
+use Rattle.pe_base.specs.Tree.Curve.{mirrored}
+use Rattle.pe_base.specs.Steps.Routes.{way_turns}
+use Rattle.pe_base.specs.Tree.Places.{is_same_pos}
+use Rattle.pe_base.proofs.Steps.RouteLaws.{Below}
+use Rattle.pe_base.proofs.Steps.Spans.{is_even, parents, or_none}
+use Rattle.pe_base.proofs.Steps.Levels.{kids, cells}
+use Rattle.pe_base.proofs.Steps.StackLaws.{Member, Member-cells, Below-parents, length-parents, same_pos, is_same_pos-refl}
 use Rattle.pe_access.specs.declared.face.Face.{Face}
 use Rattle.pe_access.specs.declared.face.Relation.TheVariants.{Earlier, Later}
 use Rattle.pe_access.specs.declared.line.Line.{Line}

@@ -9,15 +9,15 @@ use Rattle.std.proofs.lemmas.List.Folds.{sum_by-replicate}
 use Rattle.std.proofs.lemmas.List.Sums.{sum_by-append}
 use Rattle.pe_base.specs.declared.place.Place.{Place}
 use Rattle.pe_base.specs.declared.way.Way.{Way}
-use Rattle.pe_base.specs.Places.{IsCellPlace, IsInside, bits, moved, corner, padded, at}
-use Rattle.pe_base.specs.Routes.{way_turns, waiting_stack, stack_in, stack_out}
-use Rattle.pe_base.proofs.PlaceLaws.{length-bits, bits-suc}
-use Rattle.pe_base.proofs.InnerVertices.{length-moved}
-use Rattle.pe_base.proofs.RouteLaws.{Below, Below-front, length-front, padded-front, at-front}
-use Rattle.pe_base.proofs.Spans.{fits_all, parents}
-use Rattle.pe_base.proofs.Levels.{entry}
-use Rattle.pe_base.proofs.Rounds.{spots}
-use Rattle.pe_base.proofs.StackLaws.{Touches, stack_in-entry, stack_out-entry, length-parents}
+use Rattle.pe_base.specs.Tree.Places.{IsCellPlace, IsInside, bits, moved, corner, padded, at}
+use Rattle.pe_base.specs.Steps.Routes.{way_turns, waiting_stack, stack_in, stack_out}
+use Rattle.pe_base.proofs.Tree.PlaceLaws.{length-bits, bits-suc}
+use Rattle.pe_base.proofs.Steps.InnerVertices.{length-moved}
+use Rattle.pe_base.proofs.Steps.RouteLaws.{Below, Below-front, length-front, padded-front, at-front}
+use Rattle.pe_base.proofs.Steps.Spans.{fits_all, parents}
+use Rattle.pe_base.proofs.Steps.Levels.{entry}
+use Rattle.pe_base.proofs.Steps.Rounds.{spots}
+use Rattle.pe_base.proofs.Steps.StackLaws.{Touches, stack_in-entry, stack_out-entry, length-parents}
 use Rattle.pe_access.specs.declared.face.Relation.{Relation}
 use Rattle.pe_access.specs.declared.face.Relation.TheVariants.{Earlier, Later, Outside}
 use Rattle.pe_access.specs.declared.line.Line.{Line}

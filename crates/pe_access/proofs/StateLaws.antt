@@ -5,11 +5,11 @@ use Rattle.std.proofs.lemmas.Bool.{cases_lt}
 use Rattle.pe_base.specs.declared.place.Place.{Place}
 use Rattle.pe_base.specs.declared.place.Digits.{Digits}
 use Rattle.pe_base.specs.declared.way.Way.{Way}
-use Rattle.pe_base.specs.Places.{IsCellPlace, IsDigits, finer, child_at}
-use Rattle.pe_base.specs.Routes.{way_turns}
-use Rattle.pe_base.proofs.PlaceLaws.{IsPosition-below, IsCellPlace-child_at}
-use Rattle.pe_base.proofs.CurveLaws.{slice_get-append_left}
-use Rattle.pe_base.proofs.RouteLaws.{Below, length-front, padded-front}
+use Rattle.pe_base.specs.Tree.Places.{IsCellPlace, IsDigits, finer, child_at}
+use Rattle.pe_base.specs.Steps.Routes.{way_turns}
+use Rattle.pe_base.proofs.Tree.PlaceLaws.{IsPosition-below, IsCellPlace-child_at}
+use Rattle.pe_base.proofs.Tree.CurveLaws.{slice_get-append_left}
+use Rattle.pe_base.proofs.Steps.RouteLaws.{Below, length-front, padded-front}
 use Rattle.pe_access.specs.declared.line.Line.{Line}
 use Rattle.pe_access.specs.Lines.{bit_of, child_line, near_face}
 use Rattle.pe_access.specs.Faces.{line_of}

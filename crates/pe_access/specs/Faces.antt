@@ -2,7 +2,7 @@
 use Rattle.std.specs.Prelude.{ℕ, ◌%◌, ◌==◌, if◌then◌else◌, Option, Some, None, slice_index}
 use Rattle.pe_base.specs.declared.place.Place.{Place}
 use Rattle.pe_base.specs.declared.way.Way.{Way}
-use Rattle.pe_base.specs.Neighbours.{neighbour, comes_first, face_level}
+use Rattle.pe_base.specs.Steps.Neighbours.{neighbour, comes_first, face_level}
 use Rattle.pe_access.specs.declared.face.Face.{Face}
 use Rattle.pe_access.specs.declared.face.Relation.{Relation}
 use Rattle.pe_access.specs.declared.face.Relation.TheVariants.{Earlier, Later, Outside}

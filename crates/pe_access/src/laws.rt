@@ -2,8 +2,8 @@
 ghost use Rattle.std.specs.Prelude.{ℕ, ◌≤◌};
 ghost use Rattle.pe_base.specs.declared.place.Place.{Place as APlace};
 ghost use Rattle.pe_base.specs.declared.way.Way.{Way as AWay};
-ghost use Rattle.pe_base.specs.Places.{IsInside};
-ghost use Rattle.pe_base.specs.Routes.{CrossesEachAxis, HasCells, StepsAcrossFaces};
+ghost use Rattle.pe_base.specs.Tree.Places.{IsInside};
+ghost use Rattle.pe_base.specs.Steps.Routes.{CrossesEachAxis, HasCells, StepsAcrossFaces};
 
 /// On a grid of up to four axes, the cells around an inside vertex are as many as the corners of a cell, each shares
 /// a face with the next, and an axis is crossed twice as often for each axis that is slower.

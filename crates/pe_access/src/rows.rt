@@ -1,9 +1,9 @@
 //! Worked rows of the routes. A function without a body computes the definitions that its contract names.
 ghost use Rattle.std.specs.Prelude.{◌≡◌, ◌+◌, ◌≤◌, [], ◌∷◌, map, Some, None};
 ghost use Rattle.pe_base.specs.declared.way.Way.TheVariants.{Forward, Inverted};
-ghost use Rattle.pe_base.specs.Places.{at};
-ghost use Rattle.pe_base.specs.Around.{around, crossings};
-ghost use Rattle.pe_base.specs.Routes.{stack_in, stack_out};
+ghost use Rattle.pe_base.specs.Tree.Places.{at};
+ghost use Rattle.pe_base.specs.Steps.Around.{around, crossings};
+ghost use Rattle.pe_base.specs.Steps.Routes.{stack_in, stack_out};
 ghost use Rattle.pe_access.specs.States.{axes_of, level_of};
 
 use crate::{CellState, Route};

@@ -1,9 +1,9 @@
 ghost use Rattle.std.specs.Prelude.{◌≡◌, ℕ, ◌+◌, ◌<◌, ◌^◌, length};
 ghost use Rattle.pe_base.specs.declared.place.Place.{Place as APlace};
 ghost use Rattle.pe_base.specs.declared.way.Way.{Way as AWay};
-ghost use Rattle.pe_base.specs.Places.{IsDigits, IsCellPlace, IsInside, bits, child_at, corner as corner_at, root};
-ghost use Rattle.pe_base.specs.Curve.{flips};
-ghost use Rattle.pe_base.specs.Routes.{stack_in, stack_out, way_turns};
+ghost use Rattle.pe_base.specs.Tree.Places.{IsDigits, IsCellPlace, IsInside, bits, child_at, corner as corner_at, root};
+ghost use Rattle.pe_base.specs.Tree.Curve.{flips};
+ghost use Rattle.pe_base.specs.Steps.Routes.{stack_in, stack_out, way_turns};
 ghost use Rattle.pe_access.specs.Lines.{fastest};
 ghost use Rattle.pe_access.specs.States.{StandsFor, axes_of, level_of, odd_count, route_of};
 

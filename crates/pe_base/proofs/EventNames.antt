@@ -5,7 +5,7 @@ use Rattle.std.specs.List.{find}
 use Rattle.std.proofs.lemmas.Slice.Eq.{bytes_eq-Decides}
 use Rattle.pe_base.specs.declared.event.Event.{Event}
 use Rattle.pe_base.specs.declared.event.Event.TheVariants.{BeginIteration, EndIteration, TouchVertexFirstTime, TouchVertexLastTime, CreateInnerVertex, CreateHangingVertex, DestroyVertex, DestroyHangingVertex, CreateCell, DestroyCell, EnterCell, LeaveCell}
-use Rattle.pe_base.specs.Events.{name_of, all_events, event_named}
+use Rattle.pe_base.specs.Acts.Events.{name_of, all_events, event_named}
 
 -- an event is found by its own name
 pub event_named-name_of : (event : Event) → event_named (name_of event) ≡ Some event

@@ -1,26 +1,12 @@
 -- Laws of the definitions, for the proofs of every crate above.
-pub mod PlaceLaws
-pub mod CurveLaws
-pub mod EventNames
+
+-- lists made by `map`, `flat_map`, `filter` and `reverse`
 pub mod Lists
-pub mod Mirrors
-pub mod Children
-pub mod Corners
-pub mod FaceLists
-pub mod Ranks
-pub mod Quiet
-pub mod Blocks
-pub mod Waits
-pub mod Meetings
-pub mod Composition
-pub mod Counts
-pub mod Walks
-pub mod Spans
-pub mod Levels
-pub mod Rounds
-pub mod RouteLaws
-pub mod StackLaws
-pub mod InnerVertices
-pub mod Crossing
-pub mod CrossingLaws
-pub mod SlowerLaws
+-- the event of a spelling
+pub mod EventNames
+-- places, children, corners, and the order along the curve
+pub mod Tree
+-- the order around a vertex
+pub mod Steps
+-- the lists of a face
+pub mod Faces

@@ -1,18 +1,14 @@
 -- The definitions of the project, in reading order.
-pub mod Dim
-pub mod Places
-pub mod Ways
-pub mod Curve
-pub mod Around
-pub mod Routes
-pub mod Neighbours
-pub mod Faces
-pub mod States
-pub mod Kinds
-pub mod Events
+
+-- cells and vertices by level and position, and the order of cells along the curve
+pub mod Tree
+-- how a vertex goes from cell to cell around it, across faces
+pub mod Steps
+-- states and kinds of vertices
+pub mod Life
+-- what happens at the moments of a walk
+pub mod Acts
+-- the printed lines
 pub mod Lines
-pub mod Payloads
-pub mod Working
-pub mod Touches
-pub mod Walk
-pub mod Traces
+-- the walk of level 1 alone
+pub mod LevelOne

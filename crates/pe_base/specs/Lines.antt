@@ -4,7 +4,7 @@ use Rattle.std.specs.List.{flat_map}
 use Rattle.std.specs.Char.{is_ascii_alphanumeric}
 use Rattle.pe_base.specs.declared.place.Place.{Place}
 use Rattle.pe_base.specs.declared.event.Event.{Event}
-use Rattle.pe_base.specs.Events.{name_of}
+use Rattle.pe_base.specs.Acts.Events.{name_of}
 
 -- a word, each further part behind one space, and a line feed
 abbrev pub line : List ℕ → List (List ℕ) → List ℕ

@@ -1,5 +1,5 @@
 ghost use Rattle.std.specs.Prelude.{◌≡◌, ◌^◌, ◌<◌, IsSome, IfSome, ◌↔◌};
-ghost use Rattle.pe_base.specs.Dim.{IsDim};
+ghost use Rattle.pe_base.specs.Tree.Dim.{IsDim};
 
 use std::marker::Model;
 
@@ -13,7 +13,7 @@ pub struct Dim {
 
 impl Model for Dim {
     ghost use Rattle.std.specs.Prelude.{ℕ};
-    ghost use Rattle.pe_base.specs.Dim.{IsDim};
+    ghost use Rattle.pe_base.specs.Tree.Dim.{IsDim};
 
     ghost Value = { ℕ };
 

@@ -1,5 +1,5 @@
 ghost use Rattle.std.specs.Prelude.{◌≡◌, IfSome, Some};
-ghost use Rattle.pe_base.specs.Events.{name_of, sort_of, event_named};
+ghost use Rattle.pe_base.specs.Acts.Events.{name_of, sort_of, event_named};
 
 /// What an event is told: nothing but the traversal, a vertex, or a cell.
 #[derive(Clone, Copy, Debug, PartialEq, Eq)]

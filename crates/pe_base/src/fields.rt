@@ -1,5 +1,5 @@
 ghost use Rattle.std.specs.Prelude.{◌≡◌, ◌<◌, slice_get, slice_set, Some};
-ghost use Rattle.pe_base.specs.Payloads.{zeros};
+ghost use Rattle.pe_base.specs.Acts.Payloads.{zeros};
 
 /// The payload of a vertex, of a cell, or of the whole grid: eight signed numbers.
 #[derive(Clone, Copy, Debug, PartialEq, Eq)]

@@ -3,6 +3,7 @@
 #![tactic(auto)]
 
 mod dim;
+mod effects;
 mod event;
 mod fields;
 mod kind;
@@ -10,18 +11,23 @@ mod list;
 mod place;
 #[cfg(test)]
 mod rows;
+mod setup;
 mod state;
+mod stop;
 mod tally;
 mod text;
 mod way;
 
 pub use dim::Dim;
+pub use effects::Effects;
 pub use event::{Event, Sort};
 pub use fields::Fields;
 pub use kind::Kind;
 pub use list::List;
 pub use place::{Digits, Place};
+pub use setup::{Names, Setup};
 pub use state::State;
+pub use stop::Stop;
 pub use tally::Tally;
 pub use text::Text;
 pub use way::Way;

@@ -3,11 +3,11 @@
 ghost use Rattle.std.specs.Prelude.{◌≡◌, [], ◌∷◌, map, codes, length, List, Some};
 ghost use Rattle.pe_base.specs.declared.way.Way.TheVariants.{Forward, Inverted};
 ghost use Rattle.pe_base.specs.declared.event.Event.TheVariants.{EnterCell, BeginIteration, CreateHangingVertex};
-ghost use Rattle.pe_base.specs.Places.{root, at};
-ghost use Rattle.pe_base.specs.Curve.{children, order};
+ghost use Rattle.pe_base.specs.Tree.Places.{root, at};
+ghost use Rattle.pe_base.specs.Tree.Curve.{children, order};
 ghost use Rattle.pe_base.specs.Lines.{place_line, plain_line};
-ghost use Rattle.pe_base.specs.Events.{is_among};
-ghost use Rattle.pe_base.specs.Traces.{traversals_text};
+ghost use Rattle.pe_base.specs.Acts.Events.{is_among};
+ghost use Rattle.pe_base.specs.LevelOne.Traces.{traversals_text};
 ghost use Rattle.std.specs.Prelude.{take, drop};
 
 use crate::{Dim, Event, List, Sort, Text, Way};

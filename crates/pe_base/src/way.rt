@@ -1,5 +1,5 @@
 ghost use Rattle.std.specs.Prelude.{◌≡◌};
-ghost use Rattle.pe_base.specs.Ways.{way_of};
+ghost use Rattle.pe_base.specs.Tree.Ways.{way_of};
 
 /// The direction of a traversal along the curve.
 #[derive(Clone, Copy, Debug, PartialEq, Eq)]

@@ -4,10 +4,10 @@ use Rattle.std.specs.Prelude.{replicate, slice_get, Some}
 use Rattle.std.proofs.lemmas.List.{append-nil, drop_more, drop-set-lt, drop-drop, drop-replicate, take-append-drop, take_more_set}
 use Rattle.std.proofs.lemmas.Option.{get_or_from_slice_get, slice_get_within}
 use Rattle.std.proofs.lemmas.Nat.{div_below, mod_below}
-use Rattle.pe_base.specs.Places.{bits, padded}
-use Rattle.pe_base.specs.Curve.{flip, mirrored, turned}
-use Rattle.pe_base.proofs.PlaceLaws.{bits-suc}
-use Rattle.pe_base.proofs.CurveLaws.{ternary, power_positive}
+use Rattle.pe_base.specs.Tree.Places.{bits, padded}
+use Rattle.pe_base.specs.Tree.Curve.{flip, mirrored, turned}
+use Rattle.pe_base.proofs.Tree.PlaceLaws.{bits-suc}
+use Rattle.pe_base.proofs.Tree.CurveLaws.{ternary, power_positive}
 
 power_suc : (d axis : ℕ) → axis < d → 3 ^ (d - axis) ≡ 3 ^ (d - (axis + 1)) * 3
 power_suc d axis h =

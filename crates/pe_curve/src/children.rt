@@ -1,6 +1,6 @@
 ghost use Rattle.std.specs.Prelude.{◌≡◌, ℕ, ◌+◌, ◌<◌, ◌≤◌, ◌^◌, ◌%◌, slice_get, slice_index, Some};
-ghost use Rattle.pe_base.specs.Places.{IsCellPlace, bits, child_at};
-ghost use Rattle.pe_base.specs.Curve.{children, flips};
+ghost use Rattle.pe_base.specs.Tree.Places.{IsCellPlace, bits, child_at};
+ghost use Rattle.pe_base.specs.Tree.Curve.{children, flips};
 
 use crate::digits::digits_at;
 use pe_base::{Digits, Dim, Place, Way};

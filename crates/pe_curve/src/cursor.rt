@@ -1,8 +1,8 @@
 ghost use Rattle.std.specs.Prelude.{◌≡◌, ◌^◌, All, length};
 ghost use Rattle.std.specs.Iterator.{YieldsFirst, item_count};
-ghost use Rattle.pe_base.specs.Dim.{IsDim};
-ghost use Rattle.pe_base.specs.Places.{IsDigits, bits};
-ghost use Rattle.pe_base.specs.Curve.{child_digits};
+ghost use Rattle.pe_base.specs.Tree.Dim.{IsDim};
+ghost use Rattle.pe_base.specs.Tree.Places.{IsDigits, bits};
+ghost use Rattle.pe_base.specs.Tree.Curve.{child_digits};
 
 use crate::digits::digits_at;
 use pe_base::{Digits, Dim, Way};
@@ -23,8 +23,8 @@ pub struct Cursor {
 impl Model for Cursor {
     ghost use Rattle.std.specs.Prelude.{List, drop, ◌≤◌, ◌^◌, ◌-◌};
     ghost use Rattle.pe_base.specs.declared.place.Digits.{Digits};
-    ghost use Rattle.pe_base.specs.Places.{bits};
-    ghost use Rattle.pe_base.specs.Curve.{child_digits};
+    ghost use Rattle.pe_base.specs.Tree.Places.{bits};
+    ghost use Rattle.pe_base.specs.Tree.Curve.{child_digits};
 
     ghost Value = { List Digits };
 

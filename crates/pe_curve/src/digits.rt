@@ -1,7 +1,7 @@
 ghost use Rattle.std.specs.Prelude.{◌≡◌, ◌<◌, ◌^◌, slice_get, Some};
 ghost use Rattle.pe_base.specs.declared.way.Way.TheVariants.{Forward};
-ghost use Rattle.pe_base.specs.Places.{IsDigits, bits};
-ghost use Rattle.pe_base.specs.Curve.{child_digits, mirrored};
+ghost use Rattle.pe_base.specs.Tree.Places.{IsDigits, bits};
+ghost use Rattle.pe_base.specs.Tree.Curve.{child_digits, mirrored};
 
 use pe_base::{Digits, Dim, Way};
 

@@ -5,16 +5,16 @@ use Rattle.std.specs.List.{flat_map, range_with_len, list_all}
 use Rattle.std.proofs.lemmas.Bool.Decides.{nat_tests}
 use Rattle.pe_base.specs.declared.place.Place.{Place}
 use Rattle.pe_base.specs.declared.way.Way.{Way}
-use Rattle.pe_base.specs.Places.{root, bits}
-use Rattle.pe_base.specs.Curve.{digit_lists, children}
-use Rattle.pe_base.specs.Kinds.{is_inside}
-use Rattle.pe_base.specs.Faces.{Face, Touch, Turn, TurnsApart, face_on, is_on, loads, stores, corner_touches, arriving, leaving, in_corners, out_corners, child_turns, corner_turn}
+use Rattle.pe_base.specs.Tree.Places.{root, bits}
+use Rattle.pe_base.specs.Tree.Curve.{digit_lists, children}
+use Rattle.pe_base.specs.Life.Kinds.{is_inside}
+use Rattle.pe_base.specs.Steps.Faces.{Face, Touch, Turn, TurnsApart, face_on, is_on, loads, stores, corner_touches, arriving, leaving, in_corners, out_corners, child_turns, corner_turn}
 use Rattle.pe_base.proofs.Lists.{Each, Each-weaker, Each-append, Each-map, Each-all, Each-flat_map, Each-reverse, filter_none}
-use Rattle.pe_base.proofs.Mirrors.{Digits3, digit_lists_below}
-use Rattle.pe_base.proofs.Children.{child_of, children_are}
-use Rattle.pe_base.proofs.Ranks.{child_four}
-use Rattle.pe_base.proofs.Composition.{composes}
-use Rattle.pe_base.proofs.InnerVertices.{length-moved}
+use Rattle.pe_base.proofs.Tree.Mirrors.{Digits3, digit_lists_below}
+use Rattle.pe_base.proofs.Tree.Children.{child_of, children_are}
+use Rattle.pe_base.proofs.Tree.Ranks.{child_four}
+use Rattle.pe_base.proofs.Faces.Composition.{composes}
+use Rattle.pe_base.proofs.Steps.InnerVertices.{length-moved}
 use Rattle.pe_run.proofs.RangeCounts.{eqb-eq}
 
 -- a cell of level 1

@@ -5,8 +5,8 @@ use Rattle.std.proofs.lemmas.List.{length-append, length-reverse}
 use Rattle.std.proofs.lemmas.List.FromFn.{length-range_with_len}
 use Rattle.pe_base.specs.declared.place.Place.{Place}
 use Rattle.pe_base.specs.declared.event.Event.TheVariants.{EnterCell, LeaveCell}
-use Rattle.pe_base.specs.Dim.{IsDim}
-use Rattle.pe_base.specs.Working.{Firing, fires}
+use Rattle.pe_base.specs.Tree.Dim.{IsDim}
+use Rattle.pe_base.specs.LevelOne.Working.{Firing, fires}
 use Rattle.pe_stacks.proofs.CornerPlaces.{corners_range}
 use Rattle.pe_run.specs.declared.walk.traversal.Traversal.{Traversal}
 use Rattle.pe_run.specs.LevelOne.{load_firings, store_firings, birth_firings, cell_firings}

@@ -8,11 +8,11 @@ use Rattle.std.proofs.lemmas.List.{append-nil, length-append, length-map}
 use Rattle.pe_base.specs.declared.place.Place.{Place}
 use Rattle.pe_base.specs.declared.place.Digits.{Digits}
 use Rattle.pe_base.specs.declared.way.Way.{Way}
-use Rattle.pe_base.specs.Dim.{IsDim}
-use Rattle.pe_base.specs.Places.{IsCellPlace, bits, child_at, root}
-use Rattle.pe_base.specs.Curve.{flips, child_digits, children}
-use Rattle.pe_base.specs.Working.{Firing}
-use Rattle.pe_base.proofs.CurveLaws.{length-child_digits}
+use Rattle.pe_base.specs.Tree.Dim.{IsDim}
+use Rattle.pe_base.specs.Tree.Places.{IsCellPlace, bits, child_at, root}
+use Rattle.pe_base.specs.Tree.Curve.{flips, child_digits, children}
+use Rattle.pe_base.specs.LevelOne.Working.{Firing}
+use Rattle.pe_base.proofs.Tree.CurveLaws.{length-child_digits}
 use Rattle.pe_stacks.specs.Holdings.{Holdings, len_at}
 use Rattle.pe_io.specs.Sink.{Appends, AppendsPrefix}
 use Rattle.pe_run.specs.declared.walk.traversal.Traversal.{Traversal}

@@ -6,11 +6,11 @@ use Rattle.std.proofs.lemmas.List.Sums.{length-filter}
 use Rattle.std.proofs.lemmas.Bool.{ne_eqb}
 use Rattle.pe_base.specs.declared.place.Place.{Place}
 use Rattle.pe_base.specs.declared.way.Way.{Way}
-use Rattle.pe_base.specs.Places.{corner, is_same}
-use Rattle.pe_base.specs.Kinds.{is_inside}
-use Rattle.pe_base.specs.Ways.{way_of}
-use Rattle.pe_base.specs.Around.{around, steps}
-use Rattle.pe_base.specs.Faces.{Face, Touch, is_on, is_step, across, face_on, steps_to, steps_from, comes_across, goes_across, in_corners, out_corners}
+use Rattle.pe_base.specs.Tree.Places.{corner, is_same}
+use Rattle.pe_base.specs.Life.Kinds.{is_inside}
+use Rattle.pe_base.specs.Tree.Ways.{way_of}
+use Rattle.pe_base.specs.Steps.Around.{around, steps}
+use Rattle.pe_base.specs.Steps.Faces.{Face, Touch, is_on, is_step, across, face_on, steps_to, steps_from, comes_across, goes_across, in_corners, out_corners}
 use Rattle.pe_base.proofs.Lists.{map-reverse, filter-map}
 use Rattle.pe_run.specs.declared.walk.traversal.Traversal.{Traversal}
 use Rattle.pe_run.specs.LevelOne.{is_first, is_last}

@@ -7,12 +7,12 @@ use Rattle.std.proofs.lemmas.Bool.{eqb-true}
 use Rattle.pe_base.specs.declared.place.Place.{Place}
 use Rattle.pe_base.specs.declared.way.Way.{Way}
 use Rattle.pe_base.specs.declared.way.Way.TheVariants.{Forward, Inverted}
-use Rattle.pe_base.specs.Places.{root, corner}
-use Rattle.pe_base.specs.Curve.{children}
-use Rattle.pe_base.specs.Faces.{steps_to, steps_from}
-use Rattle.pe_base.specs.Kinds.{is_inside}
+use Rattle.pe_base.specs.Tree.Places.{root, corner}
+use Rattle.pe_base.specs.Tree.Curve.{children}
+use Rattle.pe_base.specs.Steps.Faces.{steps_to, steps_from}
+use Rattle.pe_base.specs.Life.Kinds.{is_inside}
 use Rattle.pe_base.proofs.Lists.{Each}
-use Rattle.pe_base.proofs.Ranks.{and_left, and_right}
+use Rattle.pe_base.proofs.Tree.Ranks.{and_left, and_right}
 use Rattle.pe_run.specs.Crossed.{crossed, comes_by, goes_by, hanging_corners}
 
 -- a corner of a cell lies inside the root cube, and it passes as a corner of the cell

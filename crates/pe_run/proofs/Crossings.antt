@@ -6,13 +6,13 @@ use Rattle.std.specs.List.{flat_map, range_with_len, sum_by}
 use Rattle.std.proofs.lemmas.Bool.Decides.{nat_tests}
 use Rattle.std.proofs.lemmas.List.Folds.{sum_by-replicate}
 use Rattle.pe_base.specs.declared.place.Place.{Place}
-use Rattle.pe_base.specs.Dim.{IsDim}
-use Rattle.pe_base.specs.Places.{root, corner, is_same}
-use Rattle.pe_base.specs.Ways.{way_of}
-use Rattle.pe_base.specs.Curve.{children}
-use Rattle.pe_base.specs.Around.{around, steps}
-use Rattle.pe_base.specs.Faces.{face_on, across, is_on}
-use Rattle.pe_base.specs.Kinds.{is_inside}
+use Rattle.pe_base.specs.Tree.Dim.{IsDim}
+use Rattle.pe_base.specs.Tree.Places.{root, corner, is_same}
+use Rattle.pe_base.specs.Tree.Ways.{way_of}
+use Rattle.pe_base.specs.Tree.Curve.{children}
+use Rattle.pe_base.specs.Steps.Around.{around, steps}
+use Rattle.pe_base.specs.Steps.Faces.{face_on, across, is_on}
+use Rattle.pe_base.specs.Life.Kinds.{is_inside}
 use Rattle.pe_stacks.specs.Grid.{input_stack}
 use Rattle.pe_run.specs.Crossed.{crossed, comes_by, goes_by, hanging_corners}
 use Rattle.pe_run.proofs.CrossingTotals.{passes, comes_crossed, goes_crossed, is_entry, is_exit, entries, exits, outside_hang}

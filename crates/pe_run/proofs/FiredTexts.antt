@@ -4,8 +4,8 @@ use Rattle.std.proofs.lemmas.List.{append-nil}
 use Rattle.std.proofs.lemmas.Grind.{flat_map-append}
 use Rattle.std.proofs.lemmas.List.Elements.{filter-append}
 use Rattle.std.specs.List.{flat_map}
-use Rattle.pe_base.specs.Working.{Firing}
-use Rattle.pe_base.specs.Traces.{trace_line}
+use Rattle.pe_base.specs.LevelOne.Working.{Firing}
+use Rattle.pe_base.specs.LevelOne.Traces.{trace_line}
 use Rattle.pe_io.specs.Sink.{Appends, AppendsPrefix}
 use Rattle.pe_io.proofs.Appending.{Appends-then, AppendsPrefix-then, AppendsPrefix-more, AppendsPrefix-whole, take-member, split-member}
 use Rattle.pe_run.specs.declared.walk.traversal.Traversal.{Traversal}

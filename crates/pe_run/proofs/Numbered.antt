@@ -7,10 +7,10 @@ use Rattle.std.proofs.lemmas.Option.{slice_get-get_or}
 use Rattle.std.proofs.lemmas.Bool.{ne_eqb}
 use Rattle.std.proofs.lemmas.Bool.Decides.{eqb_tells}
 use Rattle.pe_base.specs.declared.place.Place.{Place}
-use Rattle.pe_base.specs.Dim.{IsDim}
-use Rattle.pe_base.specs.Places.{root}
-use Rattle.pe_base.specs.Curve.{children}
-use Rattle.pe_base.specs.Ways.{way_of}
+use Rattle.pe_base.specs.Tree.Dim.{IsDim}
+use Rattle.pe_base.specs.Tree.Places.{root}
+use Rattle.pe_base.specs.Tree.Curve.{children}
+use Rattle.pe_base.specs.Tree.Ways.{way_of}
 use Rattle.pe_stacks.specs.Holdings.{Holdings, Stack, new_stack, new_holdings, stack_at, CountsWithin}
 use Rattle.pe_stacks.specs.Grid.{cell_input_stack}
 use Rattle.pe_stacks.proofs.CornerPlaces.{corners_range}

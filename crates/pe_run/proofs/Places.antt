@@ -1,8 +1,8 @@
 -- Corners of cells, by the bits of their numbers.
 use Rattle.std.proofs.Common.{◌≡◌, ℕ, zero, suc, ◌+◌, ◌/◌, ◌%◌, ◌^◌, ◌<◌, ◌≤◌, List, [], ◌∷◌, length, get_or, ap, arith}
 use Rattle.pe_base.specs.declared.place.Place.{Place}
-use Rattle.pe_base.specs.Dim.{IsDim}
-use Rattle.pe_base.specs.Places.{bits, moved, corner}
+use Rattle.pe_base.specs.Tree.Dim.{IsDim}
+use Rattle.pe_base.specs.Tree.Places.{bits, moved, corner}
 
 same_four : (a b c d a' b' c' d' : ℕ) → a ≡ a' → b ≡ b' → c ≡ c' → d ≡ d' → a ∷ b ∷ c ∷ d ∷ [] ≡ a' ∷ b' ∷ c' ∷ d' ∷ []
 same_four a b c d a' b' c' d' e f g h = cc

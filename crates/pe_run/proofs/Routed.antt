@@ -8,15 +8,15 @@ use Rattle.std.proofs.lemmas.Bool.{ltb-true}
 use Rattle.pe_base.specs.declared.place.Place.{Place}
 use Rattle.pe_base.specs.declared.way.Way.{Way}
 use Rattle.pe_base.specs.declared.way.Way.TheVariants.{Forward, Inverted}
-use Rattle.pe_base.specs.Dim.{IsDim}
-use Rattle.pe_base.specs.Places.{root, corner, IsCellPlace, IsInside}
-use Rattle.pe_base.specs.Curve.{children, order}
-use Rattle.pe_base.specs.Faces.{steps_to, steps_from}
-use Rattle.pe_base.specs.Kinds.{is_inside}
-use Rattle.pe_base.specs.Routes.{stack_in, stack_out}
+use Rattle.pe_base.specs.Tree.Dim.{IsDim}
+use Rattle.pe_base.specs.Tree.Places.{root, corner, IsCellPlace, IsInside}
+use Rattle.pe_base.specs.Tree.Curve.{children, order}
+use Rattle.pe_base.specs.Steps.Faces.{steps_to, steps_from}
+use Rattle.pe_base.specs.Life.Kinds.{is_inside}
+use Rattle.pe_base.specs.Steps.Routes.{stack_in, stack_out}
 use Rattle.pe_base.proofs.Lists.{Each, Each-In}
-use Rattle.pe_base.proofs.Ranks.{and_left, and_right, same_list}
-use Rattle.pe_base.proofs.InnerVertices.{corner_on_grid}
+use Rattle.pe_base.proofs.Tree.Ranks.{and_left, and_right, same_list}
+use Rattle.pe_base.proofs.Steps.InnerVertices.{corner_on_grid}
 use Rattle.pe_access.specs.declared.route.Route.{Route}
 use Rattle.pe_access.specs.States.{route_of}
 use Rattle.pe_walk.proofs.Unwalked.{contains_in}

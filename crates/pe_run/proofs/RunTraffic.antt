@@ -4,12 +4,12 @@ use Rattle.std.specs.Prelude.{count_by, slice_index_or, if◌then◌else◌}
 use Rattle.std.specs.List.{flat_map, range_with_len, sum_by}
 use Rattle.std.proofs.lemmas.Bool.{ltb-true, ltb-false, eqb-true, eq-eqb}
 use Rattle.std.proofs.lemmas.List.Sums.{sum_by-cons}
-use Rattle.pe_base.specs.Dim.{IsDim}
-use Rattle.pe_base.specs.Places.{root}
-use Rattle.pe_base.specs.Ways.{way_of}
-use Rattle.pe_base.specs.Curve.{children}
-use Rattle.pe_base.proofs.CurveLaws.{length-children}
-use Rattle.pe_base.specs.Traces.{traversals_text}
+use Rattle.pe_base.specs.Tree.Dim.{IsDim}
+use Rattle.pe_base.specs.Tree.Places.{root}
+use Rattle.pe_base.specs.Tree.Ways.{way_of}
+use Rattle.pe_base.specs.Tree.Curve.{children}
+use Rattle.pe_base.proofs.Tree.CurveLaws.{length-children}
+use Rattle.pe_base.specs.LevelOne.Traces.{traversals_text}
 use Rattle.pe_stacks.specs.Holdings.{Holdings, Stack, new_stack, new_holdings, stack_at}
 use Rattle.pe_run.specs.declared.walk.traversal.Traversal.{Traversal}
 use Rattle.pe_run.specs.declared.scenario.Scenario.{Scenario}

@@ -11,7 +11,7 @@ use Rattle.toml.specs.declared.value.Value.{Value}
 use Rattle.toml.specs.View.{view, items_view, members_view}
 use Rattle.toml.proofs.Views.{items_view-drop}
 use Rattle.pe_base.specs.declared.event.Event.{Event}
-use Rattle.pe_base.specs.Events.{number_of, is_among}
+use Rattle.pe_base.specs.Acts.Events.{number_of, is_among}
 use Rattle.pe_run.specs.declared.trace.Trace.{Trace}
 use Rattle.pe_run.specs.Trace.{traces}
 use Rattle.pe_run.specs.Scenario.{is_known, all_known, next_event, events_after, document_of, built_form, scenario_limit, Scene, form_or_unbuilt, scene_in, scene_of}

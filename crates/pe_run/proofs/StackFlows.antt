@@ -4,11 +4,11 @@ use Rattle.std.specs.List.{flat_map, range_with_len}
 use Rattle.std.proofs.lemmas.List.{length-append}
 use Rattle.std.proofs.lemmas.Bool.{ne_eqb}
 use Rattle.pe_base.specs.declared.place.Place.{Place}
-use Rattle.pe_base.specs.Places.{corner, root}
-use Rattle.pe_base.specs.Curve.{children}
-use Rattle.pe_base.specs.Kinds.{is_inside}
-use Rattle.pe_base.specs.Ways.{way_of}
-use Rattle.pe_base.specs.Faces.{Turn, TurnsApart, face_on, child_turn, in_corners, out_corners}
+use Rattle.pe_base.specs.Tree.Places.{corner, root}
+use Rattle.pe_base.specs.Tree.Curve.{children}
+use Rattle.pe_base.specs.Life.Kinds.{is_inside}
+use Rattle.pe_base.specs.Tree.Ways.{way_of}
+use Rattle.pe_base.specs.Steps.Faces.{Turn, TurnsApart, face_on, child_turn, in_corners, out_corners}
 use Rattle.pe_run.specs.declared.walk.traversal.Traversal.{Traversal}
 use Rattle.pe_run.specs.LevelOne.{is_first, is_last}
 use Rattle.pe_run.specs.Traffic.{pushes, pops, is_push_on, is_pop_from}

@@ -4,10 +4,10 @@ use Rattle.std.specs.List.{range_with_len}
 use Rattle.pe_base.specs.declared.place.Place.{Place}
 use Rattle.pe_base.specs.declared.event.Event.{Event}
 use Rattle.pe_base.specs.declared.event.Event.TheVariants.{TouchVertexFirstTime, TouchVertexLastTime, CreateInnerVertex, CreateHangingVertex, DestroyHangingVertex, CreateCell, EnterCell, LeaveCell}
-use Rattle.pe_base.specs.Places.{corner, root}
-use Rattle.pe_base.specs.Events.{number_of}
-use Rattle.pe_base.specs.Kinds.{is_inside}
-use Rattle.pe_base.specs.Working.{Firing, fires}
+use Rattle.pe_base.specs.Tree.Places.{corner, root}
+use Rattle.pe_base.specs.Acts.Events.{number_of}
+use Rattle.pe_base.specs.Life.Kinds.{is_inside}
+use Rattle.pe_base.specs.LevelOne.Working.{Firing, fires}
 use Rattle.pe_run.specs.declared.walk.traversal.Traversal.{Traversal}
 use Rattle.pe_run.specs.LevelOne.{is_first, is_last, load_firings, store_firings, cell_firings, count_of}
 use Rattle.pe_run.specs.Traffic.{pushes, pops, is_lend, is_give_up}

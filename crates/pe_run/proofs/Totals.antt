@@ -5,12 +5,12 @@ use Rattle.pe_base.specs.declared.place.Place.{Place}
 use Rattle.pe_base.specs.declared.tally.Tally.{Tally}
 use Rattle.pe_base.specs.declared.event.Event.{Event}
 use Rattle.pe_base.specs.declared.event.Event.TheVariants.{BeginIteration, EndIteration, TouchVertexFirstTime, TouchVertexLastTime, CreateInnerVertex, CreateHangingVertex, EnterCell}
-use Rattle.pe_base.specs.Places.{corner, root}
-use Rattle.pe_base.specs.Curve.{children}
-use Rattle.pe_base.specs.Events.{number_of}
-use Rattle.pe_base.specs.Ways.{way_of}
-use Rattle.pe_base.specs.Working.{Firing, fires}
-use Rattle.pe_base.specs.Traces.{tally_line}
+use Rattle.pe_base.specs.Tree.Places.{corner, root}
+use Rattle.pe_base.specs.Tree.Curve.{children}
+use Rattle.pe_base.specs.Acts.Events.{number_of}
+use Rattle.pe_base.specs.Tree.Ways.{way_of}
+use Rattle.pe_base.specs.LevelOne.Working.{Firing, fires}
+use Rattle.pe_base.specs.LevelOne.Traces.{tally_line}
 use Rattle.pe_stacks.specs.Holdings.{Holdings}
 use Rattle.pe_run.specs.declared.walk.traversal.Traversal.{Traversal}
 use Rattle.pe_run.specs.LevelOne.{load_firings, cell_firings, traversal_firings, count_of, tally_of}

@@ -13,14 +13,14 @@ use Rattle.pe_base.specs.declared.event.Event.{Event}
 use Rattle.pe_base.specs.declared.event.Event.TheVariants.{BeginIteration, EndIteration, TouchVertexFirstTime, TouchVertexLastTime, CreateInnerVertex, CreateHangingVertex, DestroyHangingVertex, CreateCell, EnterCell, LeaveCell}
 use Rattle.pe_base.specs.declared.kind.Kind.{Kind}
 use Rattle.pe_base.specs.declared.kind.Kind.TheVariants.{Kept, Born, Dying, Hanging}
-use Rattle.pe_base.specs.Events.{number_of}
-use Rattle.pe_base.specs.Places.{is_same}
-use Rattle.pe_base.specs.Kinds.{kind_from}
-use Rattle.pe_base.specs.Payloads.{zeros}
-use Rattle.pe_base.specs.Working.{World, Firing, fires}
-use Rattle.pe_base.specs.Touches.{loaded, fresh_vertex, put_vertex, one_created, one_written, first_touch, load_vertex, store_vertex}
-use Rattle.pe_base.specs.Walk.{counted, no_tally}
-use Rattle.pe_base.specs.Traces.{trace_line, trace_text, prints}
+use Rattle.pe_base.specs.Acts.Events.{number_of}
+use Rattle.pe_base.specs.Tree.Places.{is_same}
+use Rattle.pe_base.specs.Life.Kinds.{kind_from}
+use Rattle.pe_base.specs.Acts.Payloads.{zeros}
+use Rattle.pe_base.specs.LevelOne.Working.{World, Firing, fires}
+use Rattle.pe_base.specs.LevelOne.Touches.{loaded, fresh_vertex, put_vertex, one_created, one_written, first_touch, load_vertex, store_vertex}
+use Rattle.pe_base.specs.LevelOne.Walk.{counted, no_tally}
+use Rattle.pe_base.specs.LevelOne.Traces.{trace_line, trace_text, prints}
 use Rattle.pe_run.specs.LevelOne.{count_of, tally_of}
 
 -- the levels of the cells that are entered

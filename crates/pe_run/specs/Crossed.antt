@@ -3,9 +3,9 @@ use Rattle.std.specs.Prelude.{ℕ, ◌-◌, ◌^◌, ◌%◌, Bool, ◌&&◌, �
 use Rattle.std.specs.List.{range_with_len, sum_by}
 use Rattle.pe_base.specs.declared.place.Place.{Place}
 use Rattle.pe_base.specs.declared.way.Way.{Way}
-use Rattle.pe_base.specs.Places.{at, corner}
-use Rattle.pe_base.specs.Around.{crossings}
-use Rattle.pe_base.specs.Faces.{face_on, across, is_on, is_step}
+use Rattle.pe_base.specs.Tree.Places.{at, corner}
+use Rattle.pe_base.specs.Steps.Around.{crossings}
+use Rattle.pe_base.specs.Steps.Faces.{face_on, across, is_on, is_step}
 
 -- the cell of level 1 that touches no face of the root cube
 abbrev pub middle : ℕ → Place

@@ -6,13 +6,13 @@ use Rattle.pe_base.specs.declared.place.Place.{Place}
 use Rattle.pe_base.specs.declared.tally.Tally.{Tally}
 use Rattle.pe_base.specs.declared.event.Event.{Event}
 use Rattle.pe_base.specs.declared.event.Event.TheVariants.{BeginIteration, EndIteration, TouchVertexFirstTime, TouchVertexLastTime, CreateInnerVertex, CreateHangingVertex, DestroyHangingVertex, CreateCell, EnterCell, LeaveCell}
-use Rattle.pe_base.specs.Places.{root, corner}
-use Rattle.pe_base.specs.Ways.{way_of}
-use Rattle.pe_base.specs.Curve.{children}
-use Rattle.pe_base.specs.Events.{number_of}
-use Rattle.pe_base.specs.Faces.{steps_to, steps_from}
-use Rattle.pe_base.specs.Kinds.{is_inside}
-use Rattle.pe_base.specs.Working.{Firing, fires}
+use Rattle.pe_base.specs.Tree.Places.{root, corner}
+use Rattle.pe_base.specs.Tree.Ways.{way_of}
+use Rattle.pe_base.specs.Tree.Curve.{children}
+use Rattle.pe_base.specs.Acts.Events.{number_of}
+use Rattle.pe_base.specs.Steps.Faces.{steps_to, steps_from}
+use Rattle.pe_base.specs.Life.Kinds.{is_inside}
+use Rattle.pe_base.specs.LevelOne.Working.{Firing, fires}
 
 -- no cell comes before this one around the vertex; none comes after it
 abbrev pub is_first : ℕ → ℕ → Place → Place → Bool

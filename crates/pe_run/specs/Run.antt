@@ -2,7 +2,7 @@
 -- and of the step whose shelf call failed, if one did.
 use Rattle.std.specs.Prelude.{◌≡◌, ℕ, ◌⊎◌, Bool, ◌||◌, ◌==◌, MatchBool, List, [], ◌∷◌, ◌++◌, codes, Option, Some, None, IsSome, Result, Ok, Err}
 use Rattle.pe_base.specs.Lines.{shown_key, line, fault_line}
-use Rattle.pe_base.specs.Traces.{traversals_text}
+use Rattle.pe_base.specs.LevelOne.Traces.{traversals_text}
 use Rattle.pe_io.specs.declared.shelf.ShelfCall.TheVariants.{Get}
 use Rattle.pe_io.specs.Counts.{Rises}
 use Rattle.pe_io.specs.Sink.{Appends, AppendsPrefix}

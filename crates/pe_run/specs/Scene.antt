@@ -1,7 +1,7 @@
 -- What the reader of scenarios answers, beside what the bytes say.
 use Rattle.std.specs.Prelude.{◌≡◌, List, Option, Some, None, Result, Ok, Err}
 use Rattle.pe_base.specs.declared.event.Event.{Event}
-use Rattle.pe_base.specs.Events.{is_among}
+use Rattle.pe_base.specs.Acts.Events.{is_among}
 use Rattle.pe_run.specs.declared.trace.Trace.{Trace}
 use Rattle.pe_run.specs.declared.scenario.Scenario.{Scenario}
 use Rattle.pe_run.specs.declared.scenario.SceneFault.{SceneFault}

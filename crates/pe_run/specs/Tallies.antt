@@ -1,7 +1,7 @@
 -- The tally of a traversal, by the counts of the depots before it and after it.
 use Rattle.std.specs.Prelude.{ℕ, ◌+◌, ◌-◌, ◌^◌, ◌≤◌}
 use Rattle.pe_base.specs.declared.tally.Tally.{Tally}
-use Rattle.pe_base.specs.Ways.{way_of}
+use Rattle.pe_base.specs.Tree.Ways.{way_of}
 use Rattle.pe_stacks.specs.Holdings.{Holdings, stack_at}
 use Rattle.pe_run.specs.declared.walk.tally.Counts.{Counts}
 use Rattle.pe_run.specs.declared.walk.traversal.Traversal.{Traversal}

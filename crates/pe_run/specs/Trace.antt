@@ -1,7 +1,7 @@
 -- Which events a set of twelve marks traces.
 use Rattle.std.specs.Prelude.{Bool, false, slice_index_or}
 use Rattle.pe_base.specs.declared.event.Event.{Event}
-use Rattle.pe_base.specs.Events.{number_of}
+use Rattle.pe_base.specs.Acts.Events.{number_of}
 use Rattle.pe_run.specs.declared.trace.Trace.{Trace}
 
 abbrev pub traces : Trace → Event → Bool

@@ -2,13 +2,13 @@
 use Rattle.std.specs.Prelude.{◌≡◌, ℕ, true, false, ◌*◌, ◌/◌, ◌%◌, ◌^◌, Bool, ◌&&◌, ◌==◌, List, [], ◌∷◌, ◌++◌, map, filter, reverse, replicate, if◌then◌else◌}
 use Rattle.std.specs.List.{flat_map, range_with_len}
 use Rattle.pe_base.specs.declared.place.Place.{Place}
-use Rattle.pe_base.specs.Places.{root, corner}
-use Rattle.pe_base.specs.Ways.{way_of}
-use Rattle.pe_base.specs.Curve.{children}
-use Rattle.pe_base.specs.Kinds.{is_inside}
-use Rattle.pe_base.specs.Faces.{Face, face_on, across, is_on, is_step}
-use Rattle.pe_base.specs.Working.{Firing}
-use Rattle.pe_base.specs.Traces.{trace_text, tally_line}
+use Rattle.pe_base.specs.Tree.Places.{root, corner}
+use Rattle.pe_base.specs.Tree.Ways.{way_of}
+use Rattle.pe_base.specs.Tree.Curve.{children}
+use Rattle.pe_base.specs.Life.Kinds.{is_inside}
+use Rattle.pe_base.specs.Steps.Faces.{Face, face_on, across, is_on, is_step}
+use Rattle.pe_base.specs.LevelOne.Working.{Firing}
+use Rattle.pe_base.specs.LevelOne.Traces.{trace_text, tally_line}
 use Rattle.pe_stacks.specs.Grid.{input_stack, output_stack, cell_input_stack, cell_output_stack}
 use Rattle.pe_run.specs.declared.walk.traversal.Traversal.{Traversal}
 use Rattle.pe_run.specs.Trace.{traces}

@@ -2,8 +2,8 @@
 ghost use Rattle.std.specs.Prelude.{◌≡◌, ◌≢◌, ◌≤◌, ◌+◌, Result as Outcome, None, Some, Err, Ok, OnOk, OnErr, map, length, string_bytes};
 ghost use Rattle.pe_io.specs.Counts.{Rises};
 ghost use Rattle.pe_io.specs.Sink.{Appends, AppendsPrefix};
-ghost use Rattle.pe_base.specs.Dim.{IsDim};
-ghost use Rattle.pe_base.specs.Traces.{traversals_text};
+ghost use Rattle.pe_base.specs.Tree.Dim.{IsDim};
+ghost use Rattle.pe_base.specs.LevelOne.Traces.{traversals_text};
 ghost use Rattle.pe_stacks.specs.Holdings.{new_holdings, cleared};
 ghost use Rattle.pe_run.specs.Trace.{traces};
 ghost use Rattle.pe_run.specs.Depots.{HasTraffic, IsSettled};

@@ -2,7 +2,7 @@
 ghost use Rattle.std.specs.Prelude.{◌≡◌, ◌≤◌, Err, IfSome, IfOk, option_map, [], codes};
 ghost use Rattle.toml.specs.View.{view, table_view, items_view};
 ghost use Rattle.toml.specs.Data.{get_member};
-ghost use Rattle.pe_base.specs.Dim.{IsDim};
+ghost use Rattle.pe_base.specs.Tree.Dim.{IsDim};
 ghost use Rattle.pe_run.specs.Scenario.{is_known, all_known, number_at, events_in, events_after, next_event, built_form, scene_of, unbuilt as not_built};
 ghost use Rattle.pe_run.specs.Trace.{traces};
 ghost use Rattle.pe_run.specs.Scene.{scene_view, GivesScene, RefusesFor, TracesEvents};

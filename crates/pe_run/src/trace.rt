@@ -1,7 +1,7 @@
 // Which events are traced.
 ghost use Rattle.std.specs.Prelude.{◌≡◌, ◌||◌, ◌==◌, false};
 ghost use Rattle.pe_base.specs.declared.event.Event.{Event as AnEvent};
-ghost use Rattle.pe_base.specs.Events.{number_of};
+ghost use Rattle.pe_base.specs.Acts.Events.{number_of};
 
 use pe_base::Event;
 

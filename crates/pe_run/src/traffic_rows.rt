@@ -2,7 +2,7 @@
 //! names; the test that calls it has it checked.
 ghost use Rattle.std.specs.Prelude.{◌≡◌, ◌/◌, ◌%◌, [], ◌∷◌, map};
 ghost use Rattle.std.specs.List.{range_with_len};
-ghost use Rattle.pe_base.specs.Places.{at};
+ghost use Rattle.pe_base.specs.Tree.Places.{at};
 ghost use Rattle.pe_run.specs.Crossed.{inside_vertices, crossed, hanging_corners};
 ghost use Rattle.pe_run.specs.Depots.{vertex_pushes, vertex_pops, vertex_lends, cell_pushes, cell_pops, cell_lends, in_all};
 

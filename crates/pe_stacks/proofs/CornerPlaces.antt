@@ -3,7 +3,7 @@ use Rattle.std.proofs.Common.{◌≡◌, ℕ, zero, suc, ◌+◌, ◌-◌, ◌^�
 use Rattle.std.specs.Prelude.{slice_get}
 use Rattle.std.proofs.Math.Nat.{pow-le-pow_right}
 use Rattle.std.proofs.lemmas.List.{take-append-drop, replicate-append-replicate}
-use Rattle.pe_base.specs.Dim.{IsDim}
+use Rattle.pe_base.specs.Tree.Dim.{IsDim}
 use Rattle.pe_stacks.specs.Corners.{CornerList}
 
 -- a cell has four corners at least and sixteen at most

@@ -1,6 +1,6 @@
 -- How the corners lie in sixteen places: those that the dimension does not have are empty.
 use Rattle.std.specs.Prelude.{◌≡◌, ◌-◌, ◌^◌, take, drop, replicate, length, None}
-use Rattle.pe_base.specs.Dim.{IsDim}
+use Rattle.pe_base.specs.Tree.Dim.{IsDim}
 use Rattle.pe_stacks.specs.declared.record.Vertex.{Vertex}
 use Rattle.pe_stacks.specs.declared.corners.Corners.TheInside.{Inside}
 use Rattle.pe_stacks.specs.Corners.{CornerList}

@@ -1,6 +1,6 @@
 ghost use Rattle.std.specs.Prelude.{◌≡◌};
 ghost use Rattle.std.specs.Borrow.{Lends, sem};
-ghost use Rattle.pe_base.specs.States.{is_old, is_new, refined_state, erased_state};
+ghost use Rattle.pe_base.specs.Life.States.{is_old, is_new, refined_state, erased_state};
 
 use pe_base::{Kind, State};
 

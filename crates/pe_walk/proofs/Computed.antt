@@ -7,10 +7,10 @@ use Rattle.std.proofs.lemmas.List.{take_more, take_all}
 use Rattle.std.proofs.lemmas.Option.{slice_get_within, get_or_from_slice_get}
 use Rattle.pe_base.specs.declared.place.Place.{Place}
 use Rattle.pe_base.specs.declared.way.Way.{Way}
-use Rattle.pe_base.specs.Curve.{children}
-use Rattle.pe_base.specs.Around.{steps}
-use Rattle.pe_base.specs.Faces.{corner_touches, loads, stores}
-use Rattle.pe_base.proofs.CurveLaws.{length-children}
+use Rattle.pe_base.specs.Tree.Curve.{children}
+use Rattle.pe_base.specs.Steps.Around.{steps}
+use Rattle.pe_base.specs.Steps.Faces.{corner_touches, loads, stores}
+use Rattle.pe_base.proofs.Tree.CurveLaws.{length-children}
 
 -- the steps from an item on begin with the step to the next
 any_from : {X : Type 0} (test : X × X → Bool) (xs : List X) (i : ℕ) (d : X) → suc i < length xs

@@ -3,13 +3,13 @@ use Rattle.std.proofs.Common.{◌≡◌, ℕ, zero, suc, ◌+◌, ◌-◌, ◌<�
 use Rattle.std.specs.List.{flat_map}
 use Rattle.pe_base.specs.declared.place.Place.{Place}
 use Rattle.pe_base.specs.declared.way.Way.{Way}
-use Rattle.pe_base.specs.Faces.{across, arriving, leaving, steps_to, steps_from}
-use Rattle.pe_base.proofs.FaceLists.{face_of, across-up, leaving-up, leaving-down, leaving_is}
-use Rattle.pe_base.proofs.Composition.{composes, composes_any}
-use Rattle.pe_base.proofs.Counts.{steps_to_cells, steps_from_cells, loaded_for_around, stored_for_around}
-use Rattle.pe_base.specs.Curve.{order}
-use Rattle.pe_base.proofs.Ranks.{rank_of, top, order_rises}
-use Rattle.pe_base.proofs.Quiet.{Still, arriving_none, leaving_none}
+use Rattle.pe_base.specs.Steps.Faces.{across, arriving, leaving, steps_to, steps_from}
+use Rattle.pe_base.proofs.Faces.FaceLists.{face_of, across-up, leaving-up, leaving-down, leaving_is}
+use Rattle.pe_base.proofs.Faces.Composition.{composes, composes_any}
+use Rattle.pe_base.proofs.Steps.Counts.{steps_to_cells, steps_from_cells, loaded_for_around, stored_for_around}
+use Rattle.pe_base.specs.Tree.Curve.{order}
+use Rattle.pe_base.proofs.Tree.Ranks.{rank_of, top, order_rises}
+use Rattle.pe_base.proofs.Faces.Quiet.{Still, arriving_none, leaving_none}
 use Rattle.pe_walk.proofs.Outside.{before_rises, NoneAcross, outside_arriving, outside_leaving}
 use Rattle.pe_walk.proofs.Trees.{root_is_cell, child_is_cell, place_is_cell, cell_position}
 use Rattle.pe_walk.proofs.Steps.{inside_on_grid, step_crosses, step_in_corners, in_corners_only, out_corners_only}

@@ -5,16 +5,16 @@ use Rattle.std.proofs.lemmas.List.{get_or-set_same, get_or-set_other}
 use Rattle.std.proofs.lemmas.Bool.Decides.{nat_tests}
 use Rattle.pe_base.specs.declared.place.Place.{Place}
 use Rattle.pe_base.specs.declared.way.Way.{Way}
-use Rattle.pe_base.specs.Places.{IsInside, moved, is_same}
-use Rattle.pe_base.specs.Curve.{children, order}
-use Rattle.pe_base.specs.Around.{is_corner_pos, is_corner, around, steps}
-use Rattle.pe_base.specs.Faces.{Face, Touch, beside, across, is_step, corner_touches, comes_across, goes_across, at_face, in_corners, out_corners}
+use Rattle.pe_base.specs.Tree.Places.{IsInside, moved, is_same}
+use Rattle.pe_base.specs.Tree.Curve.{children, order}
+use Rattle.pe_base.specs.Steps.Around.{is_corner_pos, is_corner, around, steps}
+use Rattle.pe_base.specs.Steps.Faces.{Face, Touch, beside, across, is_step, corner_touches, comes_across, goes_across, at_face, in_corners, out_corners}
 use Rattle.pe_base.proofs.Lists.{Each, Each-all, Each-weaker, Each-filter, In, In-map, In-flat_map, In-filter, In-reverse, Each-In, Each-flat_map, Each-reverse}
-use Rattle.pe_base.proofs.Corners.{IsBits, bit_lists, own_corners, slice_index-moved}
-use Rattle.pe_base.proofs.FaceLists.{face_of, up_cell, across-up, leaving_is}
-use Rattle.pe_base.proofs.Ranks.{OnLevel, order_on_level, steps_within, list_any-Each, is_same-true, and_left, and_right}
-use Rattle.pe_base.proofs.Counts.{OnGrid, root_on_grid, children_on_grid}
-use Rattle.pe_base.proofs.Crossing.{step_neighbours}
+use Rattle.pe_base.proofs.Tree.Corners.{IsBits, bit_lists, own_corners, slice_index-moved}
+use Rattle.pe_base.proofs.Faces.FaceLists.{face_of, up_cell, across-up, leaving_is}
+use Rattle.pe_base.proofs.Tree.Ranks.{OnLevel, order_on_level, steps_within, list_any-Each, is_same-true, and_left, and_right}
+use Rattle.pe_base.proofs.Steps.Counts.{OnGrid, root_on_grid, children_on_grid}
+use Rattle.pe_base.proofs.Steps.Crossing.{step_neighbours}
 use Rattle.pe_walk.specs.Laws.{IsFace, facing, ShareFace, Crosses}
 use Rattle.pe_walk.proofs.Unwalked.{contains_in, in_contains}
 use Rattle.pe_walk.proofs.Outside.{step_in}

@@ -2,9 +2,9 @@
 use Rattle.std.proofs.Common.{◌≡◌, zero, suc, Bool, true, false, ◌||◌, List, [], ◌∷◌, ◌++◌, reverse, refl, sym, ap, ap₂, ◌∙◌}
 use Rattle.std.specs.List.{flat_map, list_any}
 use Rattle.pe_base.specs.declared.place.Place.{Place}
-use Rattle.pe_base.specs.Curve.{children}
-use Rattle.pe_base.specs.Faces.{Touch, corner_touches, loads, stores}
-use Rattle.pe_base.specs.Places.{is_same}
+use Rattle.pe_base.specs.Tree.Curve.{children}
+use Rattle.pe_base.specs.Steps.Faces.{Touch, corner_touches, loads, stores}
+use Rattle.pe_base.specs.Tree.Places.{is_same}
 use Rattle.pe_base.proofs.Lists.{reverse-cons}
 use Rattle.pe_walk.specs.Laws.{StoresAsLoads}
 

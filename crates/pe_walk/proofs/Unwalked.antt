@@ -3,18 +3,18 @@ use Rattle.std.proofs.Common.{◌≡◌, ℕ, zero, suc, ◌+◌, ◌<◌, ◌�
 use Rattle.std.specs.List.{All, Contains}
 use Rattle.pe_base.specs.declared.place.Place.{Place}
 use Rattle.pe_base.specs.declared.way.Way.{Way}
-use Rattle.pe_base.specs.Curve.{digit_lists, children, order}
-use Rattle.pe_base.specs.Around.{around, steps}
-use Rattle.pe_base.specs.Faces.{Face, Touch, across, is_step, loads, comes_across, goes_across, at_face, arriving, leaving, in_corners, out_corners}
-use Rattle.pe_base.specs.Places.{is_same}
+use Rattle.pe_base.specs.Tree.Curve.{digit_lists, children, order}
+use Rattle.pe_base.specs.Steps.Around.{around, steps}
+use Rattle.pe_base.specs.Steps.Faces.{Face, Touch, across, is_step, loads, comes_across, goes_across, at_face, arriving, leaving, in_corners, out_corners}
+use Rattle.pe_base.specs.Tree.Places.{is_same}
 use Rattle.pe_base.proofs.Lists.{Each, Each-weaker, Each-filter, In, In-map, In-reverse, Each-In, flat_map_none}
-use Rattle.pe_base.proofs.Mirrors.{Digits3, digit_lists_below}
-use Rattle.pe_base.proofs.Children.{opposite, child_of, children_are, reverse-children}
-use Rattle.pe_base.proofs.Corners.{own_corners}
-use Rattle.pe_base.proofs.FaceLists.{is_child_at, at_face_parts, leaving_is, opposite-opposite}
-use Rattle.pe_base.proofs.Ranks.{OnLevel, order_on_level, child_four, steps_within, list_any-Each, is_same-true, and_left, and_right}
-use Rattle.pe_base.proofs.Quiet.{at_face_none, false_unless}
-use Rattle.pe_base.proofs.Waits.{digits_in}
+use Rattle.pe_base.proofs.Tree.Mirrors.{Digits3, digit_lists_below}
+use Rattle.pe_base.proofs.Tree.Children.{opposite, child_of, children_are, reverse-children}
+use Rattle.pe_base.proofs.Tree.Corners.{own_corners}
+use Rattle.pe_base.proofs.Faces.FaceLists.{is_child_at, at_face_parts, leaving_is, opposite-opposite}
+use Rattle.pe_base.proofs.Tree.Ranks.{OnLevel, order_on_level, child_four, steps_within, list_any-Each, is_same-true, and_left, and_right}
+use Rattle.pe_base.proofs.Faces.Quiet.{at_face_none, false_unless}
+use Rattle.pe_base.proofs.Faces.Waits.{digits_in}
 use Rattle.pe_walk.specs.Laws.{IsCell, IsWalk}
 
 pub contains_in : {X : Type 0} (xs : List X) (x : X) → Contains xs x → In x xs

@@ -2,9 +2,9 @@
 use Rattle.std.specs.Prelude.{ℕ, Bool, ◌&&◌, ◌==◌, nat_le, if◌then◌else◌, List, [], ◌∷◌, map, slice_index}
 use Rattle.pe_base.specs.declared.place.Place.{Place}
 use Rattle.pe_base.specs.declared.way.Way.{Way}
-use Rattle.pe_base.specs.Places.{at}
-use Rattle.pe_base.specs.Curve.{order}
-use Rattle.pe_base.specs.Faces.{Face, face_on}
+use Rattle.pe_base.specs.Tree.Places.{at}
+use Rattle.pe_base.specs.Tree.Curve.{order}
+use Rattle.pe_base.specs.Steps.Faces.{Face, face_on}
 
 abbrev pub is_between : ℕ → ℕ → ℕ → Bool
 is_between low high x = nat_le low x && nat_le x high

@@ -6,11 +6,11 @@ use Rattle.std.specs.Prelude.{◌≡◌, ℕ, suc, ◌+◌, ◌-◌, ◌*◌, �
 use Rattle.std.specs.List.{flat_map, list_any, All, Contains}
 use Rattle.pe_base.specs.declared.place.Place.{Place}
 use Rattle.pe_base.specs.declared.way.Way.{Way}
-use Rattle.pe_base.specs.Dim.{IsDim}
-use Rattle.pe_base.specs.Places.{root, IsPosition, IsInside, is_same}
-use Rattle.pe_base.specs.Curve.{children, order}
-use Rattle.pe_base.specs.Around.{around, steps}
-use Rattle.pe_base.specs.Faces.{Face, across, stack_of, face_on, loads, stores, arriving, leaving, in_corners, out_corners, is_touched, is_step, Turns, TurnsApart, cell_turns, touched_for, steps_to, steps_from}
+use Rattle.pe_base.specs.Tree.Dim.{IsDim}
+use Rattle.pe_base.specs.Tree.Places.{root, IsPosition, IsInside, is_same}
+use Rattle.pe_base.specs.Tree.Curve.{children, order}
+use Rattle.pe_base.specs.Steps.Around.{around, steps}
+use Rattle.pe_base.specs.Steps.Faces.{Face, across, stack_of, face_on, loads, stores, arriving, leaving, in_corners, out_corners, is_touched, is_step, Turns, TurnsApart, cell_turns, touched_for, steps_to, steps_from}
 
 -- a cell of the tree
 abbrev pub IsCell : ℕ → Way → Place → Type 0

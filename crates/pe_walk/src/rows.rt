@@ -2,8 +2,8 @@
 //! load of a vertex, the cell before it around the vertex, and for each store the cell behind it.
 ghost use Rattle.std.specs.Prelude.{◌≡◌, [], ◌∷◌, map};
 ghost use Rattle.pe_base.specs.declared.way.Way.TheVariants.{Forward, Inverted};
-ghost use Rattle.pe_base.specs.Places.{at};
-ghost use Rattle.pe_base.specs.Faces.{arriving, leaving, face_on};
+ghost use Rattle.pe_base.specs.Tree.Places.{at};
+ghost use Rattle.pe_base.specs.Steps.Faces.{arriving, leaving, face_on};
 ghost use Rattle.pe_walk.specs.Grids.{regular, refined_once, everywhere, mark, on_stack};
 
 fn whole_grid_forward()

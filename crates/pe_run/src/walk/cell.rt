@@ -1,9 +1,9 @@
 // The walk of one cell.
 ghost use Rattle.std.specs.Prelude.{◌≡◌, ℕ, ◌+◌, ◌-◌, ◌<◌, ◌≤◌, ◌^◌, [], ◌∷◌, ◌++◌, count_by, max, Err, OnOk, OnErr};
 ghost use Rattle.pe_base.specs.declared.event.Event.TheVariants.{CreateCell, EnterCell, LeaveCell};
-ghost use Rattle.pe_base.specs.Places.{IsCellPlace};
-ghost use Rattle.pe_base.specs.Ways.{way_of};
-ghost use Rattle.pe_base.specs.Working.{fires};
+ghost use Rattle.pe_base.specs.Tree.Places.{IsCellPlace};
+ghost use Rattle.pe_base.specs.Tree.Ways.{way_of};
+ghost use Rattle.pe_base.specs.LevelOne.Working.{fires};
 ghost use Rattle.pe_stacks.specs.Holdings.{stack_count, len_at, CountsWithin};
 ghost use Rattle.pe_access.specs.States.{StandsFor};
 ghost use Rattle.pe_io.specs.Counts.{Rises};

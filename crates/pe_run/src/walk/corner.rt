@@ -3,10 +3,10 @@ ghost use Rattle.std.specs.Prelude.{◌≡◌, ℕ, ◌+◌, ◌-◌, ◌<◌, �
 ghost use Rattle.pe_base.specs.declared.place.Place.{Place as APlace};
 ghost use Rattle.pe_base.specs.declared.event.Event.TheVariants.{TouchVertexFirstTime, TouchVertexLastTime, CreateInnerVertex, CreateHangingVertex, DestroyHangingVertex};
 ghost use Rattle.pe_base.specs.declared.state.State.TheVariants.{Unrefined};
-ghost use Rattle.pe_base.specs.Payloads.{zeros};
-ghost use Rattle.pe_base.specs.Places.{IsCellPlace, corner, root};
-ghost use Rattle.pe_base.specs.Ways.{way_of};
-ghost use Rattle.pe_base.specs.Working.{fires};
+ghost use Rattle.pe_base.specs.Acts.Payloads.{zeros};
+ghost use Rattle.pe_base.specs.Tree.Places.{IsCellPlace, corner, root};
+ghost use Rattle.pe_base.specs.Tree.Ways.{way_of};
+ghost use Rattle.pe_base.specs.LevelOne.Working.{fires};
 ghost use Rattle.pe_stacks.specs.Holdings.{stack_count, len_at, CountsWithin};
 ghost use Rattle.pe_access.specs.States.{StandsFor};
 ghost use Rattle.pe_io.specs.Counts.{Rises};

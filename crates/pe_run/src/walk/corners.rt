@@ -1,9 +1,9 @@
 // The corners of a cell, loaded and stored.
 ghost use Rattle.std.specs.Prelude.{◌≡◌, ℕ, ◌+◌, ◌-◌, ◌<◌, ◌≤◌, ◌^◌, count_by, reverse, replicate, Err, OnOk, OnErr, IfOk};
 ghost use Rattle.std.specs.List.{flat_map, range_with_len};
-ghost use Rattle.pe_base.specs.Dim.{IsDim};
-ghost use Rattle.pe_base.specs.Places.{IsCellPlace, corner};
-ghost use Rattle.pe_base.specs.Ways.{way_of};
+ghost use Rattle.pe_base.specs.Tree.Dim.{IsDim};
+ghost use Rattle.pe_base.specs.Tree.Places.{IsCellPlace, corner};
+ghost use Rattle.pe_base.specs.Tree.Ways.{way_of};
 ghost use Rattle.pe_stacks.specs.Holdings.{stack_count, len_at, CountsWithin};
 ghost use Rattle.pe_access.specs.States.{StandsFor};
 ghost use Rattle.pe_io.specs.Counts.{Rises};

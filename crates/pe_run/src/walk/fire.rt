@@ -2,8 +2,8 @@
 ghost use Rattle.std.specs.Prelude.{◌≡◌, ◌≤◌, [], ◌∷◌, ◌++◌, OnOk, OnErr};
 ghost use Rattle.pe_base.specs.declared.place.Place.{Place as APlace};
 ghost use Rattle.pe_base.specs.Lines.{plain_line, place_line};
-ghost use Rattle.pe_base.specs.Working.{fires};
-ghost use Rattle.pe_base.specs.Traces.{trace_line};
+ghost use Rattle.pe_base.specs.LevelOne.Working.{fires};
+ghost use Rattle.pe_base.specs.LevelOne.Traces.{trace_line};
 ghost use Rattle.pe_run.specs.Walked.{fired};
 ghost use Rattle.pe_io.specs.Counts.{Rises};
 ghost use Rattle.pe_io.specs.Sink.{Appends, AppendsPrefix};

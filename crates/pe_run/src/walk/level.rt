@@ -2,9 +2,9 @@
 ghost use Rattle.std.specs.Prelude.{max, ◌≡◌, ℕ, ◌+◌, ◌-◌, ◌*◌, ◌<◌, ◌≤◌, ◌^◌, count_by, Err, OnOk, OnErr};
 ghost use Rattle.std.specs.List.{flat_map};
 ghost use Rattle.pe_base.specs.declared.event.Event.TheVariants.{BeginIteration, EndIteration};
-ghost use Rattle.pe_base.specs.Places.{root};
-ghost use Rattle.pe_base.specs.Curve.{children};
-ghost use Rattle.pe_base.specs.Ways.{way_of};
+ghost use Rattle.pe_base.specs.Tree.Places.{root};
+ghost use Rattle.pe_base.specs.Tree.Curve.{children};
+ghost use Rattle.pe_base.specs.Tree.Ways.{way_of};
 ghost use Rattle.pe_stacks.specs.Holdings.{stack_count, len_at, lent, new_holdings, CountsWithin};
 ghost use Rattle.pe_io.specs.Counts.{Rises};
 ghost use Rattle.pe_io.specs.Sink.{Appends, AppendsPrefix};
@@ -12,7 +12,7 @@ ghost use Rattle.pe_run.specs.LevelOne.{cell_firings, traversal_firings};
 ghost use Rattle.pe_run.specs.Traffic.{is_pop_from, DoesAll, Abandons};
 ghost use Rattle.pe_run.specs.Flows.{Flows};
 ghost use Rattle.pe_run.specs.Ready.{Ready};
-ghost use Rattle.pe_base.specs.Dim.{IsDim};
+ghost use Rattle.pe_base.specs.Tree.Dim.{IsDim};
 ghost use Rattle.pe_run.specs.Walked.{fired, vertex_ops, traversal_vertex_ops, traversal_cell_ops, traversal_text, scenario_text, vertex_traffic, cell_traffic};
 
 use crate::scenario::Scenario;

@@ -1,7 +1,7 @@
 // What is done with one record.
 ghost use Rattle.std.specs.Prelude.{◌≡◌, ◌≢◌, ◌-◌, ◌<◌, ◌≤◌, ◌^◌, [], ◌∷◌, Err, OnOk, OnErr};
 ghost use Rattle.pe_base.specs.declared.place.Place.{Place as APlace};
-ghost use Rattle.pe_base.specs.Working.{fires};
+ghost use Rattle.pe_base.specs.LevelOne.Working.{fires};
 ghost use Rattle.pe_stacks.specs.Holdings.{stack_count, given_up, CountsWithin};
 ghost use Rattle.pe_io.specs.Counts.{Rises};
 ghost use Rattle.pe_io.specs.Sink.{Appends, AppendsPrefix};

@@ -1,9 +1,9 @@
 // By which stack a corner comes, and by which it goes.
 ghost use Rattle.std.specs.Prelude.{◌≡◌, ◌<◌, ◌^◌, true};
 ghost use Rattle.pe_base.specs.declared.place.Place.{Place as APlace};
-ghost use Rattle.pe_base.specs.Places.{IsCellPlace, corner};
-ghost use Rattle.pe_base.specs.Kinds.{is_inside};
-ghost use Rattle.pe_base.specs.Ways.{way_of};
+ghost use Rattle.pe_base.specs.Tree.Places.{IsCellPlace, corner};
+ghost use Rattle.pe_base.specs.Life.Kinds.{is_inside};
+ghost use Rattle.pe_base.specs.Tree.Ways.{way_of};
 ghost use Rattle.pe_access.specs.States.{StandsFor, axes_of};
 ghost use Rattle.pe_run.specs.Walked.{ComesBy, GoesBy};
 ghost use Rattle.pe_run.specs.declared.walk.traversal.Traversal.{Traversal as ATraversal};

@@ -1,6 +1,6 @@
 // What a traversal has counted, by the counts of the depots.
 ghost use Rattle.std.specs.Prelude.{◌≡◌, ◌+◌, ◌-◌, ◌≤◌, [], ◌∷◌, ◌++◌, length, decimal, OnOk, OnErr};
-ghost use Rattle.pe_base.specs.Traces.{tally_line, way_name};
+ghost use Rattle.pe_base.specs.LevelOne.Traces.{tally_line, way_name};
 ghost use Rattle.pe_stacks.specs.Holdings.{stack_count};
 ghost use Rattle.pe_io.specs.Counts.{Rises};
 ghost use Rattle.pe_io.specs.Sink.{Appends, AppendsPrefix};

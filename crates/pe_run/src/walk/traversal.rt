@@ -1,5 +1,5 @@
 ghost use Rattle.std.specs.Prelude.{◌≡◌};
-ghost use Rattle.pe_base.specs.Ways.{way_of};
+ghost use Rattle.pe_base.specs.Tree.Ways.{way_of};
 ghost use Rattle.pe_run.specs.Walked.{input_of, output_of, cell_input_of, cell_output_of};
 
 use crate::trace::Trace;

@@ -1,10 +1,10 @@
 //! The cells of a level, and those around a vertex.
 ghost use Rattle.std.specs.Prelude.{◌≡◌, IfOk, [], ◌∷◌, ◌&&◌};
 ghost use Rattle.std.specs.List.{flat_map, list_any};
-ghost use Rattle.pe_base.specs.Places.{IsCellPlace, is_same};
-ghost use Rattle.pe_base.specs.Curve.{children, order};
-ghost use Rattle.pe_base.specs.Around.{is_corner_pos, is_corner, around, steps};
-ghost use Rattle.pe_base.specs.Faces.{is_step};
+ghost use Rattle.pe_base.specs.Tree.Places.{IsCellPlace, is_same};
+ghost use Rattle.pe_base.specs.Tree.Curve.{children, order};
+ghost use Rattle.pe_base.specs.Steps.Around.{is_corner_pos, is_corner, around, steps};
+ghost use Rattle.pe_base.specs.Steps.Faces.{is_step};
 
 use super::setting::Setting;
 use pe_base::{Dim, Place};

@@ -1,7 +1,7 @@
 //! The corners of a cell, and the loads and stores of its walk.
 ghost use Rattle.std.specs.Prelude.{◌≡◌, ◌+◌, ◌/◌, ◌%◌, ◌<◌, IfOk};
-ghost use Rattle.pe_base.specs.Places.{bits, moved, corner};
-ghost use Rattle.pe_base.specs.Faces.{corner_touches, loads, stores};
+ghost use Rattle.pe_base.specs.Tree.Places.{bits, moved, corner};
+ghost use Rattle.pe_base.specs.Steps.Faces.{corner_touches, loads, stores};
 
 use super::cells::children;
 use super::setting::Setting;
@@ -17,7 +17,7 @@ pub(super) struct Touch {
 }
 
 impl Model for Touch {
-    ghost use Rattle.pe_base.specs.Faces.{Touch as ATouch};
+    ghost use Rattle.pe_base.specs.Steps.Faces.{Touch as ATouch};
 
     ghost Value = { ATouch };
 

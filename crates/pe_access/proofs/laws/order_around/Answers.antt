@@ -1,6 +1,6 @@
 -- The laws are those of the walk around a point.
-use Rattle.pe_base.proofs.RouteLaws.{steps-share}
-use Rattle.pe_base.proofs.SlowerLaws.{length-around, crossings-count}
+use Rattle.pe_base.proofs.Steps.RouteLaws.{steps-share}
+use Rattle.pe_base.proofs.Steps.SlowerLaws.{length-around, crossings-count}
 use Rattle.pe_access.proofs.laws.order_around.Goals as goal
 
 pub returns-clause-count : goal.returns-clause-count

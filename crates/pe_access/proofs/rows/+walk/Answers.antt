@@ -1,6 +1,6 @@
 -- What is left to come are digits of children.
 use Rattle.std.proofs.lemmas.List.Elements.{All-rest}
-use Rattle.pe_base.specs.Places.{IsDigits}
+use Rattle.pe_base.specs.Tree.Places.{IsDigits}
 use Rattle.pe_access.proofs.rows.+walk.Goals as goal
 
 pub loop-digits-preserved : goal.loop-digits-preserved

@@ -1,6 +1,6 @@
 -- The levels that are left get fewer, and all that is still to come are digits of children.
 use Rattle.std.specs.Prelude.{All}
-use Rattle.pe_base.specs.Places.{IsDigits}
+use Rattle.pe_base.specs.Tree.Places.{IsDigits}
 use Rattle.pe_access.proofs.rows.+walk.Given as goal
 
 abbrev pub decreases-walk : goal.decreases-walk

@@ -3,10 +3,10 @@ use Rattle.std.proofs.Common.{ℕ, List, Some, ap, sym, subst, ◌∙◌, arith}
 use Rattle.std.specs.Prelude.{slice_get}
 use Rattle.std.specs.Option.{option_map}
 use Rattle.pe_base.specs.declared.place.Place.{Place}
-use Rattle.pe_base.specs.Places.{IsCellPlace, child_at}
-use Rattle.pe_base.specs.Curve.{child_digits}
-use Rattle.pe_base.proofs.PlaceLaws.{cell_coordinate_below, IsCellPlace-child_at}
-use Rattle.pe_base.proofs.CurveLaws.{slice_get-children}
+use Rattle.pe_base.specs.Tree.Places.{IsCellPlace, child_at}
+use Rattle.pe_base.specs.Tree.Curve.{child_digits}
+use Rattle.pe_base.proofs.Tree.PlaceLaws.{cell_coordinate_below, IsCellPlace-child_at}
+use Rattle.pe_base.proofs.Tree.CurveLaws.{slice_get-children}
 use Rattle.pe_curve.proofs.children.child.Goals as goal
 
 pub child_at-requires-clause-pos : goal.child_at-requires-clause-pos

@@ -1,9 +1,9 @@
 -- Each bit is the flip of its axis.
 use Rattle.std.proofs.Common.{◌≡◌, ℕ, ◌+◌, ◌*◌, ◌/◌, ◌%◌, ◌^◌, List, length, ap, sym, ◌∙◌, arith}
 use Rattle.std.specs.Prelude.{slice_index}
-use Rattle.pe_base.specs.Curve.{flip}
-use Rattle.pe_base.proofs.PlaceLaws.{four}
-use Rattle.pe_base.proofs.CurveLaws.{bits-flips}
+use Rattle.pe_base.specs.Tree.Curve.{flip}
+use Rattle.pe_base.proofs.Tree.PlaceLaws.{four}
+use Rattle.pe_base.proofs.Tree.CurveLaws.{bits-flips}
 use Rattle.pe_curve.proofs.Steps.{flip-bit}
 use Rattle.pe_curve.proofs.children.flips_at.Goals as goal
 

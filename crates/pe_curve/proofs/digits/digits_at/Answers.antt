@@ -3,9 +3,9 @@ use Rattle.std.proofs.Common.{ℕ, ◌-◌, sym, ap, ◌∙◌}
 use Rattle.std.specs.Prelude.{slice_get}
 use Rattle.pe_base.specs.declared.way.Way.{Way}
 use Rattle.pe_base.specs.declared.way.Way.TheVariants.{Forward}
-use Rattle.pe_base.specs.Places.{bits}
-use Rattle.pe_base.specs.Curve.{child_digits}
-use Rattle.pe_base.proofs.CurveLaws.{slice_get-inverted}
+use Rattle.pe_base.specs.Tree.Places.{bits}
+use Rattle.pe_base.specs.Tree.Curve.{child_digits}
+use Rattle.pe_base.proofs.Tree.CurveLaws.{slice_get-inverted}
 use Rattle.pe_curve.proofs.digits.digits_at.Goals as goal
 
 pub returns-in-Inverted-clause-child : goal.returns-in-Inverted-clause-child

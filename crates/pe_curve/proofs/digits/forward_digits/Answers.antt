@@ -2,10 +2,10 @@
 use Rattle.std.proofs.Common.{◌≡◌, ℕ, ◌/◌, ◌<◌, List, Some, length, sym, ap, ◌∙◌, subst, arith}
 use Rattle.std.proofs.lemmas.List.{length-set}
 use Rattle.pe_base.specs.declared.way.Way.TheVariants.{Forward}
-use Rattle.pe_base.specs.Places.{bits, IsPosition, padded}
-use Rattle.pe_base.specs.Curve.{turned}
-use Rattle.pe_base.proofs.PlaceLaws.{length-bits}
-use Rattle.pe_base.proofs.CurveLaws.{ternary, length-ternary, length-turned, slice_get-child_digits, IsDigits-turned}
+use Rattle.pe_base.specs.Tree.Places.{bits, IsPosition, padded}
+use Rattle.pe_base.specs.Tree.Curve.{turned}
+use Rattle.pe_base.proofs.Tree.PlaceLaws.{length-bits}
+use Rattle.pe_base.proofs.Tree.CurveLaws.{ternary, length-ternary, length-turned, slice_get-child_digits, IsDigits-turned}
 use Rattle.pe_curve.proofs.Steps.{third, digit_below, rest_below, whole_more, whole_all, zeros_more}
 use Rattle.pe_curve.proofs.digits.forward_digits.Goals as goal
 

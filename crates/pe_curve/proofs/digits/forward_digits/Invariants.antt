@@ -1,9 +1,9 @@
 -- What is done and what is left make up the whole list of turned digits.
 use Rattle.std.proofs.Common.{◌≡◌, ◌<◌, ◌^◌, ◌-◌, ◌*◌, ◌≤◌, ◌++◌, take, drop, length}
 use Rattle.std.specs.Prelude.{replicate}
-use Rattle.pe_base.specs.Places.{bits}
-use Rattle.pe_base.specs.Curve.{turned}
-use Rattle.pe_base.proofs.CurveLaws.{ternary}
+use Rattle.pe_base.specs.Tree.Places.{bits}
+use Rattle.pe_base.specs.Tree.Curve.{turned}
+use Rattle.pe_base.proofs.Tree.CurveLaws.{ternary}
 use Rattle.pe_curve.proofs.digits.forward_digits.Given as goal
 
 abbrev pub invariant-loop-axis : goal.invariant-loop-axis

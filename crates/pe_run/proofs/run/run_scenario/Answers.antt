@@ -1,5 +1,5 @@
 use Rattle.std.proofs.Common.{Ok, codes}
-use Rattle.pe_base.specs.Traces.{traversals_text}
+use Rattle.pe_base.specs.LevelOne.Traces.{traversals_text}
 use Rattle.pe_io.proofs.Appending.{AppendsPrefix-more, AppendsPrefix-then}
 use Rattle.pe_run.specs.Trace.{traces}
 use Rattle.pe_run.specs.Scene.{scene_view}

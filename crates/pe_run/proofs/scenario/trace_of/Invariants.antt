@@ -1,7 +1,7 @@
 use Rattle.std.proofs.Common.{◌≡◌, List, [], drop}
 use Rattle.toml.specs.View.{items_view}
 use Rattle.pe_base.specs.declared.event.Event.{Event}
-use Rattle.pe_base.specs.Events.{is_among}
+use Rattle.pe_base.specs.Acts.Events.{is_among}
 use Rattle.pe_run.specs.Trace.{traces}
 use Rattle.pe_run.specs.Scenario.{events_after}
 use Rattle.pe_run.proofs.scenario.trace_of.Given as goal

@@ -2,10 +2,10 @@
 use Rattle.std.proofs.Common.{◌≡◌, ℕ, ◌+◌, List, length, sym, ap, ◌∙◌, subst, arith}
 use Rattle.std.specs.Prelude.{sum}
 use Rattle.pe_base.specs.declared.way.Way.{Way}
-use Rattle.pe_base.specs.Places.{IsDigits, child_at}
-use Rattle.pe_base.specs.Routes.{way_turns}
-use Rattle.pe_base.proofs.PlaceLaws.{IsPosition-below}
-use Rattle.pe_base.proofs.RouteLaws.{Below}
+use Rattle.pe_base.specs.Tree.Places.{IsDigits, child_at}
+use Rattle.pe_base.specs.Steps.Routes.{way_turns}
+use Rattle.pe_base.proofs.Tree.PlaceLaws.{IsPosition-below}
+use Rattle.pe_base.proofs.Steps.RouteLaws.{Below}
 use Rattle.pe_access.specs.declared.line.Line.{Line}
 use Rattle.pe_access.specs.States.{HoldsCell, odd_count}
 use Rattle.pe_access.proofs.LineLaws.{Below-all, descends, lines_at}

@@ -1,9 +1,9 @@
 -- Each bit is the flip of its axis.
 use Rattle.std.proofs.Common.{◌≡◌, ℕ, ◌+◌, ◌*◌, ◌/◌, ◌%◌, ◌^◌, List, length, sym, ap, ◌∙◌, arith}
 use Rattle.std.specs.Prelude.{slice_index}
-use Rattle.pe_base.specs.Curve.{flip}
-use Rattle.pe_base.proofs.PlaceLaws.{four}
-use Rattle.pe_base.proofs.CurveLaws.{bits-flips}
+use Rattle.pe_base.specs.Tree.Curve.{flip}
+use Rattle.pe_base.proofs.Tree.PlaceLaws.{four}
+use Rattle.pe_base.proofs.Tree.CurveLaws.{bits-flips}
 use Rattle.pe_access.proofs.LineLaws.{flip-at, odd-at}
 use Rattle.pe_access.proofs.StateLaws.{odd-lines}
 use Rattle.pe_access.proofs.state.CellState.flips.Goals as goal

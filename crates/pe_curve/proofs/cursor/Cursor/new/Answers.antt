@@ -2,10 +2,10 @@
 use Rattle.std.proofs.Common.{◌≡◌, ℕ, ◌-◌, ◌^◌, List, length, drop, ap, sym, subst, ◌∙◌, arith}
 use Rattle.std.specs.Prelude.{All}
 use Rattle.pe_base.specs.declared.place.Digits.{Digits}
-use Rattle.pe_base.specs.Places.{IsDigits, bits}
-use Rattle.pe_base.specs.Curve.{child_digits}
-use Rattle.pe_base.proofs.PlaceLaws.{length-bits}
-use Rattle.pe_base.proofs.CurveLaws.{length-child_digits, IsDigits-child_digits}
+use Rattle.pe_base.specs.Tree.Places.{IsDigits, bits}
+use Rattle.pe_base.specs.Tree.Curve.{child_digits}
+use Rattle.pe_base.proofs.Tree.PlaceLaws.{length-bits}
+use Rattle.pe_base.proofs.Tree.CurveLaws.{length-child_digits, IsDigits-child_digits}
 use Rattle.pe_curve.proofs.cursor.Cursor.new.Goals as goal
 
 whole : (c : goal.After-parts) → drop (3 ^ c.args.dim - c.parts.result) (child_digits c.args.dim c.args.way (bits c.args.dim c.args.flips)) ≡ child_digits c.args.dim c.args.way (bits c.args.dim c.args.flips)

@@ -2,9 +2,9 @@
 use Rattle.std.proofs.Common.{◌≡◌, ℕ, [], ◌∷◌, ◌+◌, ◌-◌, ◌^◌, ◌≤◌, length, drop, Some, ap, sym, ◌∙◌, arith}
 use Rattle.std.specs.Prelude.{slice_get}
 use Rattle.std.proofs.lemmas.List.{drop_all}
-use Rattle.pe_base.specs.Places.{bits}
-use Rattle.pe_base.specs.Curve.{child_digits}
-use Rattle.pe_base.proofs.CurveLaws.{length-child_digits}
+use Rattle.pe_base.specs.Tree.Places.{bits}
+use Rattle.pe_base.specs.Tree.Curve.{child_digits}
+use Rattle.pe_base.proofs.Tree.CurveLaws.{length-child_digits}
 use Rattle.pe_curve.proofs.Steps.{drop-slice_get}
 use Rattle.pe_curve.proofs.cursor.CursorIterator.next.Goals as goal
 

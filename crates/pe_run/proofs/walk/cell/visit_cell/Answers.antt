@@ -1,6 +1,6 @@
 use Rattle.std.proofs.Common.{[], ◌∷◌}
 use Rattle.pe_base.specs.declared.event.Event.TheVariants.{EnterCell, LeaveCell}
-use Rattle.pe_base.specs.Working.{fires}
+use Rattle.pe_base.specs.LevelOne.Working.{fires}
 use Rattle.pe_io.proofs.Appending.{OnErr-given}
 use Rattle.pe_run.specs.LevelOne.{birth_firings}
 use Rattle.pe_run.proofs.FiredTexts.{fired_then, fired_then_part, fired_part, AppendsPrefix-all, OnOk-given}

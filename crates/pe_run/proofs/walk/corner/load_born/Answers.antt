@@ -1,7 +1,7 @@
 use Rattle.std.proofs.Common.{[], ◌∷◌}
 use Rattle.std.proofs.lemmas.Result.{on_ok_weaker, on_err_weaker}
 use Rattle.pe_base.specs.declared.event.Event.TheVariants.{TouchVertexFirstTime, CreateInnerVertex}
-use Rattle.pe_base.specs.Working.{fires}
+use Rattle.pe_base.specs.LevelOne.Working.{fires}
 use Rattle.pe_io.proofs.Appending.{OnErr-given}
 use Rattle.pe_run.proofs.FiredTexts.{fired_then, fired_then_part, fired_part}
 use Rattle.pe_run.proofs.walk.corner.load_born.Goals as goal

@@ -1,6 +1,6 @@
 use Rattle.std.proofs.Common.{[], ◌∷◌}
 use Rattle.pe_base.specs.declared.event.Event.TheVariants.{TouchVertexLastTime}
-use Rattle.pe_base.specs.Working.{fires}
+use Rattle.pe_base.specs.LevelOne.Working.{fires}
 use Rattle.pe_io.proofs.Appending.{OnErr-given}
 use Rattle.pe_run.proofs.FiredTexts.{AppendsPrefix-all}
 use Rattle.pe_run.specs.Walked.{fired}

@@ -1,6 +1,6 @@
 use Rattle.std.proofs.Common.{◌≡◌, ◌+◌, ◌*◌, ◌≤◌, ◌∷◌, ◌++◌, length, take, map, decimal}
 use Rattle.std.specs.List.{flat_map}
-use Rattle.pe_base.specs.Events.{name_of}
+use Rattle.pe_base.specs.Acts.Events.{name_of}
 use Rattle.pe_run.proofs.walk.fire.place_words.Given as goal
 
 -- the name, the level, and the position on the axes so far

@@ -2,9 +2,9 @@ use Rattle.std.proofs.Common.{◌≡◌, ℕ, ◌+◌, ◌^◌, ◌≤◌, List,
 use Rattle.std.specs.List.{flat_map}
 use Rattle.std.specs.Prelude.{All}
 use Rattle.pe_base.specs.declared.place.Place.{Place}
-use Rattle.pe_base.specs.Places.{IsDigits, child_at, root}
-use Rattle.pe_base.specs.Curve.{children}
-use Rattle.pe_base.specs.Ways.{way_of}
+use Rattle.pe_base.specs.Tree.Places.{IsDigits, child_at, root}
+use Rattle.pe_base.specs.Tree.Curve.{children}
+use Rattle.pe_base.specs.Tree.Ways.{way_of}
 use Rattle.pe_stacks.specs.Holdings.{len_at}
 use Rattle.pe_io.specs.Sink.{Appends}
 use Rattle.pe_run.specs.LevelOne.{cell_firings}

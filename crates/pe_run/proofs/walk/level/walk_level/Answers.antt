@@ -2,9 +2,9 @@ use Rattle.std.proofs.Common.{◌≡◌, ◌-◌, ◌^◌, ◌≤◌, ◌++◌, 
 use Rattle.std.specs.List.{flat_map}
 use Rattle.std.proofs.lemmas.List.{length-replicate}
 use Rattle.std.proofs.lemmas.Result.{on_ok_weaker, on_err_weaker}
-use Rattle.pe_base.specs.Places.{root}
-use Rattle.pe_base.specs.Curve.{children}
-use Rattle.pe_base.specs.Ways.{way_of}
+use Rattle.pe_base.specs.Tree.Places.{root}
+use Rattle.pe_base.specs.Tree.Curve.{children}
+use Rattle.pe_base.specs.Tree.Ways.{way_of}
 use Rattle.pe_stacks.specs.Holdings.{len_at}
 use Rattle.pe_stacks.proofs.CornerPlaces.{corners_range}
 use Rattle.pe_run.specs.Traffic.{lends, gives_up, is_pop_from, is_push_on, takes_out, DoesAll}

@@ -1,10 +1,10 @@
 use Rattle.std.proofs.Common.{[], ◌∷◌, ◌++◌, arith}
 use Rattle.std.specs.List.{flat_map}
 use Rattle.pe_base.specs.declared.event.Event.TheVariants.{BeginIteration, EndIteration}
-use Rattle.pe_base.specs.Places.{root}
-use Rattle.pe_base.specs.Curve.{children}
-use Rattle.pe_base.specs.Ways.{way_of}
-use Rattle.pe_base.specs.Working.{fires}
+use Rattle.pe_base.specs.Tree.Places.{root}
+use Rattle.pe_base.specs.Tree.Curve.{children}
+use Rattle.pe_base.specs.Tree.Ways.{way_of}
+use Rattle.pe_base.specs.LevelOne.Working.{fires}
 use Rattle.pe_io.proofs.Appending.{OnErr-given}
 use Rattle.pe_run.specs.LevelOne.{cell_firings}
 use Rattle.pe_run.specs.Walked.{vertex_ops, traversal_cell_ops}

@@ -1,5 +1,5 @@
 use Rattle.std.proofs.Common.{sym, ap, ◌∙◌}
-use Rattle.pe_base.specs.Ways.{way_of}
+use Rattle.pe_base.specs.Tree.Ways.{way_of}
 use Rattle.pe_run.specs.Walked.{stacks_of, is_stream, stacks_from}
 use Rattle.pe_run.proofs.Routed.{goes_routed, inside_corner}
 use Rattle.pe_run.proofs.walk.route.goes_by.Goals as goal

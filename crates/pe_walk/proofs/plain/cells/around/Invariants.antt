@@ -1,6 +1,6 @@
 -- The cells around the vertex so far are there.
 use Rattle.std.proofs.Common.{◌≡◌, take, filter}
-use Rattle.pe_base.specs.Around.{is_corner}
+use Rattle.pe_base.specs.Steps.Around.{is_corner}
 use Rattle.pe_walk.proofs.plain.cells.around.Given as goal
 
 abbrev pub invariant-loop-cell : goal.invariant-loop-cell

@@ -1,6 +1,6 @@
 -- The first children are there.
 use Rattle.std.proofs.Common.{◌≡◌, take}
-use Rattle.pe_base.specs.Curve.{children}
+use Rattle.pe_base.specs.Tree.Curve.{children}
 use Rattle.pe_walk.proofs.plain.cells.children.Given as goal
 
 abbrev pub invariant-loop-n : goal.invariant-loop-n

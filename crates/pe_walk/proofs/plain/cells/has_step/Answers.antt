@@ -2,8 +2,8 @@
 use Rattle.std.proofs.Common.{◌≡◌, ℕ, suc, ◌-◌, ◌+◌, ◌≤◌, Bool, ◌&&◌, ◌||◌, [], List, drop, length, ap, ◌∙◌, sym, arith}
 use Rattle.std.specs.List.{list_any}
 use Rattle.pe_base.specs.declared.place.Place.{Place}
-use Rattle.pe_base.specs.Around.{steps}
-use Rattle.pe_base.specs.Places.{is_same}
+use Rattle.pe_base.specs.Steps.Around.{steps}
+use Rattle.pe_base.specs.Tree.Places.{is_same}
 use Rattle.pe_walk.proofs.Computed.{any_step, any_last}
 use Rattle.pe_walk.proofs.plain.cells.has_step.Goals as goal
 

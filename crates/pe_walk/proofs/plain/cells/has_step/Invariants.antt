@@ -1,8 +1,8 @@
 -- No step so far is the one, so it is among those that are left, if there is one.
 use Rattle.std.proofs.Common.{◌≡◌, ◌-◌, ◌&&◌, drop}
 use Rattle.std.specs.List.{list_any}
-use Rattle.pe_base.specs.Around.{steps}
-use Rattle.pe_base.specs.Places.{is_same}
+use Rattle.pe_base.specs.Steps.Around.{steps}
+use Rattle.pe_base.specs.Tree.Places.{is_same}
 use Rattle.pe_walk.proofs.plain.cells.has_step.Given as goal
 
 abbrev pub invariant-loop-i : goal.invariant-loop-i

@@ -1,6 +1,6 @@
 -- The cells are those of a level above.
 use Rattle.std.proofs.Common.{◌≡◌}
-use Rattle.pe_base.specs.Curve.{order}
+use Rattle.pe_base.specs.Tree.Curve.{order}
 use Rattle.pe_walk.proofs.plain.cells.order.Given as goal
 
 abbrev pub invariant-loop-depth : goal.invariant-loop-depth

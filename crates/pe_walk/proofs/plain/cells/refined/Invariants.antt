@@ -1,7 +1,7 @@
 -- The children of the first cells are there.
 use Rattle.std.proofs.Common.{◌≡◌, take}
 use Rattle.std.specs.List.{flat_map}
-use Rattle.pe_base.specs.Curve.{children}
+use Rattle.pe_base.specs.Tree.Curve.{children}
 use Rattle.pe_walk.proofs.plain.cells.refined.Given as goal
 
 abbrev pub invariant-loop-cell : goal.invariant-loop-cell

@@ -1,6 +1,6 @@
 -- Of the last stores, those at the face are there.
 use Rattle.std.proofs.Common.{◌≡◌, take}
-use Rattle.pe_base.specs.Faces.{at_face, goes_across}
+use Rattle.pe_base.specs.Steps.Faces.{at_face, goes_across}
 use Rattle.pe_walk.proofs.plain.lists.leaving.Given as goal
 
 abbrev pub invariant-loop-touch : goal.invariant-loop-touch

@@ -3,7 +3,7 @@ use Rattle.std.proofs.Common.{◌-◌, ◌<◌, List, ◌++◌, reverse, ap, ◌
 use Rattle.std.specs.List.{flat_map}
 use Rattle.std.proofs.lemmas.List.{take_all}
 use Rattle.pe_base.specs.declared.place.Place.{Place}
-use Rattle.pe_base.specs.Faces.{corner_touches, loads}
+use Rattle.pe_base.specs.Steps.Faces.{corner_touches, loads}
 use Rattle.pe_walk.proofs.Computed.{loads_more}
 use Rattle.pe_walk.proofs.plain.touches.+loads.Goals as goal
 

@@ -1,7 +1,7 @@
 -- The cell's own loads and those of its first children are there.
 use Rattle.std.proofs.Common.{◌≡◌, ◌-◌, ◌++◌, take, reverse}
 use Rattle.std.specs.List.{flat_map}
-use Rattle.pe_base.specs.Faces.{corner_touches, loads}
+use Rattle.pe_base.specs.Steps.Faces.{corner_touches, loads}
 use Rattle.pe_walk.proofs.plain.touches.+loads.Given as goal
 
 abbrev pub decreases-loads : goal.decreases-loads

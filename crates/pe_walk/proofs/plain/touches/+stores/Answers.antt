@@ -3,7 +3,7 @@ use Rattle.std.proofs.Common.{◌-◌, ◌<◌, List, ◌++◌, ap, ap₂, ◌�
 use Rattle.std.specs.List.{flat_map}
 use Rattle.std.proofs.lemmas.List.{take_all}
 use Rattle.pe_base.specs.declared.place.Place.{Place}
-use Rattle.pe_base.specs.Faces.{Touch, stores}
+use Rattle.pe_base.specs.Steps.Faces.{Touch, stores}
 use Rattle.pe_walk.proofs.Computed.{stores_more}
 use Rattle.pe_walk.proofs.plain.touches.+stores.Goals as goal
 

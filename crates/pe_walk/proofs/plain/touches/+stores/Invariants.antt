@@ -1,7 +1,7 @@
 -- The stores of the first children are there, and the cell's own are kept for the end.
 use Rattle.std.proofs.Common.{◌≡◌, ◌-◌, take}
 use Rattle.std.specs.List.{flat_map}
-use Rattle.pe_base.specs.Faces.{stores}
+use Rattle.pe_base.specs.Steps.Faces.{stores}
 use Rattle.pe_walk.proofs.plain.touches.+stores.Given as goal
 
 abbrev pub decreases-stores : goal.decreases-stores

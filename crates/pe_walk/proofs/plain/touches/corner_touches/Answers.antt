@@ -2,8 +2,8 @@
 use Rattle.std.proofs.Common.{ℕ, List, [], ◌∷◌, ◌++◌, ap, ap₂, ◌∙◌, sym, arith}
 use Rattle.std.proofs.lemmas.List.FromFn.{map-range_with_len_more}
 use Rattle.pe_base.specs.declared.place.Place.{Place}
-use Rattle.pe_base.specs.Places.{corner}
-use Rattle.pe_base.specs.Faces.{Touch}
+use Rattle.pe_base.specs.Tree.Places.{corner}
+use Rattle.pe_base.specs.Steps.Faces.{Touch}
 use Rattle.pe_walk.proofs.plain.touches.corner_touches.Goals as goal
 
 pub loop-k-preserved : goal.loop-k-preserved

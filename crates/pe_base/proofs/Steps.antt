@@ -1,0 +1,24 @@
+-- The order of the cells around a vertex.
+
+-- lists in which each member is entered and left across an axis
+pub mod Walks
+-- the children of a cell around a point
+pub mod Spans
+-- the cells of a level around a point
+pub mod Levels
+-- the cells around a vertex as positions on the grid's axes
+pub mod Rounds
+-- each step crosses one face
+pub mod RouteLaws
+-- the stacks of a vertex by how its cells are entered and left
+pub mod StackLaws
+-- the cells around a vertex of level 1
+pub mod InnerVertices
+-- two cells that follow each other around a vertex share a face
+pub mod Crossing
+-- how often each axis is crossed
+pub mod CrossingLaws
+-- the slower planes are those of the slower axes
+pub mod SlowerLaws
+-- the loads and stores of one vertex, and its steps
+pub mod Counts

@@ -1,0 +1,10 @@
+-- The walk of level 1 alone, by address.
+
+-- the working state
+pub mod Working
+-- what a load and a store of a vertex do
+pub mod Touches
+-- the walk of a cell and of a traversal, with what an event does as an argument
+pub mod Walk
+-- the trace lines, the tally line, and all that some traversals print
+pub mod Traces

@@ -1,0 +1,6 @@
+-- What a vertex is to a traversal, and what becomes of it.
+
+-- which states are old and which are new, and what the two triggers change
+pub mod States
+-- the four kinds
+pub mod Kinds
