@@ -12,7 +12,7 @@ use Rattle.pe_base.specs.Tree.Dim.{IsDim}
 use Rattle.pe_base.specs.Tree.Places.{root, corner, IsCellPlace, IsInside}
 use Rattle.pe_base.specs.Tree.Curve.{children, order}
 use Rattle.pe_base.specs.Steps.Faces.{steps_to, steps_from}
-use Rattle.pe_base.specs.Life.Kinds.{is_inside}
+use Rattle.pe_base.specs.LevelOne.Kinds.{is_inside}
 use Rattle.pe_base.specs.Steps.Routes.{stack_in, stack_out}
 use Rattle.pe_base.proofs.Lists.{Each, Each-In}
 use Rattle.pe_base.proofs.Tree.Ranks.{and_left, and_right, same_list}
