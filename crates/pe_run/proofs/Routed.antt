@@ -20,7 +20,7 @@ use Rattle.pe_base.proofs.Steps.InnerVertices.{corner_on_grid}
 use Rattle.pe_access.specs.declared.route.Route.{Route}
 use Rattle.pe_access.specs.States.{route_of}
 use Rattle.pe_walk.proofs.Unwalked.{contains_in}
-use Rattle.pe_walk.proofs.Steps.{zeros_behind}
+use Rattle.pe_base.proofs.Faces.Bridge.{zeros_behind}
 use Rattle.pe_walk.proofs.Trees.{place_is_cell, zeros_read}
 use Rattle.pe_run.specs.Crossed.{comes_by, goes_by}
 use Rattle.pe_run.specs.Walked.{stacks_of, is_stream}
