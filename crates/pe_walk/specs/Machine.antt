@@ -118,9 +118,10 @@ module _ {Plan : Type 0} (set : Setting Plan) (ports : Ports) where
   inside own m = record m { family = record { parents = own.corners; parent = own.cell; list = m.family.list } }
 
   abbrev pub outside : Machine → Machine → Own × Machine
-  outside outer m =
-      (record { cell = m.family.parent; corners = m.family.parents },
-      record m { family = record { parents = outer.family.parents; parent = outer.family.parent; list = m.family.list } })
+  outside outer m = (
+    record { cell = m.family.parent; corners = m.family.parents },
+    record m { family = record { parents = outer.family.parents; parent = outer.family.parent; list = m.family.list } },
+  )
 
   abbrev pub if_walked : Kind → (Own × Machine → Course (Own × Machine)) → Own × Machine → Course (Own × Machine)
   if_walked Kept walks it = walks it
