@@ -2,7 +2,7 @@
 use Rattle.std.proofs.Common.{◌≡◌, ◌≢◌, ℕ, ◌+◌, ◌*◌, ◌<◌, length, arith, ap, subst, ◌∙◌}
 use Rattle.std.proofs.lemmas.List.{length-drop}
 use Rattle.pe_stacks.specs.Holdings.{Holdings, Stack, stack_count, stack_at, len_at, pushed, popped, given_up, RaisesCounts}
-use Rattle.pe_stacks.proofs.Counts.{raises_more, raises-given_up}
+use Rattle.pe_stacks.proofs.Raising.{raises_more, raises-given_up}
 use Rattle.pe_stacks.proofs.StackAt.{stack_at-pushed, stack_at-pushed_other, stack_at-popped, stack_at-popped_other}
 
 module _ {X : Type 0} where
