@@ -1,5 +1,7 @@
 -- The walk of level 1 alone, by address.
 
+-- what a vertex of level 1 is to a traversal
+pub mod Kinds
 -- the working state
 pub mod Working
 -- what a load and a store of a vertex do

@@ -10,5 +10,7 @@ pub mod Life
 pub mod Acts
 -- all that is printed: trace lines, the tally, the last line, refusals
 pub mod Lines
+-- the walk by address
+pub mod Walk
 -- the walk of level 1 alone
 pub mod LevelOne

@@ -16,6 +16,8 @@ mod state;
 mod stop;
 mod tally;
 mod text;
+#[cfg(test)]
+mod walk_rows;
 mod way;
 
 pub use dim::Dim;

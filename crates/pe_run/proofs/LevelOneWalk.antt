@@ -13,7 +13,7 @@ use Rattle.pe_base.specs.Tree.Ways.{way_of}
 use Rattle.pe_base.specs.Tree.Curve.{children, order}
 use Rattle.pe_base.specs.Steps.Around.{is_corner, around}
 use Rattle.pe_base.specs.Steps.Faces.{Touch, corner_touches, touched_for}
-use Rattle.pe_base.specs.Life.Kinds.{is_inside}
+use Rattle.pe_base.specs.LevelOne.Kinds.{is_inside}
 use Rattle.pe_base.specs.LevelOne.Working.{World, Firing, fires}
 use Rattle.pe_base.specs.LevelOne.Walk.{each, begun, nothing_stored, counted, load_corner, store_corner, birth, walk_cell, traverse}
 use Rattle.pe_base.specs.LevelOne.Traces.{prints, trace_text, traversed, traversals_text}

@@ -5,7 +5,7 @@ use Rattle.pe_base.specs.declared.place.Place.{Place}
 use Rattle.pe_base.specs.Tree.Places.{root, corner}
 use Rattle.pe_base.specs.Tree.Ways.{way_of}
 use Rattle.pe_base.specs.Tree.Curve.{children}
-use Rattle.pe_base.specs.Life.Kinds.{is_inside}
+use Rattle.pe_base.specs.LevelOne.Kinds.{is_inside}
 use Rattle.pe_base.specs.Steps.Faces.{Face, face_on, across, is_on, is_step}
 use Rattle.pe_base.specs.LevelOne.Working.{Firing}
 use Rattle.pe_base.specs.LevelOne.Traces.{trace_text}

@@ -10,3 +10,5 @@ pub mod Stacks
 -- # The corners of a cell
 -- lists of slots of which only the first ones are seen
 pub mod CornerSlots
+-- a cell with a vertex in every slot
+pub mod FullCorners

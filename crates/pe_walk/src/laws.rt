@@ -6,10 +6,11 @@
 //! `neighbours_agree` is why, and says besides what one cell finds of another. `beneath_untouched` carries the values of
 //! all that waits beneath over each part of the walk, since no part touches what waits beneath its own lists.
 //! `steps` says that a load finds its vertex among the corners of just one face, or is its first, and likewise a store;
-//! `counts` turns loads and stores into pops and pushes, vertex by vertex. On an adaptive grid the same lists hold:
+//! `corners_on_stacks` names the stack by which each corner comes and goes, and is the bridge from the routes of corners
+//! to the lists of faces. `counts` turns loads and stores into pops and pushes, vertex by vertex. On an adaptive grid the same lists hold:
 //! `unwalked_is_empty` leaves out the cells that are not walked, and `leaf_is_corners` is the walk of a cell that has
 //! no walked children.
-ghost use Rattle.pe_walk.specs.Laws.{NeighboursAgree, FacesAreOneWay, OneFaceOnEach, Composition, BeneathUntouched, StoresAsLoads, Counts, UnwalkedIsEmpty, LeafIsCorners, CellsOfTheTree, StepsCrossFaces, StepsAreCorners, CornersAreSteps};
+ghost use Rattle.pe_walk.specs.Laws.{NeighboursAgree, FacesAreOneWay, OneFaceOnEach, Composition, BeneathUntouched, StoresAsLoads, Counts, UnwalkedIsEmpty, LeafIsCorners, CellsOfTheTree, StepsCrossFaces, StepsAreCorners, CornersAreSteps, TurnsJoin, StandTogether, CornersCrossOnce, CornersOnStacks};
 
 /// The cells of the tree are the places of cells.
 pub fn tree()
@@ -39,9 +40,15 @@ pub fn beneath_untouched()
     ensures stores { StoresAsLoads }
 {}
 
-/// The loads and stores of a vertex are its steps.
+/// Turns on a stack, one after another.
+pub fn turns_join()
+    ensures join { TurnsJoin }
+{}
+
+/// The loads and stores of a vertex are its steps, and those within a cell are for cells that stand together around it.
 pub fn counts()
     ensures counted { Counts }
+    ensures together { StandTogether }
 {}
 
 /// Each step around a vertex crosses one face. There one cell leaves the vertex, and it arrives in the other.
@@ -49,6 +56,13 @@ pub fn steps()
     ensures cross { StepsCrossFaces }
     ensures corners { StepsAreCorners }
     ensures only { CornersAreSteps }
+{}
+
+/// A corner comes to its cell across one face, or none, and goes from it so; the corners that come and go by a stack are
+/// those of the cell's face on it.
+pub fn corners_on_stacks()
+    ensures once { CornersCrossOnce }
+    ensures stacks { CornersOnStacks }
 {}
 
 /// A cell that is not walked has empty lists.
