@@ -2,7 +2,7 @@ use Rattle.std.proofs.Common.{◌^◌, ◌+◌, ◌*◌, ◌<◌, ◌∙◌, len
 use Rattle.pe_stacks.specs.Holdings.{stack_count, len_at}
 use Rattle.pe_stacks.proofs.Raising.{raises-lent, raises-pushed, raises_at_most}
 use Rattle.pe_stacks.proofs.StackAt.{stack_count-pushed}
-use Rattle.bench_depot.proofs.Moves.{raises_step, raises_by_refusal, len_at-pushed}
+use Rattle.bench_depot.proofs.CallPairs.{raises_step, raises_by_refusal, len_at-pushed}
 use Rattle.bench_depot.proofs.moves.load.Goals as goal
 
 pub lend-r-requires : goal.lend-r-requires
