@@ -1,0 +1,6 @@
+-- How code follows a machine of lists, in reading order.
+
+-- what a call on a depot is to a machine of lists
+pub mod Moves
+-- how the answer of a call follows a course of steps
+pub mod Follows
