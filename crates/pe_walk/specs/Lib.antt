@@ -1,5 +1,8 @@
--- The laws of the walk.
+-- The laws of the walk, in reading order.
+
+-- the statements
 pub mod Laws
+-- grids for the worked rows
 pub mod Grids
 -- the walk on stacks as a machine of lists
 pub mod Machine

@@ -7,11 +7,11 @@ use Rattle.pe_run.specs.declared.scenario.Scenario.{Scenario}
 use Rattle.pe_run.specs.declared.scenario.SceneFault.{SceneFault}
 use Rattle.pe_run.specs.declared.scenario.SceneFault.TheVariants.{TooLong, NotToml, Unbuilt, Memory}
 use Rattle.pe_run.specs.Trace.{traces}
-use Rattle.pe_run.specs.Scenario.{Scene, Cause, too_long, not_toml, unbuilt}
+use Rattle.pe_run.specs.Scenario.{ScenarioView, Cause, too_long, not_toml, unbuilt}
 
 -- what a scenario says
-abbrev pub scene_view : Scenario → Scene
-scene_view scenario = record { axes = scenario.dim; traversals = scenario.traversals; traced = traces scenario.trace }
+abbrev pub scenario_view : Scenario → ScenarioView
+scenario_view scenario = record { dim = scenario.dim; traversals = scenario.traversals; traced = traces scenario.trace }
 
 -- marks that trace just these events, or none of both
 abbrev pub TracesEvents : Option Trace → Option (List Event) → Type 0
@@ -21,13 +21,13 @@ TracesEvents None (Some events) = ⊥
 TracesEvents (Some trace) None = ⊥
 
 -- a refusal for this cause, unless memory ran out
-abbrev pub RefusesFor : SceneFault → Result Scene Cause → Type 0
+abbrev pub RefusesFor : SceneFault → Result ScenarioView Cause → Type 0
 RefusesFor TooLong said = said ≡ Err too_long
 RefusesFor NotToml said = said ≡ Err not_toml
 RefusesFor (Unbuilt key) said = said ≡ Err (unbuilt key)
 RefusesFor Memory said = Unit {0}
 
 -- the scenario that the bytes give, or the cause for which they are refused, unless memory ran out
-abbrev pub GivesScene : Result Scenario SceneFault → Result Scene Cause → Type 0
-GivesScene (Ok scenario) said = said ≡ Ok (scene_view scenario)
-GivesScene (Err fault) said = RefusesFor fault said
+abbrev pub GivesScenario : Result Scenario SceneFault → Result ScenarioView Cause → Type 0
+GivesScenario (Ok scenario) said = said ≡ Ok (scenario_view scenario)
+GivesScenario (Err fault) said = RefusesFor fault said

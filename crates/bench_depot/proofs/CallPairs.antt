@@ -2,11 +2,11 @@
 use Rattle.std.proofs.Common.{◌≡◌, ◌≢◌, ℕ, ◌+◌, ◌*◌, ◌<◌, length, arith, ap, subst, ◌∙◌}
 use Rattle.std.proofs.lemmas.List.{length-drop}
 use Rattle.pe_stacks.specs.Holdings.{Holdings, Stack, stack_count, stack_at, len_at, pushed, popped, given_up, RaisesCounts}
-use Rattle.pe_stacks.proofs.Counts.{raises_more, raises-given_up}
+use Rattle.pe_stacks.proofs.Raising.{raises_more, raises-given_up}
 use Rattle.pe_stacks.proofs.StackAt.{stack_at-pushed, stack_at-pushed_other, stack_at-popped, stack_at-popped_other}
 
 module _ {X : Type 0} where
-  -- a run of i steps of two calls each, and one step more
+  -- a run of i pairs of calls, and one pair more
   pub raises_step : (first second third fourth : Holdings X) (i : ℕ) → RaisesCounts first second (2 * i) → RaisesCounts second third 1 → RaisesCounts third fourth 1 → RaisesCounts first fourth (2 * (i + 1))
   raises_step first second third fourth i run one two =
       let sum : (2 * i + 1) + 1 ≡ 2 * (i + 1) = omega arith in

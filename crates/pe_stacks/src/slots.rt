@@ -1,12 +1,12 @@
 ghost use Rattle.std.specs.Prelude.{◌≡◌, ◌<◌, replicate, None, Some, slice_get, slice_set, IsSome};
 ghost use Rattle.std.specs.Borrow.{Lends, sem};
 ghost use Rattle.std.specs.contracts.option.Option.{the_row as option_row};
-ghost use Rattle.pe_stacks.specs.contracts.places.Places.{the_row};
+ghost use Rattle.pe_stacks.specs.contracts.slots.Slots.{the_row};
 
 use std::marker::Model;
 
-/// Sixteen places by number, each empty or full, without an array of the type parameter.
-pub(crate) struct Places<X> {
+/// Sixteen slots by number, each empty or full, without an array of the type parameter.
+pub(crate) struct Slots<X> {
     p0: Option<X>,
     p1: Option<X>,
     p2: Option<X>,
@@ -25,21 +25,21 @@ pub(crate) struct Places<X> {
     p15: Option<X>,
 }
 
-impl<X> Model for Places<X> {
+impl<X> Model for Slots<X> {
     ghost use Rattle.std.specs.Prelude.{List, Option};
 
     ghost Value = { List (Option X) };
 
-    ghost use Rattle.pe_stacks.specs.Places.{listed};
+    ghost use Rattle.pe_stacks.specs.Slots.{listed};
 
     ghost view = { listed };
 }
 
-impl<X> Places<X> {
-    pub(crate) fn empty() -> Places<X>
+impl<X> Slots<X> {
+    pub(crate) fn empty() -> Slots<X>
         ensures { result ≡ replicate 16 None }
     {
-        Places {
+        Slots {
             p0: None,
             p1: None,
             p2: None,
@@ -59,7 +59,7 @@ impl<X> Places<X> {
         }
     }
 
-    pub(crate) fn place(&self, k: u8) -> &Option<X>
+    pub(crate) fn slot(&self, k: u8) -> &Option<X>
         requires { k < 16 }
         ensures { slice_get self.now k ≡ Some result.now }
     {
@@ -83,7 +83,7 @@ impl<X> Places<X> {
         }
     }
 
-    pub(crate) fn place_mut(&mut self, k: u8) -> &mut Option<X>
+    pub(crate) fn slot_mut(&mut self, k: u8) -> &mut Option<X>
         requires { k < 16 }
         ensures value { slice_get self.old k ≡ Some result.now }
         ensures* writes_back { sem 𝓛 (Lends (the_row X.row) (option_row X.row) self.entry result
@@ -112,7 +112,7 @@ impl<X> Places<X> {
     pub(crate) fn close(self)
         requires { self ≡ replicate 16 None }
     {
-        let Places {
+        let Slots {
             p0,
             p1,
             p2,
@@ -130,42 +130,42 @@ impl<X> Places<X> {
             p14,
             p15,
         } = self;
-        close_place(p0);
-        close_place(p1);
-        close_place(p2);
-        close_place(p3);
-        close_place(p4);
-        close_place(p5);
-        close_place(p6);
-        close_place(p7);
-        close_place(p8);
-        close_place(p9);
-        close_place(p10);
-        close_place(p11);
-        close_place(p12);
-        close_place(p13);
-        close_place(p14);
-        close_place(p15);
+        close_slot(p0);
+        close_slot(p1);
+        close_slot(p2);
+        close_slot(p3);
+        close_slot(p4);
+        close_slot(p5);
+        close_slot(p6);
+        close_slot(p7);
+        close_slot(p8);
+        close_slot(p9);
+        close_slot(p10);
+        close_slot(p11);
+        close_slot(p12);
+        close_slot(p13);
+        close_slot(p14);
+        close_slot(p15);
     }
 }
 
-/// Ends a place that is empty.
-pub(crate) fn close_place<X>(place: Option<X>)
-    requires { place ≡ None }
+/// Ends a slot that is empty.
+pub(crate) fn close_slot<X>(slot: Option<X>)
+    requires { slot ≡ None }
 {
-    match place {
+    match slot {
         None => {}
         Some(_) => unreachable!(),
     }
 }
 
-/// Lends what is in a place that is full.
-pub(crate) fn filled_mut<X>(place: &mut Option<X>) -> &mut X
-    requires { IsSome place.old }
-    ensures value { place.old ≡ Some result.now }
-    ensures* writes_back { sem 𝓛 (Lends (option_row X.row) X.row place.entry result Some) }
+/// Lends what is in a slot that is full.
+pub(crate) fn filled_mut<X>(slot: &mut Option<X>) -> &mut X
+    requires { IsSome slot.old }
+    ensures value { slot.old ≡ Some result.now }
+    ensures* writes_back { sem 𝓛 (Lends (option_row X.row) X.row slot.entry result Some) }
 {
-    match place {
+    match slot {
         Some(x) => x,
         None => unreachable!(),
     }

@@ -1,4 +1,4 @@
--- What each step of the walk by address prints and counts.
+-- What each part of the walk by address prints and counts.
 use Rattle.std.proofs.Common.{◌≡◌, ℕ, ◌+◌, ◌^◌, max, Bool, true, false, not, ◌&&◌, ◌==◌, List, [], ◌∷◌, ◌++◌, map, filter, refl, sym, ap, ap₂, ◌∙◌, length, append-nil, append_assoc, length-append, arith}
 use Rattle.std.specs.Prelude.{if◌then◌else◌, fold, count_by}
 use Rattle.std.specs.List.{flat_map}
@@ -100,7 +100,7 @@ trace_text-append traced axes traversal xs ys =
     ap (flat_map (trace_line axes traversal)) (filter-append (λ firing. traced firing.event) xs ys)
     ∙ flat_map-append (trace_line axes traversal) (filter (λ firing. traced firing.event) xs) (filter (λ firing. traced firing.event) ys)
 
--- A step prints some firings and tallies some. The first traversal counts no vertex as read.
+-- A part prints some firings and tallies some. The first traversal counts no vertex as read.
 pub record Adds (traced : Event → Bool) (axes traversal : ℕ) (first : Bool) (printed tallied : List Firing) (before after : World) : Type 0 where
   pub text : after.text ≡ before.text ++ trace_text traced axes traversal printed
   pub tally : after.tally ≡ raised first tallied before.tally
