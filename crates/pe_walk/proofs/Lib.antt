@@ -5,3 +5,4 @@ pub mod Trees
 pub mod Stores
 pub mod Derived
 pub mod Computed
+pub mod Tokens

@@ -1,3 +1,10 @@
 -- The laws of the walk.
+
+-- which lists a cell finds and leaves at its faces, and which cells are walked
 pub mod Laws
+-- the walk over places on stacks
+pub mod Tokens
+-- what the walk of a cell takes off each stack, and what it gives
+pub mod Takings
+-- grids for the worked rows
 pub mod Grids
