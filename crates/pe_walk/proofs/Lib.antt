@@ -16,3 +16,4 @@ pub mod Derived
 -- # The tests
 -- one round of the loops that compute the definitions
 pub mod Computed
+pub mod Tokens
