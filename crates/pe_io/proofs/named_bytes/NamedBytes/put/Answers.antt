@@ -1,6 +1,6 @@
 use Rattle.std.proofs.Common.{arith}
 use Rattle.std.proofs.lemmas.Map.Text.{text_keys}
-use Rattle.pe_io.proofs.mem_shelf.MemShelf.add.Goals as goal
+use Rattle.pe_io.proofs.named_bytes.NamedBytes.put.Goals as goal
 
 pub returns-clause-ok : goal.returns-clause-ok
 returns-clause-ok c = record {
