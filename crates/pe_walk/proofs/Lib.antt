@@ -13,7 +13,9 @@ pub mod Steps
 pub mod Stores
 -- each law
 pub mod Derived
+-- # The walk
+-- the walk over places on stacks
+pub mod Tokens
 -- # The tests
 -- one round of the loops that compute the definitions
 pub mod Computed
-pub mod Tokens
