@@ -6,6 +6,8 @@ pub mod Laws
 pub mod Tokens
 -- what the walk of a cell takes off each stack, and what it gives
 pub mod Takings
+-- the laws of that walk
+pub mod TokenLaws
 -- grids for the worked rows
 pub mod Grids
 -- the walk on stacks as a machine of lists
