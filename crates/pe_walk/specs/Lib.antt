@@ -8,6 +8,8 @@ pub mod Tokens
 pub mod Takings
 -- the laws of that walk
 pub mod TokenLaws
+-- what the walk over places asks of a grid
+pub mod Outlooks
 -- grids for the worked rows
 pub mod Grids
 -- the walk on stacks as a machine of lists

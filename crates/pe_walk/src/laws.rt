@@ -12,6 +12,7 @@
 //! no walked children.
 ghost use Rattle.pe_walk.specs.Laws.{NeighboursAgree, FacesAreOneWay, OneFaceOnEach, Composition, BeneathUntouched, StoresAsLoads, Counts, UnwalkedIsEmpty, LeafIsCorners, CellsOfTheTree, StepsCrossFaces, StepsAreCorners, CornersAreSteps, TurnsJoin, StandTogether, CornersCrossOnce, CornersOnStacks};
 ghost use Rattle.pe_walk.specs.TokenLaws.{WalkOfACell, LoadsAreDue, LoadedAround, WholeTraversal, TurningRound, TurningAround};
+ghost use Rattle.pe_walk.specs.Outlooks.{ForecastFits, StoredFits};
 
 /// The cells of the tree are the places of cells.
 pub fn tree()
@@ -96,4 +97,10 @@ pub fn whole_traversal()
 pub fn turning_round()
     ensures round { TurningRound }
     ensures around { TurningAround }
+{}
+
+/// What is foreseen of a traversal of a grid fits a walk, and so does what the grid has stored.
+pub fn grids_fit()
+    ensures forecast { ForecastFits }
+    ensures stored { StoredFits }
 {}
