@@ -6,6 +6,14 @@ pub mod Laws
 pub mod Tokens
 -- what the walk of a cell takes off each stack, and what it gives
 pub mod Takings
+-- the laws of that walk
+pub mod TokenLaws
+-- a place is on one stack, or held, or nowhere
+pub mod Apart
+-- what the walk over places asks of a grid
+pub mod Outlooks
+-- streams in the order of grids
+pub mod StreamLaws
 -- grids for the worked rows
 pub mod Grids
 -- the walk on stacks as a machine of lists
