@@ -3,11 +3,13 @@ use Rattle.std.proofs.Common.{◌≡◌, ℕ, ◌+◌, ◌^◌, ◌≤◌, ◌<�
 use Rattle.std.specs.Prelude.{Contains}
 use Rattle.std.proofs.lemmas.List.{append-nil}
 use Rattle.std.proofs.lemmas.List.Elements.{Contains-append_left, Contains-append_right}
-use Rattle.pe_base.specs.Walk.Course.{Cause, Ending, done, halts, stuck, Push, Course, ends, at_once, behind, and_then, from}
-use Rattle.pe_mapping.specs.Held.{Told, Adds, AddsPart}
+use Rattle.pe_base.specs.Walk.Course.{Cause, Ending, done, halts, stuck, Push, Course, ends, at_once, behind, and_then, course_map, from}
+use Rattle.pe_base.specs.Acts.Effects.{Rules}
+use Rattle.pe_mapping.specs.Held.{Held, Keeps, Told, Adds, AddsPart}
+use Rattle.pe_hang.specs.InHand.{setting_of}
 use Rattle.pe_mapping.proofs.Texts.{adds-nothing, adds-then, part-first, part-then, fails-then}
 use Rattle.pe_hang.specs.Moves.{allowed}
-use Rattle.pe_hang.specs.Follows.{Fits, is_fit, Found, IsOverfull, HasOverfull, Failure, halted, unwritten, wanting, unheard_of, Follows, Does, FailsToTell, Wants, IsRoomier, Leads}
+use Rattle.pe_hang.specs.Follows.{Fits, is_fit, Found, IsOverfull, HasOverfull, Failure, halted, unwritten, wanting, unheard_of, Follows, Does, FailsToTell, Wants, IsRoomier, Leads, found_of}
 
 -- room that is the same, and room behind room
 pub roomier-same : (found : Found) → IsRoomier found found
@@ -170,3 +172,31 @@ module _ {Y : Type 0} {whole : Course Y} {old now : Found} where
         (record { part = lead.text; rest = rest.text; whole = refl; added = lead.told });
     room = λ sure. absurd (let both : true ≡ false = sym sure ∙ sym lead.room.sure ∙ unsure in cc);
   }
+
+-- what a course is turned into follows it
+pub follows-map : {X Y A : Type 0} (f : X → Y) (course : Course X) (after : A → X) (answer : Result A Failure) (old : Found) (new : Told)
+    → Follows course after answer old new → Follows (course_map f course) (λ a. f (after a)) answer old new
+follows-map f course after (Ok a) old new is =
+    leads_end (λ a. f (after a)) a
+    (leads_next course (λ x. at_once (f x)) after a (record old { told = new }) (leads_start (course_map f course) old) is
+      (record { sure = refl; vertices = λ s. omega arith; cells = λ s. omega arith }))
+follows-map f course after (Err failure) old new is =
+    leads_err course (λ x. at_once (f x)) after (λ a. f (after a)) failure new (leads_start (course_map f course) old) is
+
+-- a course follows where a step that adds nothing to the text comes before it
+pub follows-behind : {X Y A : Type 0} (course : Course X) (next : X → Course Y) (x : X) (after : A → Y) (answer : Result A Failure) (old : Found) (new : Told)
+    → course.ending ≡ done x → course.text ≡ [] → Follows (next x) after answer old new → Follows (and_then course next) after answer old new
+follows-behind course next x after answer old new ends silent is =
+    leads_last (next x) after answer new
+    (leads_step course next x old (leads_start (and_then course next) old) ends silent refl (roomier-same old)) is
+
+-- the room of stacks that nothing was done with
+pub roomier-held : {Plan : Type 0} (old new : Held Plan) (vertices cells : ℕ → ℕ) → Keeps old new → IsRoomier (found_of old vertices cells) (found_of new vertices cells)
+roomier-held old new vertices cells keeps = record { sure = keeps.sure; vertices = λ s. omega arith; cells = λ s. omega arith }
+
+-- a setting stays
+pub setting-kept : {Plan : Type 0} (rules : Rules Plan) (old new : Held Plan) (start_level max_cells traversal : ℕ) → Keeps old new
+    → setting_of rules new start_level max_cells traversal ≡ setting_of rules old start_level max_cells traversal
+setting-kept rules old new start_level max_cells traversal keeps =
+    ap (λ plan. record { rules = rules; plan = plan; axes = new.dim; start_level = start_level; max_cells = max_cells; traversal = traversal }) keeps.plan
+    ∙ ap (λ axes. record { rules = rules; plan = old.plan; axes = axes; start_level = start_level; max_cells = max_cells; traversal = traversal }) keeps.dim

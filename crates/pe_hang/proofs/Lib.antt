@@ -6,3 +6,7 @@ pub mod OnStacks
 pub mod Leading
 -- an event of the code and of the machine
 pub mod Firing
+-- old and new through events
+pub mod Marked
+-- calls on a depot as steps of the machine
+pub mod Moving

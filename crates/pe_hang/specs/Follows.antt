@@ -97,9 +97,9 @@ pub record Leads {X : Type 0} (whole : Course X) (old now : Found) (rest : Cours
   pub told : Adds old.told text now.told
   pub room : IsRoomier old now
 
--- After a call that takes some records for its own: no stack came or went or lost room, and on an error these records are
--- out no more.
-pub record Left {X : Type 0} (taken : ℕ) (old : Holdings X) (room : ℕ → ℕ) (new : Holdings X) (room' : ℕ → ℕ) (failed : Bool) : Type 0 where
+-- After a call that takes some records for its own, and keeps some out where it comes through: no stack came or went or
+-- lost room, and no other record is out or in.
+pub record Left {X : Type 0} (taken kept : ℕ) (old : Holdings X) (room : ℕ → ℕ) (new : Holdings X) (room' : ℕ → ℕ) (failed : Bool) : Type 0 where
   pub count : stack_count new ≡ stack_count old
   pub keeps : KeepsRoom old room new room'
-  pub out : failed ≡ true → new.out + taken ≡ old.out
+  pub out : new.out + taken ≡ old.out + (if failed then 0 else kept)

@@ -1,5 +1,6 @@
 -- What a call has in hand and on stacks, as a machine of lists sees it.
-use Rattle.std.specs.Prelude.{ℕ, ℤ, List, map}
+use Rattle.std.specs.Prelude.{◌≡◌, ℕ, ℤ, Bool, List, map}
+use Rattle.pe_base.specs.Life.States.{is_old, is_new}
 use Rattle.pe_base.specs.Acts.Effects.{VertexRecord, Rules}
 use Rattle.pe_base.specs.Walk.Core.{Setting, Family, Own}
 use Rattle.pe_stacks.specs.declared.record.Vertex.{Vertex}
@@ -28,6 +29,14 @@ setting_of_events rules held traversal = setting_of rules held 0 0 traversal
 abbrev pub family_in_hand : {V C : Type 0} → Numbers V C → CornerList (Vertex V) → CellRec C → List ℤ → Family
 family_in_hand numbers parents parent list =
     record { parents = seen_corners numbers.vertex parents; parent = seen_cell numbers.cell parent; list = list }
+
+-- of each vertex whether it is old and whether it is new; no event changes these marks
+abbrev pub marks_of : List VertexRecord → List (Bool × Bool)
+marks_of its = map (λ it. (is_old it.state, is_new it.state)) its
+
+-- the marks of corners stay
+abbrev pub KeepsMarks : {V : Type 0} → (V → List ℤ) → CornerList (Vertex V) → CornerList (Vertex V) → Type 0
+KeepsMarks numbers old new = marks_of (seen_corners numbers new) ≡ marks_of (seen_corners numbers old)
 
 -- a cell's numbers and its corners
 abbrev pub own_in_hand : {V C : Type 0} → Numbers V C → CellRec C → CornerList (Vertex V) → Own

@@ -5,7 +5,7 @@ ghost use Rattle.pe_stacks.specs.Holdings.{lent, given_up, KeepsRoom};
 ghost use Rattle.pe_mapping.specs.Held.{Keeps};
 ghost use Rattle.pe_mapping.specs.Sights.{seen_vertex};
 ghost use Rattle.pe_mapping.specs.Moments.{IsTraversal, IsBelowRoot};
-ghost use Rattle.pe_hang.specs.InHand.{setting_of_events, family_in_hand};
+ghost use Rattle.pe_hang.specs.InHand.{setting_of_events, family_in_hand, KeepsMarks};
 ghost use Rattle.pe_hang.specs.Follows.{Follows, Left, failure_at, read_by, found_of};
 ghost use Rattle.pe_hang.specs.Hanging.{made, ended};
 
@@ -17,6 +17,7 @@ use pe_stacks::{CellRec, Corners, Depot, Vertex};
 ///
 /// An `Err` is what the mapping answered, or want of memory, of a mapping that is not sure. The record is
 /// given up then.
+#[tactic(auto, using(crate::proofs::Marked::marks_triggered))]
 pub fn make_hanging<M: Mapping, DV: Depot<Vertex<M::V>>>(
     m: &mut M,
     dv: &mut DV,
@@ -36,9 +37,10 @@ pub fn make_hanging<M: Mapping, DV: Depot<Vertex<M::V>>>(
         (read_by (failure_at CreateHangingVertex at.now) result) (found_of (M.held m.old) vertices cells) (M.held m.new).told }
     ensures lent { OnOk result (DV.holds dv.new ≡ lent (DV.holds dv.old)) }
     ensures stacks { (DV.holds dv.new).stacks ≡ (DV.holds dv.old).stacks }
-    ensures left { Left 0 (DV.holds dv.old) (DV.room dv.old) (DV.holds dv.new) (DV.room dv.new) (is_err result) }
+    ensures left { Left 0 1 (DV.holds dv.old) (DV.room dv.old) (DV.holds dv.new) (DV.room dv.new) (is_err result) }
     ensures keeps { Keeps (M.held m.old) (M.held m.new) }
     ensures full { IsFull (M.held m.old).dim parents.new }
+    ensures marks { KeepsMarks M.numbers.vertex parents.old parents.new }
 {
     let payload = match m.fresh_v() {
         Ok(payload) => payload,
@@ -64,6 +66,7 @@ pub fn make_hanging<M: Mapping, DV: Depot<Vertex<M::V>>>(
 /// Ends a hanging vertex: its event is fired, and its record is given up in any case.
 ///
 /// An `Err` is what the mapping answered.
+#[tactic(auto, using(crate::proofs::Marked::marks_triggered))]
 pub fn end_hanging<M: Mapping, DV: Depot<Vertex<M::V>>>(
     m: &mut M,
     dv: &mut DV,
@@ -83,9 +86,10 @@ pub fn end_hanging<M: Mapping, DV: Depot<Vertex<M::V>>>(
         (λ done. family_in_hand M.numbers parents.new parent.new (M.held m.new).list)
         (read_by (failure_at DestroyHangingVertex at.now) result) (found_of (M.held m.old) vertices cells) (M.held m.new).told }
     ensures given_up { DV.holds dv.new ≡ given_up (DV.holds dv.old) }
-    ensures left { Left 1 (DV.holds dv.old) (DV.room dv.old) (DV.holds dv.new) (DV.room dv.new) (is_err result) }
+    ensures left { Left 1 0 (DV.holds dv.old) (DV.room dv.old) (DV.holds dv.new) (DV.room dv.new) (is_err result) }
     ensures keeps { Keeps (M.held m.old) (M.held m.new) }
     ensures full { IsFull (M.held m.old).dim parents.new }
+    ensures marks { KeepsMarks M.numbers.vertex parents.old parents.new }
 {
     let mut v = v;
     let answer = m.vertex_event(
