@@ -8,3 +8,7 @@ pub mod Slots
 pub mod CellCorners
 -- what one event sees is read as it was written
 pub mod Families
+-- carriers are corners of the parent
+pub mod CarrierLaws
+-- triggers and the state table
+pub mod TableLaws

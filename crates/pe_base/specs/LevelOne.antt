@@ -8,5 +8,5 @@ pub mod Working
 pub mod Touches
 -- the walk of a cell and of a traversal, with what an event does as an argument
 pub mod Walk
--- the trace lines, the tally line, and all that some traversals print
+-- what a traversal prints, and all that some traversals print
 pub mod Traces

@@ -18,5 +18,7 @@ pub mod Walk
 pub mod Foreseen
 -- the order of a grid between two traversals
 pub mod Streams
+-- laws that these definitions owe
+pub mod Laws
 -- small rules of events for the worked rows
 pub mod Examples

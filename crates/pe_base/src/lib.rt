@@ -7,6 +7,7 @@ mod effects;
 mod event;
 mod fields;
 mod kind;
+pub mod laws;
 mod list;
 mod place;
 #[cfg(test)]

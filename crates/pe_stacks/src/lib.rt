@@ -5,10 +5,10 @@
 mod corners;
 mod depot;
 mod grid;
-mod places;
 mod record;
 #[cfg(test)]
 mod rows;
+mod slots;
 mod vec_depot;
 mod vec_stack;
 

@@ -1,6 +1,6 @@
 -- Traversals of the machine for the worked rows.
 use Rattle.std.specs.Prelude.{ℕ, ℤ, ◌+◌, Bool, true, false, List, [], ◌∷◌, map}
-use Rattle.pe_base.specs.LevelOne.Traces.{tally_line}
+use Rattle.pe_base.specs.Lines.{tally_line}
 use Rattle.pe_base.specs.Walk.Course.{Course, Ending, done, halts, stuck, at_once, and_then, course_map}
 use Rattle.pe_base.specs.Walk.Core.{Setting}
 use Rattle.pe_base.specs.Walk.Working.{no_tally}

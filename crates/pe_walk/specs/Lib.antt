@@ -1,5 +1,12 @@
--- The laws of the walk.
+-- The walk on stacks, and its laws, in reading order.
+
+-- which lists a cell finds and leaves at its faces, and which cells are walked
 pub mod Laws
+-- the walk over places on stacks
+pub mod Tokens
+-- what the walk of a cell takes off each stack, and what it gives
+pub mod Takings
+-- grids for the worked rows
 pub mod Grids
 -- the walk on stacks as a machine of lists
 pub mod Machine

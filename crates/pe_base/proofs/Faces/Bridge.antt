@@ -94,7 +94,6 @@ one_axis axes axis j side s a b l apart e = elim (which j axis) [
     which : (x y : ℕ) → (x ≡ y) ⊎ (x ≢ y)
     which x y = grind arith
 
-
 axis_between-up : (axis : ℕ) (pos : List ℕ) → axis < length pos → axis_between pos (up axis pos) ≡ axis
 axis_between-up axis [] h = absurd (omega arith)
 axis_between-up zero (x ∷ pos) h = ap (λ b. if b then axis_between pos pos + 1 else 0) (next x)

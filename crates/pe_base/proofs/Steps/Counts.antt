@@ -95,8 +95,11 @@ module _ {X : Type 0} (same : X → X → Bool) (r : X → ℕ) (itself : (x : X
       more = to same r itself ranks (b ∷ xs) x
 
       go : (t : Bool) → same b x ≡ t → (more ≡ []) ⊎ ((e : X × X) × (more ≡ e ∷ [])) → (cond t ((a, b) ∷ more) more ≡ []) ⊎ ((e : X × X) × (cond t ((a, b) ∷ more) more ≡ e ∷ []))
-      go true is ih = inr ((a, b), ap (λ m. (a, b) ∷ m) (filter_none (λ e. same e.1 x) (steps (b ∷ xs))
-          (Each-weaker _ _ (λ e h. other_back same r itself ranks x e.1 (omega (arith, h.1, ranks b x is))) (steps (b ∷ xs)) (later_steps same r itself ranks (r b) high (b ∷ xs) (omega arith, s.1.1)))))
+      go true is ih = inr (
+        (a, b),
+        ap (λ m. (a, b) ∷ m) (filter_none (λ e. same e.1 x) (steps (b ∷ xs))
+            (Each-weaker _ _ (λ e h. other_back same r itself ranks x e.1 (omega (arith, h.1, ranks b x is))) (steps (b ∷ xs)) (later_steps same r itself ranks (r b) high (b ∷ xs) (omega arith, s.1.1)))),
+      )
       go false is ih = ih
 
 -- a place is the same as itself

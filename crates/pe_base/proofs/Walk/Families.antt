@@ -41,10 +41,11 @@ two_slots axes cell k j false false four hk hj other = corners_apart axes cell k
 
 slots_apart_from : (axes : ℕ) (w : Working) (cell : Place) (a n : ℕ) → axes ≤ length cell.pos → a + n ≤ 2 ^ axes → AreApart (slots_from axes w cell a n)
 slots_apart_from axes w cell a zero four fits = tt
-slots_apart_from axes w cell a (suc n) four fits =
-    (Each-slots (λ s. is_slot s (slot_of axes w cell a) ≡ false) axes w cell (a + 1) n
-    (λ j from to. two_slots axes cell j a (is_hung w cell j) (is_hung w cell a) four (omega arith) (omega arith) (λ e. absurd (omega arith))),
-    slots_apart_from axes w cell (a + 1) n four (omega arith))
+slots_apart_from axes w cell a (suc n) four fits = (
+  Each-slots (λ s. is_slot s (slot_of axes w cell a) ≡ false) axes w cell (a + 1) n
+      (λ j from to. two_slots axes cell j a (is_hung w cell j) (is_hung w cell a) four (omega arith) (omega arith) (λ e. absurd (omega arith))),
+  slots_apart_from axes w cell (a + 1) n four (omega arith),
+)
 
 -- all corners of a cell have different slots
 pub slots_apart : (axes : ℕ) (w : Working) (cell : Place) → axes ≤ length cell.pos → AreApart (slots axes w cell)
