@@ -7,7 +7,7 @@ use pe_run::peano;
 use pe_stacks::{CellRec, VecDepot, Vertex};
 use std::alloc::{AllocError, Global};
 use std::env;
-use std::io::ErrorKind;
+use std::io::{self, ErrorKind};
 use std::process::ExitCode;
 
 /// The status where a word is not UTF-8, so that the words name no job.
@@ -21,7 +21,7 @@ fn run(rt: &HostRuntime, alloc: Global, words: &[String]) -> Result<u8, AllocErr
     let mut vertices: VecDepot<Vertex<Fields>> = VecDepot::new(alloc, 10)?;
     let mut cells: VecDepot<CellRec<Fields>> = VecDepot::new(alloc, 2)?;
     let mut shelf = FileShelf::new(alloc, rt);
-    let mut sink = StdSink::new(rt);
+    let mut sink = StdSink::new(io::writer(rt));
     Ok(peano(
         alloc,
         words,
