@@ -29,7 +29,7 @@ use Rattle.pe_walk.proofs.Tokens.Keeping.{given_some, walk_keeps}
 use Rattle.pe_walk.proofs.Tokens.Counting.{first_around, corners_by_counting}
 use Rattle.pe_walk.proofs.Tokens.Traversals.{lent_items, lent_stacks}
 
-abbrev one_if : Bool → ℕ
+abbrev pub one_if : Bool → ℕ
 one_if b = cond b 1 0
 
 abbrev there : Place → Stack Place → ℕ
@@ -64,7 +64,7 @@ lies-pushed held s x place = elim (within s (stack_count held)) [
     within : (a b : ℕ) → (a < b) ⊎ (b ≤ a)
     within a b = grind arith
 
-map_some : {X Y : Type 0} (f : X → Y) (o : Option X) (y : Y) → option_map f o ≡ Some y → (x : X) × (o ≡ Some x) × (f x ≡ y)
+pub map_some : {X Y : Type 0} (f : X → Y) (o : Option X) (y : Y) → option_map f o ≡ Some y → (x : X) × (o ≡ Some x) × (f x ≡ y)
 map_some f None y e = absurd cc
 map_some f (Some x) y e = (x, refl, cc)
 

@@ -153,7 +153,7 @@ each_below n P h = go 0 n (λ k l. h k (omega arith))
 
 module _ (o : Outlook) (dim : IsDim o.axes) where
   -- a corner goes to one of ten stacks, and a cell to one of two
-  goes_within : (cell : Place) → IsCell o.axes o.way cell → (k : ℕ) → k < 2 ^ o.axes → GoesWithin o 10 cell k
+  pub goes_within : (cell : Place) → IsCell o.axes o.way cell → (k : ℕ) → k < 2 ^ o.axes → GoesWithin o 10 cell k
   goes_within cell is_cell k below s e = elim (corners_cross_once o.axes o.way cell k dim is_cell below).goes [
     | inl none ↦ from_stream (o.writes (corner o.axes cell k)) (sym (ap (λ x. first_of x (given (o.writes (corner o.axes cell k)) (Some (output_stack o.swapped)))) none.no_stack) ∙ e)
     | inr one ↦
@@ -172,7 +172,7 @@ module _ (o : Outlook) (dim : IsDim o.axes) where
       from_stream true h = let is : output_stack o.swapped ≡ s = cc in let n = near o.swapped in omega arith
       from_stream false h = absurd cc
 
-  cell_goes : (cell : Place) (s : ℕ) → cell_target o cell ≡ Some s → s < 2
+  pub cell_goes : (cell : Place) (s : ℕ) → cell_target o cell ≡ Some s → s < 2
   cell_goes cell s e = go (o.writes_cell cell) e
     where
       near : (swapped : Bool) → cell_output_stack swapped < 2
@@ -183,7 +183,7 @@ module _ (o : Outlook) (dim : IsDim o.axes) where
       go true h = let is : cell_output_stack o.swapped ≡ s = cc in let n = near o.swapped in omega arith
       go false h = absurd cc
 
-  own_touches_are : (cell : Place) → map (touch_of o cell) (reverse (numbers o)) ≡ reverse (corner_touches o.axes cell)
+  pub own_touches_are : (cell : Place) → map (touch_of o cell) (reverse (numbers o)) ≡ reverse (corner_touches o.axes cell)
   own_touches_are cell = map-reverse (touch_of o cell) (numbers o)
 
   -- a cell around what is done below it
