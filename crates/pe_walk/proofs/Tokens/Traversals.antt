@@ -99,7 +99,7 @@ given_stacks (k ∷ ks) held = given_stacks ks (given_up held)
 
 module _ (o : Outlook) (walked : Place → Bool) (greatest : ℕ) (dim : IsDim o.axes) (grown : Grown o walked greatest) where
   -- no corner of the root counts
-  root_corners : Each (λ t. o.counts t.vertex ≡ false) (reverse (corner_touches o.axes root))
+  pub root_corners : Each (λ t. o.counts t.vertex ≡ false) (reverse (corner_touches o.axes root))
   root_corners = Each-reverse (λ t. o.counts t.vertex ≡ false) (corner_touches o.axes root) (Each-map (λ t. o.counts t.vertex ≡ false) (λ k. record { vertex = corner o.axes root k; cell = root }) (range_with_len 0 (2 ^ o.axes))
       (Each-all _ (λ k. false_unless (o.counts (corner o.axes root k)) (λ c. outside (corner o.axes root k) refl (grown.is_walk.inside (corner o.axes root k) c))) (range_with_len 0 (2 ^ o.axes))))
     where
