@@ -6,6 +6,7 @@ mod expect;
 mod fault;
 mod fields;
 mod header;
+mod laws;
 mod opening;
 mod parts;
 mod range;
@@ -13,12 +14,15 @@ mod reading;
 
 
 mod saved;
+#[cfg(test)]
+mod tests;
 mod writing;
 
 
 pub use expect::Expect;
 pub use fault::{HeaderField, StreamFault};
 
+pub use laws::one_spelling;
 pub use reading::read_stream;
 pub use saved::{Saved, SavedVertex};
 pub use writing::write_stream;
