@@ -14,8 +14,10 @@ use std::test::Fail;
 // The vertex (1, 1) of level 1 and the cells around it; then those of (3, 1) on level 2, whose plane of axis 0 is
 // that of (1, _) on level 1.
 fn cells_around()
-    ensures corner { around 2 Forward (at 1 (1 ∷ 1 ∷ [])) ≡ map (at 1) ((0 ∷ 0 ∷ []) ∷ (0 ∷ 1 ∷ []) ∷ (1 ∷ 1 ∷ []) ∷ (1 ∷ 0 ∷ []) ∷ []) }
-    ensures inverted { around 2 Inverted (at 1 (1 ∷ 1 ∷ [])) ≡ map (at 1) ((1 ∷ 0 ∷ []) ∷ (1 ∷ 1 ∷ []) ∷ (0 ∷ 1 ∷ []) ∷ (0 ∷ 0 ∷ []) ∷ []) }
+    ensures corner { around 2 Forward (at 1 (1 ∷ 1 ∷ [])) ≡
+        map (at 1) ((0 ∷ 0 ∷ []) ∷ (0 ∷ 1 ∷ []) ∷ (1 ∷ 1 ∷ []) ∷ (1 ∷ 0 ∷ []) ∷ []) }
+    ensures inverted { around 2 Inverted (at 1 (1 ∷ 1 ∷ [])) ≡
+        map (at 1) ((1 ∷ 0 ∷ []) ∷ (1 ∷ 1 ∷ []) ∷ (0 ∷ 1 ∷ []) ∷ (0 ∷ 0 ∷ []) ∷ []) }
     ensures slower { crossings 2 (at 2 (3 ∷ 1 ∷ [])) 1 ≡ 2 }
     ensures slowest { crossings 2 (at 2 (3 ∷ 1 ∷ [])) 0 ≡ 1 }
     ensures stack_in { stack_in 2 Forward (at 1 (1 ∷ 1 ∷ [])) (at 1 (1 ∷ 1 ∷ [])) ≡ Some 1 }

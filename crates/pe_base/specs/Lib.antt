@@ -8,7 +8,9 @@ pub mod Steps
 pub mod Life
 -- what happens at the moments of a walk
 pub mod Acts
--- the printed lines
+-- all that is printed: trace lines, the tally, the last line, refusals
 pub mod Lines
+-- the walk by address
+pub mod Walk
 -- the walk of level 1 alone
 pub mod LevelOne

@@ -7,6 +7,7 @@ mod effects;
 mod event;
 mod fields;
 mod kind;
+pub mod laws;
 mod list;
 mod place;
 #[cfg(test)]
@@ -16,6 +17,8 @@ mod state;
 mod stop;
 mod tally;
 mod text;
+#[cfg(test)]
+mod walk_rows;
 mod way;
 
 pub use dim::Dim;

@@ -1,0 +1,2 @@
+//! One corner of a cell, loaded or stored.
+#![tactic(auto)]
