@@ -8,8 +8,9 @@ use Rattle.std.proofs.lemmas.List.Concat.{flat_map-cons}
 use Rattle.pe_base.specs.declared.fields.Fields.{Fields}
 use Rattle.pe_base.specs.declared.state.State.{State}
 use Rattle.pe_base.specs.declared.state.State.TheVariants.{Unrefined, RefinementTriggered, Refining, Refined, EraseTriggered, Erasing}
+use Rattle.pe_base.specs.Life.Numbers.{state_number}
 use Rattle.pe_stream.specs.declared.saved.SavedVertex.{SavedVertex}
-use Rattle.pe_stream.specs.Layout.{signed_bytes, fields_bytes, fields_size, state_byte, vertex_bytes, vertex_size}
+use Rattle.pe_stream.specs.Layout.{signed_bytes, fields_bytes, fields_size, vertex_bytes, vertex_size}
 use Rattle.pe_stream.specs.Saved.{is_at_rest, IsPayload}
 use Rattle.pe_stream.specs.Faults.{is_saved_state, state_at}
 use Rattle.pe_stream.specs.Parts.{IsReadPayload, IsReadVertex}
@@ -36,7 +37,7 @@ pub length_vertex : (count : ℕ) (vertex : SavedVertex) → count ≤ 8 → IsP
 length_vertex count vertex few payload = omega (arith, length_fields count vertex.fields few payload)
 
 -- the byte of a state between two traversals
-saved_state : (state : State) → IsTrue (is_at_rest state) → is_saved_state (state_byte state) ≡ true
+saved_state : (state : State) → IsTrue (is_at_rest state) → is_saved_state (state_number state) ≡ true
 saved_state Unrefined rest = refl
 saved_state RefinementTriggered rest = refl
 saved_state Refining rest = absurd cc
@@ -49,7 +50,7 @@ states_list : (count : ℕ) (vertices : List SavedVertex) (tail : List ℕ) (k :
 states_list count [] tail k few all below = absurd (omega arith)
 states_list count (v ∷ vs) tail zero few all below =
     let start : 0 * vertex_size count ≡ 0 = omega arith in
-    let front : slice_index (flat_map (vertex_bytes count) (v ∷ vs) ++ tail) (0 * vertex_size count) ≡ state_byte v.state =
+    let front : slice_index (flat_map (vertex_bytes count) (v ∷ vs) ++ tail) (0 * vertex_size count) ≡ state_number v.state =
         ap (λ l. slice_index (l ++ tail) (0 * vertex_size count)) (flat_map-cons (vertex_bytes count) v vs)
         ∙ ap (λ n. slice_index ((vertex_bytes count v ++ flat_map (vertex_bytes count) vs) ++ tail) n) start in
     ap is_saved_state front ∙ saved_state v.state all.0.saved.state

@@ -12,8 +12,9 @@ use Rattle.byteorder.specs.Numbers.{little_number-reads_back}
 use Rattle.pe_base.specs.declared.fields.Fields.{Fields}
 use Rattle.pe_base.specs.declared.state.State.{State}
 use Rattle.pe_base.specs.declared.state.State.TheVariants.{Unrefined, RefinementTriggered, Refining, Refined, EraseTriggered, Erasing}
+use Rattle.pe_base.specs.Life.Numbers.{state_number}
 use Rattle.pe_stream.specs.declared.saved.SavedVertex.{SavedVertex}
-use Rattle.pe_stream.specs.Layout.{number_bytes, signed_bytes, fields_bytes, state_byte, vertex_bytes}
+use Rattle.pe_stream.specs.Layout.{number_bytes, signed_bytes, fields_bytes, vertex_bytes}
 use Rattle.pe_stream.specs.Saved.{IsPayload}
 use Rattle.pe_stream.specs.Parts.{IsReadPayload, IsReadVertex}
 
@@ -76,18 +77,18 @@ state_in (suc (suc (suc zero))) = Refined
 state_in (suc (suc (suc (suc zero)))) = EraseTriggered
 state_in (suc (suc (suc (suc (suc n))))) = Erasing
 
-state_in-state_byte : (state : State) → state_in (state_byte state) ≡ state
+state_in-state_number : (state : State) → state_in (state_number state) ≡ state
 unfolding state_in
-state_in-state_byte Unrefined = refl
-state_in-state_byte RefinementTriggered = refl
-state_in-state_byte Refining = refl
-state_in-state_byte Refined = refl
-state_in-state_byte EraseTriggered = refl
-state_in-state_byte Erasing = refl
+state_in-state_number Unrefined = refl
+state_in-state_number RefinementTriggered = refl
+state_in-state_number Refining = refl
+state_in-state_number Refined = refl
+state_in-state_number EraseTriggered = refl
+state_in-state_number Erasing = refl
 
 pub vertex_once : (count : ℕ) → SaidOnce (vertex_bytes count) (IsReadVertex count)
 vertex_once count v w r t v_is w_is e =
-    let state : v.state ≡ w.state = sym (state_in-state_byte v.state) ∙ ap (λ l. state_in (slice_index l 0)) e ∙ state_in-state_byte w.state in
+    let state : v.state ≡ w.state = sym (state_in-state_number v.state) ∙ ap (λ l. state_in (slice_index l 0)) e ∙ state_in-state_number w.state in
     let both = fields_once count v.fields w.fields r t (record { padded = v_is.saved.fields; payload = v_is.payload }) (record { padded = w_is.saved.fields; payload = w_is.payload }) (ap (drop 1) e) in
     (ap (λ s. let vertex : SavedVertex = record { state = s; fields = v.fields } in vertex) state
     ∙ ap (λ f. let vertex : SavedVertex = record { state = w.state; fields = f } in vertex) both.0, both.1)

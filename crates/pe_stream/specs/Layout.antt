@@ -12,8 +12,7 @@ use Rattle.std.specs.List.{flat_map}
 use Rattle.std.specs.Int.{w64, cast_unsigned}
 use Rattle.byteorder.specs.Endian.{little_bytes}
 use Rattle.pe_base.specs.declared.fields.Fields.{Fields}
-use Rattle.pe_base.specs.declared.state.State.{State}
-use Rattle.pe_base.specs.declared.state.State.TheVariants.{Unrefined, RefinementTriggered, Refining, Refined, EraseTriggered, Erasing}
+use Rattle.pe_base.specs.Life.Numbers.{state_number}
 use Rattle.pe_stream.specs.declared.saved.SavedVertex.{SavedVertex}
 use Rattle.pe_stream.specs.declared.saved.Saved.{Saved}
 
@@ -32,18 +31,9 @@ fields_bytes count fields = flat_map signed_bytes (take count fields.a)
 abbrev pub fields_size : ℕ → ℕ
 fields_size count = 8 * count
 
--- the number of a state
-abbrev pub state_byte : State → ℕ
-state_byte Unrefined = 0
-state_byte RefinementTriggered = 1
-state_byte Refining = 2
-state_byte Refined = 3
-state_byte EraseTriggered = 4
-state_byte Erasing = 5
-
 -- a vertex: its state, and its numbers
 abbrev pub vertex_bytes : ℕ → SavedVertex → List ℕ
-vertex_bytes count vertex = state_byte vertex.state ∷ fields_bytes count vertex.fields
+vertex_bytes count vertex = state_number vertex.state ∷ fields_bytes count vertex.fields
 
 abbrev pub vertex_size : ℕ → ℕ
 vertex_size count = 1 + fields_size count

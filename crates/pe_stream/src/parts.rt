@@ -1,6 +1,7 @@
 //! The vertices and the cells of a stream.
 ghost use Rattle.std.specs.Prelude.{◌≡◌, ◌*◌, ◌≤◌, length, slice_index, IsTrue, IfSome, IfOk, is_some};
-ghost use Rattle.pe_stream.specs.Layout.{state_byte, vertex_bytes, vertex_size as size_of_vertex, fields_size as size_of_fields};
+ghost use Rattle.pe_base.specs.Life.Numbers.{state_number};
+ghost use Rattle.pe_stream.specs.Layout.{vertex_bytes, vertex_size as size_of_vertex, fields_size as size_of_fields};
 ghost use Rattle.pe_stream.specs.Saved.{is_at_rest};
 ghost use Rattle.pe_stream.specs.Faults.{is_saved_state, first_unsaved_of, TestsUnlessMemory};
 ghost use Rattle.pe_stream.specs.Parts.{IsReadVertex, AreVertices, AreCells};
@@ -14,7 +15,7 @@ use std::alloc::{AllocError, Global};
 
 /// The state that a byte says, if it is one that is saved.
 fn state_of(byte: u8) -> Option<State>
-    ensures byte { IfSome result (λ state. state_byte state ≡ byte) }
+    ensures byte { IfSome result (λ state. state_number state ≡ byte) }
     ensures rest { IfSome result (λ state. IsTrue (is_at_rest state)) }
     ensures variant { is_some result ≡ is_saved_state byte }
 {

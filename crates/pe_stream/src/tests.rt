@@ -1,4 +1,6 @@
 //! Streams whose bytes are written out, both ways, and tables of changes with their faults.
+ghost use Rattle.std.specs.Prelude.{◌≤◌};
+
 use crate::fault::HeaderField::{
     CellFields, Dim as DimField, GlobalFields, MaxLevel, Traversals, VertexFields, Zero,
 };
@@ -19,6 +21,15 @@ fn plain() -> [u8; 69] {
     bytes[24] = 29;
     bytes[32] = 45;
     bytes[40] = 3;
+    bytes
+}
+
+/// The plain stream with another number in eight bytes of its header.
+fn with_number(place: usize, number: u64) -> [u8; 69]
+    requires { place ≤ 32 }
+{
+    let mut bytes = plain();
+    bytes[place..place + 8].copy_from_slice(&number.to_le_bytes());
     bytes
 }
 
@@ -109,8 +120,7 @@ fn other_lengths(rt: HostRuntime) {
     let mut longer = [0; 70];
     longer[..69].copy_from_slice(&bytes);
     assert_eq!(rt; fault_of(alloc, &longer, None), length(69, 70));
-    let mut many = plain();
-    many[24..32].copy_from_slice(&[255; 8]);
+    let many = with_number(24, u64::MAX);
     assert_eq!(rt; fault_of(alloc, &many, None), length(18_446_744_073_709_551_655, 69));
 }
 
@@ -173,8 +183,7 @@ fn finished_traversals(rt: HostRuntime) -> Result<(), Fail> {
     let finished: [u64; 4] = [999_999_998, 999_999_999, 1_000_000_000, 1_000_000_001];
     let alone = [None, None, None, header(Traversals, 1_000_000_001)];
     for (count, fault) in finished.iter().zip(alone) {
-        let mut bytes = plain();
-        bytes[16..24].copy_from_slice(&count.to_le_bytes());
+        let bytes = with_number(16, *count);
         assert_eq!(rt; fault_of(alloc, &bytes, None), fault);
         let together = if *count > 999_999_998 {
             header(Traversals, *count)
@@ -206,8 +215,7 @@ fn states_of_each_vertex(rt: HostRuntime) {
 
 #[test]
 fn cells_without_fields(rt: HostRuntime) -> Result<(), Fail> {
-    let mut bytes = plain();
-    bytes[32..40].copy_from_slice(&[255; 8]);
+    let bytes = with_number(32, u64::MAX);
     let saved = read_stream(rt.alloc(), &bytes, None)?;
     assert_eq!(rt; saved.cell_count, u64::MAX);
     assert!(rt; saved.cells.as_slice().is_empty());

@@ -1,28 +1,14 @@
 //! Writing a stream.
 ghost use Rattle.std.specs.Prelude.{◌≡◌, ◌≤◌, ◌++◌, IfOk, OnOk};
 ghost use Rattle.std.specs.List.{flat_map};
-ghost use Rattle.pe_stream.specs.Layout.{header_bytes, vertex_bytes, state_byte, fields_bytes, stream_bytes};
+ghost use Rattle.pe_stream.specs.Layout.{header_bytes, vertex_bytes, fields_bytes, stream_bytes};
 ghost use Rattle.pe_stream.specs.Saved.{IsSaved};
 
 use crate::fields::{write_fields, write_number};
 use crate::header::{HEADER_SIZE, MAGIC, VERSION, fields_size, vertex_size};
 use crate::saved::{Saved, SavedVertex};
-use pe_base::{Fields, State};
+use pe_base::Fields;
 use std::alloc::{AllocError, Global};
-
-/// The byte that says a state.
-fn state_byte(state: State) -> u8
-    ensures { result ≡ state_byte state }
-{
-    match state {
-        State::Unrefined => 0,
-        State::RefinementTriggered => 1,
-        State::Refining => 2,
-        State::Refined => 3,
-        State::EraseTriggered => 4,
-        State::Erasing => 5,
-    }
-}
 
 fn write_header(out: &mut Vec<u8>, saved: &Saved) -> Result<(), AllocError>
     ensures { OnOk result (out.new.items ≡ out.old.items ++ header_bytes saved.now) }
@@ -49,7 +35,7 @@ fn write_vertices(out: &mut Vec<u8>, vertices: &[SavedVertex], count: u8) -> Res
     ensures { OnOk result (out.new.items ≡ out.old.items ++ flat_map (vertex_bytes count) vertices.now) }
 {
     for vertex in vertices {
-        out.push(state_byte(vertex.state))?;
+        out.push(vertex.state.number())?;
         write_fields(out, &vertex.fields, count)?;
     }
     Ok(())
