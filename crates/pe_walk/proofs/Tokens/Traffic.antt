@@ -455,7 +455,7 @@ flat_length f g k (x ∷ xs) h =
 corners_of : (axes : ℕ) (cell : Place) → length (corner_touches axes cell) ≡ 2 ^ axes
 corners_of axes cell = length-map (range_with_len 0 (2 ^ axes)) (λ k. record { vertex = corner axes cell k; cell = cell }) ∙ length-range_with_len 0 (2 ^ axes)
 
-loads_length : (o : Outlook) (levels : ℕ) (cell : Place) → length (loads_of o levels cell) ≡ 2 ^ o.axes * length (walked_cells o.axes o.way o.walks levels cell)
+pub loads_length : (o : Outlook) (levels : ℕ) (cell : Place) → length (loads_of o levels cell) ≡ 2 ^ o.axes * length (walked_cells o.axes o.way o.walks levels cell)
 loads_length o zero cell = length-reverse (corner_touches o.axes cell) ∙ corners_of o.axes cell ∙ sym (mul-one (2 ^ o.axes))
 loads_length o (suc levels) cell =
     let kids = walked_children o.axes o.way o.walks cell in
@@ -547,7 +547,7 @@ given_up_counts (k ∷ ks) held =
     let more = given_up_counts ks (given_up held) in
     record { same = more.same; fresh = more.fresh; spent = omega (arith, more.spent); out = omega (arith, more.out); most = more.most }
 
-count_none : {X : Type 0} (p : X → Bool) (xs : List X) → Each (λ x. p x ≡ false) xs → count_by p xs ≡ 0
+pub count_none : {X : Type 0} (p : X → Bool) (xs : List X) → Each (λ x. p x ≡ false) xs → count_by p xs ≡ 0
 count_none p [] e = refl
 count_none p (x ∷ xs) e = sum_by-cons (λ y. cond (p y) 1 0) x xs ∙ omega (arith, ap one_if e.0, count_none p xs e.1)
 
