@@ -596,10 +596,27 @@ module _ (o : Outlook) (walked : Place → Bool) (greatest : ℕ) (dim : IsDim o
           pushes = λ s. ap (λ xs. (get_or xs s new_stack).pushes) gone.same ∙ run.moved.pushes s
               ∙ ap₂ (λ a b. a + b) (ap (λ xs. (get_or xs s new_stack).pushes) made.same) (sym (ap (count_by (gives_to o s)) stores ∙ sum_by-append (λ x. cond (gives_to o s x) 1 0) (flat_map (stores_of o l) kids) own
               ∙ omega (arith, count_none (gives_to o s) own (unwritten (λ t. is_stack s (target o t))))));
-          fresh = omega (arith, gone.fresh, run.moved.fresh, made.fresh, many, back, ap (count_by (makes o)) loads,
-              behind_all (makes o) (reverse own) (flat_map (loads_of o l) kids) (Each-weaker _ _ (λ t c. ap (λ b. not (b && not (is_none (source o t)))) c) (reverse own) (root_corners o walked greatest dim grown)));
-          spent = omega (arith, gone.spent, run.moved.spent, made.spent, many, owns, ap (count_by (ends o)) stores, sum_by-append (λ x. cond (ends o x) 1 0) (flat_map (stores_of o l) kids) own,
-              count_all (ends o) own (Each-weaker _ _ (λ t c. ap (λ b. not (b && not (is_none (target o t)))) c) own uncounted));
+          fresh = omega (
+            arith,
+            gone.fresh,
+            run.moved.fresh,
+            made.fresh,
+            many,
+            back,
+            ap (count_by (makes o)) loads,
+            behind_all (makes o) (reverse own) (flat_map (loads_of o l) kids) (Each-weaker _ _ (λ t c. ap (λ b. not (b && not (is_none (source o t)))) c) (reverse own) (root_corners o walked greatest dim grown)),
+          );
+          spent = omega (
+            arith,
+            gone.spent,
+            run.moved.spent,
+            made.spent,
+            many,
+            owns,
+            ap (count_by (ends o)) stores,
+            sum_by-append (λ x. cond (ends o x) 1 0) (flat_map (stores_of o l) kids) own,
+            count_all (ends o) own (Each-weaker _ _ (λ t c. ap (λ b. not (b && not (is_none (target o t)))) c) own uncounted),
+          );
           cell_stacks = run.moved.cell_stacks;
           cell_pops = run.moved.cell_pops;
           cell_pushes = run.moved.cell_pushes;
