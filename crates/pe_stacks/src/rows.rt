@@ -1,5 +1,5 @@
 //! Worked rows of depots, and a caller that knows a depot by its bound alone.
-ghost use Rattle.std.specs.Prelude.{◌≡◌, ℕ, ◌+◌, ◌^◌, ◌<◌, [], ◌∷◌, drop, true, false, IsSome};
+ghost use Rattle.std.specs.Prelude.{◌≡◌, ℕ, ◌+◌, ◌*◌, ◌^◌, ◌<◌, [], ◌∷◌, drop, true, false, IsSome};
 ghost use Rattle.std.specs.Option.{option_map};
 ghost use Rattle.pe_stacks.specs.declared.record.Vertex.{Vertex as AVertex};
 ghost use Rattle.pe_stacks.specs.Corners.{vertex_at, with_vertex};
