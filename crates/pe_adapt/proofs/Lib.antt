@@ -1,3 +1,4 @@
 pub mod CornerPlaces
 pub mod Records
 pub mod Loading
+pub mod Storing

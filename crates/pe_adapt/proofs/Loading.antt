@@ -19,7 +19,7 @@ use Rattle.pe_hang.proofs.Leading.{and_then-fits, follows-map, follows-behind}
 use Rattle.pe_hang.proofs.Moving.{lend-is, pop-may, pop-is}
 use Rattle.pe_adapt.specs.Touches.{Desk, comes, load_as, lent_vertex, popped_vertex}
 
-abbrev desk : {X : Type 0} → (X → VertexRecord) → Holdings X → Family → Desk
+abbrev pub desk : {X : Type 0} → (X → VertexRecord) → Holdings X → Family → Desk
 desk f held family = record { vertices = map_holdings f held; family = family }
 
 module _ {Plan X : Type 0} (f : X → VertexRecord) (set : Setting Plan) (input : ℕ) (place : Place) (held : Holdings X) (family : Family) where

@@ -2,8 +2,6 @@
 use Rattle.std.specs.Prelude.{◌≡◌, ℕ, ℤ, ◌+◌, ◌≤◌, ◌<◌, ◌^◌, ◌⊎◌, List, Option, Some, None}
 use Rattle.pe_base.specs.declared.place.Place.{Place}
 use Rattle.pe_base.specs.Tree.Places.{IsCellPlace, IsDigits, child_at, parent_of}
-use Rattle.pe_base.specs.Acts.Effects.{VertexRecord}
-use Rattle.pe_base.specs.Walk.Core.{Family}
 use Rattle.pe_access.specs.declared.route.Route.{Route}
 use Rattle.pe_access.specs.declared.route.Route.TheVariants.{Stream, Temp}
 use Rattle.pe_stacks.specs.declared.record.Vertex.{Vertex}
@@ -33,10 +31,6 @@ AreStreams spot = (spot.input ≡ 8) × (spot.output ≡ 9) ⊎ (spot.input ≡ 
 abbrev pub stack_of : Route → Option ℕ
 stack_of Stream = None
 stack_of (Temp stack) = Some stack
-
--- a family whose vertex was given up
-abbrev pub nothing_of : Family → Option VertexRecord × Family
-nothing_of family = (None, family)
 
 -- the vertices on their stacks, and what is in hand
 abbrev pub desk_in_hand : {V C : Type 0} → Numbers V C → Holdings (Vertex V) → CornerList (Vertex V) → CellRec C → List ℤ → Desk
