@@ -6,3 +6,5 @@ pub mod Longest
 pub mod Fronts
 -- how the tokens of a text go on from each place
 pub mod Reading
+-- each token of a text is what it says
+pub mod Spans

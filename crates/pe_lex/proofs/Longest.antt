@@ -1,5 +1,5 @@
 -- The longest token at the front of a text, where its kind and length are known.
-use Rattle.std.proofs.Common.{◌≡◌, ◌⊎◌, ℕ, ◌+◌, ◌<◌, ◌≤◌, suc, zero, List, [], ◌∷◌, length, take, Option, Some, None, IfSome, refl, sym, ◌∙◌, ap, inl, inr, arith}
+use Rattle.std.proofs.Common.{◌≡◌, ◌⊎◌, ℕ, ◌<◌, ◌≤◌, suc, zero, List, length, take, Option, Some, None, IfSome, refl, sym, ◌∙◌, ap, inl, inr, arith}
 use Rattle.pe_lex.specs.declared.token.TokenKind.{TokenKind}
 use Rattle.pe_lex.specs.Forms.{kind_of}
 use Rattle.pe_lex.specs.Tokens.{or_shorter, longest_within, longest}

@@ -4,3 +4,5 @@
 pub mod Forms
 -- the longest token at a place, and the tokens of a text
 pub mod Tokens
+-- what each token of a text is
+pub mod Spans

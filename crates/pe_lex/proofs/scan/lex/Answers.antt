@@ -1,8 +1,8 @@
-use Rattle.std.proofs.Common.{◌≡◌, ℕ, ◌+◌, ◌-◌, ◌<◌, ◌≤◌, length, List, ◌∷◌, [], ◌++◌, Some, false, true, drop, get_or, length-drop, sym, ◌∙◌, ap, arith}
+use Rattle.std.proofs.Common.{◌≡◌, ℕ, ◌+◌, ◌<◌, ◌≤◌, length, List, ◌∷◌, [], ◌++◌, Some, false, drop, get_or, length-drop, sym, ◌∙◌, ap, arith}
 use Rattle.std.proofs.lemmas.Grind.{common_steps}
 use Rattle.pe_lex.specs.declared.token.Token.{Token}
 use Rattle.pe_lex.specs.Forms.{is_white}
-use Rattle.pe_lex.specs.Tokens.{Lexes, longest, tokens_from, tokens_of}
+use Rattle.pe_lex.specs.Tokens.{longest, tokens_from}
 use Rattle.pe_lex.proofs.Reading.{after, after_one, token_on}
 use Rattle.pe_lex.proofs.scan.lex.Goals as goal
 

@@ -1,4 +1,4 @@
-use Rattle.std.proofs.Common.{◌≡◌, ℕ, ◌-◌, ◌≤◌, length, drop}
+use Rattle.std.proofs.Common.{◌≡◌, ◌-◌, ◌≤◌, length, drop}
 use Rattle.pe_lex.specs.Tokens.{tokens_from, tokens_of}
 use Rattle.pe_lex.proofs.Reading.{after}
 use Rattle.pe_lex.proofs.scan.lex.Given as goal
