@@ -4,6 +4,8 @@ use Rattle.pe_lex.specs.declared.token.TokenKind.{TokenKind}
 use Rattle.pe_lex.specs.declared.token.TokenKind.TheVariants as kind
 use Rattle.pe_parse.specs.declared.tree.Sign.{Sign}
 use Rattle.pe_parse.specs.declared.tree.Sign.TheVariants as sign
+use Rattle.pe_parse.specs.declared.rank.Rank.{Rank}
+use Rattle.pe_parse.specs.declared.rank.Rank.TheVariants.{Disjunction, Conjunction, Comparison, Sum, Product}
 use Rattle.pe_parse.specs.declared.tree.Prefix.{Prefix}
 use Rattle.pe_parse.specs.declared.tree.Prefix.TheVariants as prefix
 use Rattle.pe_parse.specs.declared.tree.Choice.{Choice}
@@ -17,14 +19,7 @@ use Rattle.pe_parse.specs.declared.tree.Word.{Word}
 use Rattle.pe_parse.specs.Lexemes.{Lexeme, value_of}
 use Rattle.pe_parse.specs.Statements.{Statement, Statements, Assigns, Marks, Prints, Chooses, ChoosesElse, Nothing, Then}
 
--- How tightly signs bind, from the loosest to the tightest.
-pub data Rank : Type 0 where
-  Disjunction : Rank
-  Conjunction : Rank
-  Comparison : Rank
-  Sum : Rank
-  Product : Rank
-
+-- how tightly a sign binds
 abbrev pub rank_of : Sign → Rank
 rank_of sign.Or = Disjunction
 rank_of sign.And = Conjunction
@@ -117,8 +112,8 @@ pub data Spells : Phrase → List Lexeme → Type 0 where
   chain : (r : Rank) {xs ys : List Lexeme} (e : Expr) {link : Sign × Expr} {links : List (Sign × Expr)} → Spells (operand_of r e) xs → Spells (Linked r (link ∷ links)) ys
     → Spells (Chained r (expr.Chain e (link ∷ links))) (xs ++ ys)
   linked_none : (r : Rank) → Spells (Linked r []) []
-  linked : (x : Lexeme) (s : Sign) {xs ys : List Lexeme} {e : Expr} {links : List (Sign × Expr)} → sign_of x.kind ≡ Some s → MayFollow (rank_of s) links → Spells (operand_of (rank_of s) e) xs
-    → Spells (Linked (rank_of s) links) ys → Spells (Linked (rank_of s) ((s, e) ∷ links)) (x ∷ xs ++ ys)
+  linked : (r : Rank) (x : Lexeme) (s : Sign) {xs ys : List Lexeme} {e : Expr} {links : List (Sign × Expr)} → sign_of x.kind ≡ Some s → rank_of s ≡ r → MayFollow r links
+    → Spells (operand_of r e) xs → Spells (Linked r links) ys → Spells (Linked r ((s, e) ∷ links)) (x ∷ xs ++ ys)
   listed_none : Spells (Listed []) []
   listed : (x : Lexeme) {xs ys : List Lexeme} {e : Expr} {es : List Expr} → x.kind ≡ kind.Comma → Spells (Chained Disjunction e) xs → Spells (Listed es) ys → Spells (Listed (e ∷ es)) (x ∷ xs ++ ys)
   assigns : (y z : Lexeme) {xs ys : List Lexeme} {n : Name} {e : Expr} → Names xs n → y.kind ≡ kind.Assign → Spells (Chained Disjunction e) ys → z.kind ≡ kind.Semicolon

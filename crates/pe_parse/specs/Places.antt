@@ -3,7 +3,9 @@ use Rattle.std.specs.Prelude.{ℕ, ◌+◌, ◌==◌, nat_le, Bool, true, false,
 use Rattle.pe_lex.specs.declared.token.TokenKind.{TokenKind}
 use Rattle.pe_lex.specs.declared.token.TokenKind.TheVariants as kind
 use Rattle.pe_parse.specs.declared.tree.Sign.{Sign}
-use Rattle.pe_parse.specs.Grammar.{Rank, Disjunction, Conjunction, Comparison, Sum, Product, rank_of, sign_of}
+use Rattle.pe_parse.specs.declared.rank.Rank.{Rank}
+use Rattle.pe_parse.specs.declared.rank.Rank.TheVariants.{Disjunction, Conjunction, Comparison, Sum, Product}
+use Rattle.pe_parse.specs.Grammar.{rank_of, sign_of}
 
 pub data Frame : Type 0 where
   -- this token must come
@@ -60,9 +62,14 @@ same_rank Sum Sum = true
 same_rank Product Product = true
 same_rank _ _ = false
 
+-- the sign of this rank that a token is
+abbrev pub sign_if : Rank → Option Sign → Option Sign
+sign_if r None = None
+sign_if r (Some sign) = if same_rank r (rank_of sign) then Some sign else None
+
 abbrev pub link_move : Rank → ℕ → Option Sign → Move
 link_move r n None = Skips
-link_move r n (Some sign) = if same_rank r (rank_of sign) then Takes (operand_frames r ++ more_links r n) else Skips
+link_move r n (Some sign) = Takes (operand_frames r ++ more_links r n)
 
 -- the number of a kind of token, to compare kinds
 abbrev pub kind_number : TokenKind → ℕ
@@ -127,7 +134,7 @@ statement_move _ = Skips
 abbrev pub move : Frame → TokenKind → Move
 move (Needs kind) t = if kind_number kind == kind_number t then Takes [] else Refuses
 move Value t = value_move t
-move (Links r n) t = link_move r n (sign_of t)
+move (Links r n) t = link_move r n (sign_if r (sign_of t))
 move Second kind.Dot = Takes (Needs kind.Word ∷ [])
 move Second _ = Skips
 move Ending _ = Skips

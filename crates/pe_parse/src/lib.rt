@@ -2,7 +2,10 @@
 #![tactic(auto)]
 
 mod fault;
+mod rank;
+mod reader;
 mod tree;
 
 pub use fault::ParseFault;
+pub use rank::Rank;
 pub use tree::{Body, Choice, Expr, Name, Prefix, Sign, Stmt, Trigger, Values, Word};
