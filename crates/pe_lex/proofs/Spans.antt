@@ -6,7 +6,7 @@ use Rattle.pe_lex.specs.declared.token.TokenKind.TheVariants.{Word, Number}
 use Rattle.pe_lex.specs.declared.token.Token.{Token}
 use Rattle.pe_lex.specs.Forms.{is_white, Form, AnyWord, AnyNumber, has_form, keywords, patterns, signs, kind_by, kind_of}
 use Rattle.pe_lex.specs.Tokens.{longest, longest_within, or_shorter, with_token, begin_at, tokens_from, tokens_of}
-use Rattle.pe_lex.specs.Spans.{IsTokenOf}
+use Rattle.pe_lex.specs.Spans.{IsTokenOf, AreTokensOf}
 use Rattle.pe_lex.proofs.Longest.{longest_fits}
 
 found_step : (text : List ℕ) (kind : TokenKind) (n most : ℕ) (here : Option TokenKind) → kind_of (take (suc most) text) ≡ here
@@ -25,11 +25,6 @@ found_within text kind n (suc most) h = found_step text kind n most (kind_of (ta
 -- the longest token is of its kind
 pub longest_kind : (text : List ℕ) (kind : TokenKind) (n : ℕ) → longest text ≡ Some (kind, n) → kind_of (take n text) ≡ Some kind
 longest_kind text kind n h = found_within text kind n (length text) h
-
--- each token of a list
-abbrev pub AreTokensOf : List ℕ → List Token → Type 0
-AreTokensOf text [] = Unit {0}
-AreTokensOf text (token ∷ tokens) = IsTokenOf text token × AreTokensOf text tokens
 
 -- what stands from an offset on, where it is known
 record Suffix (text rest : List ℕ) (at : ℕ) : Type 0 where

@@ -1,5 +1,5 @@
 -- How a part of the tokens is read: what one private call says of its part, whatever is open behind it.
-use Rattle.std.specs.Prelude.{ℕ, ◌≡◌, ◌≢◌, ◌≤◌, ◌+◌, ◌-◌, true, List, [], ◌++◌, length, take, drop, Option, Some, None, Result, Ok, Err}
+use Rattle.std.specs.Prelude.{ℕ, ◌≡◌, ◌≢◌, ◌≤◌, ◌<◌, ◌+◌, ◌-◌, true, List, [], ◌∷◌, ◌++◌, length, take, drop, slice_get, Option, Some, None, Result, Ok, Err}
 use Rattle.pe_parse.specs.declared.fault.ParseFault.{ParseFault}
 use Rattle.pe_lex.specs.declared.token.TokenKind.{TokenKind}
 use Rattle.pe_parse.specs.declared.reader.Reader.{Reader}
@@ -7,8 +7,11 @@ use Rattle.pe_parse.specs.declared.fault.ParseFault.TheVariants.{Syntax, Memory}
 use Rattle.pe_parse.specs.Lexemes.{Lexeme, lexemes_of, kind_at, offset_at}
 use Rattle.pe_parse.specs.declared.rank.Rank.{Rank}
 use Rattle.pe_parse.specs.declared.tree.Sign.{Sign}
-use Rattle.pe_parse.specs.Grammar.{Phrase, Spells, sign_of}
-use Rattle.pe_parse.specs.Places.{Frame, nesting, are_counted, sign_if}
+use Rattle.pe_parse.specs.declared.tree.Name.{Name}
+use Rattle.pe_parse.specs.declared.rank.Rank.TheVariants.{Disjunction}
+use Rattle.pe_parse.specs.declared.tree.Expr.{Expr}
+use Rattle.pe_parse.specs.Grammar.{Phrase, Chained, Spells, Names, sign_of}
+use Rattle.pe_parse.specs.Places.{Frame, Needs, Second, expression, nests, nesting, are_counted, sign_if}
 use Rattle.pe_parse.specs.Faults.{fault_from}
 
 -- the tokens from one number to another
@@ -59,3 +62,29 @@ sign_among r (Some kind) = sign_if r (sign_of kind)
 
 abbrev pub sign_at : Rank → List Lexeme → ℕ → Option Sign
 sign_at r xs at = sign_among r (kind_at xs at)
+
+abbrev pub bytes_in : Option Lexeme → List ℕ
+bytes_in None = []
+bytes_in (Some x) = x.bytes
+
+-- what a token spells
+abbrev pub spelled_at : List Lexeme → ℕ → List ℕ
+spelled_at xs at = bytes_in (slice_get xs at)
+
+-- a name was read from its first word on, or a fault was met behind that word
+abbrev pub ReadsName : ℕ → List Lexeme → ℕ → Result (Name × ℕ) ParseFault → Type 0
+ReadsName size xs at (Ok found) = ((depth : ℕ) → depth ≤ 64 → Went size xs (Second ∷ []) [] depth (at + 1) found.1) × (at < found.1) × Names (piece xs at found.1) found.0
+ReadsName size xs at (Err fault) = (depth : ℕ) → depth ≤ 64 → Stopped size xs (Second ∷ []) depth (at + 1) fault
+
+-- an expression was read, and the token that closes it
+pub record Closed (xs : List Lexeme) (closing : TokenKind) (at next : ℕ) (e : Expr) : Type 0 where
+  pub mid : ℕ
+  pub forward : at ≤ mid
+  pub behind : next ≡ mid + 1
+  pub spelled : Spells (Chained Disjunction e) (piece xs at mid)
+  pub closed : kind_at xs mid ≡ Some closing
+
+abbrev pub ReadsClosed : ℕ → List Lexeme → TokenKind → ℕ → ℕ → Result (Expr × ℕ) ParseFault → Type 0
+ReadsClosed size xs closing depth at (Ok found) =
+    ((outer : ℕ) → nests (Needs closing) + outer ≡ depth → Went size xs (expression ++ Needs closing ∷ []) [] outer at found.1) × Closed xs closing at found.1 found.0
+ReadsClosed size xs closing depth at (Err fault) = (outer : ℕ) → nests (Needs closing) + outer ≡ depth → Stopped size xs (expression ++ Needs closing ∷ []) outer at fault

@@ -1,10 +1,12 @@
 //! The tree of a body of the event language, and how it is read from the tokens of a text.
 #![tactic(auto)]
 
+mod expr;
 mod fault;
 mod rank;
 mod reader;
 mod tree;
+mod words;
 
 pub use fault::ParseFault;
 pub use rank::Rank;

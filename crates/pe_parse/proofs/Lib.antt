@@ -1,0 +1,12 @@
+-- The lemmas of reading.
+
+-- what one token does to the frames that are open
+pub mod Steps
+-- parts of the tokens, joined
+pub mod Pieces
+-- what tokens spell
+pub mod Spelled
+-- operands, each read as its rule says
+pub mod Operands
+-- chains, read link by link
+pub mod Chains
