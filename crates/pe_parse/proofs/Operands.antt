@@ -149,6 +149,11 @@ module _ (size : ℕ) (xs : List Lexeme) where
       let x = stands xs at kind.OpenRound is in
       took_stop size xs Value (expression ++ Needs kind.CloseRound ∷ []) kind.OpenRound depth at fault x refl (omega arith) refl refl (read depth (omega arith))
 
+  pub group_answer : (at depth : ℕ) (answer : Result (Expr × ℕ) ParseFault) → depth < 64 → kind_at xs at ≡ Some kind.OpenRound → ReadsClosed size xs kind.CloseRound (depth + 1) (at + 1) answer
+      → ReadsAs Operand size xs (Value ∷ []) depth at answer
+  group_answer at depth (Ok found) limited is read = group_read at found.1 depth found.0 limited is read
+  group_answer at depth (Err fault) limited is stop = group_stop at depth fault limited is stop
+
   pub group_deep : (at depth : ℕ) → 64 ≤ depth → kind_at xs at ≡ Some kind.OpenRound → Stopped size xs (Value ∷ []) depth at (TooDeep (offset_at size xs at))
   group_deep at depth deep is = too_deep size xs Value (expression ++ Needs kind.CloseRound ∷ []) kind.OpenRound depth at (stands xs at kind.OpenRound is) refl (omega arith)
 
@@ -222,3 +227,99 @@ module _ (size : ℕ) (xs : List Lexeme) where
               (went_frame size xs (expression ++ Needs kind.Comma ∷ []) [] (expression ++ Needs kind.CloseRound ∷ []) depth inside behind (omega arith) refl (first.0 (1 + depth) (omega arith)))
               (last.0 depth (omega arith))))),
        subst (λ (ys : List Lexeme). Spells (Operand (expr.Extreme c a b)) ys) (sym whole) (extreme c x.token o.token y.token z.token x.kind o.kind first.1.spelled y.kind last.1.spelled z.kind))
+
+  value_refuses : (o : Option TokenKind) → (o ≡ Some kind.Number → ⊥) → (o ≡ Some kind.Word → ⊥) → (o ≡ Some kind.OpenRound → ⊥) → (o ≡ Some kind.Min → ⊥) → (o ≡ Some kind.Max → ⊥) → (o ≡ Some kind.Abs → ⊥)
+      → (o ≡ Some kind.Minus → ⊥) → (o ≡ Some kind.Not → ⊥) → refuses Value o ≡ true
+  value_refuses None a b c d e f g h = refl
+  value_refuses (Some kind.Number) a b c d e f g h = absurd (a refl)
+  value_refuses (Some kind.Word) a b c d e f g h = absurd (b refl)
+  value_refuses (Some kind.OpenRound) a b c d e f g h = absurd (c refl)
+  value_refuses (Some kind.Min) a b c d e f g h = absurd (d refl)
+  value_refuses (Some kind.Max) a b c d e f g h = absurd (e refl)
+  value_refuses (Some kind.Abs) a b c d e f g h = absurd (f refl)
+  value_refuses (Some kind.Minus) a b c d e f g h = absurd (g refl)
+  value_refuses (Some kind.Not) a b c d e f g h = absurd (h refl)
+  value_refuses (Some _) a b c d e f g h = refl
+
+  -- no operand begins
+  pub operand_none : (at depth : ℕ) → (kind_at xs at ≡ Some kind.Number → ⊥) → (kind_at xs at ≡ Some kind.Word → ⊥) → (kind_at xs at ≡ Some kind.OpenRound → ⊥) → (kind_at xs at ≡ Some kind.Min → ⊥)
+      → (kind_at xs at ≡ Some kind.Max → ⊥) → (kind_at xs at ≡ Some kind.Abs → ⊥) → (kind_at xs at ≡ Some kind.Minus → ⊥) → (kind_at xs at ≡ Some kind.Not → ⊥)
+      → Stopped size xs (Value ∷ []) depth at (Syntax (offset_at size xs at))
+  operand_none at depth a b c d e f g h = refused size xs Value depth at (value_refuses (kind_at xs at) a b c d e f g h)
+
+  pair_refuses : (o : Option TokenKind) → (o ≡ Some kind.OpenRound → ⊥) → refuses Pair o ≡ true
+  pair_refuses None h = refl
+  pair_refuses (Some kind.OpenRound) h = absurd (h refl)
+  pair_refuses (Some _) h = refl
+
+  single_refuses : (o : Option TokenKind) → (o ≡ Some kind.OpenRound → ⊥) → refuses Single o ≡ true
+  single_refuses None h = refl
+  single_refuses (Some kind.OpenRound) h = absurd (h refl)
+  single_refuses (Some _) h = refl
+
+  -- a stop behind min or max
+  choice_stop : (c : Choice) (at depth : ℕ) (fault : ParseFault) → depth ≤ 64 → kind_at xs at ≡ Some (choice_kind c) → Stopped size xs (Pair ∷ []) depth (at + 1) fault → Stopped size xs (Value ∷ []) depth at fault
+  choice_stop c at depth fault limited is stop =
+      let x = stands xs at (choice_kind c) is in
+      took_stop size xs Value (Pair ∷ []) (choice_kind c) depth at fault x (choice_takes c) (omega arith) refl (choice_small c x.token.bytes) stop
+
+  pub extreme_bare : (c : Choice) (at depth : ℕ) (fault : ParseFault) → depth ≤ 64 → kind_at xs at ≡ Some (choice_kind c) → Needed size xs kind.OpenRound (at + 1) (Err fault) → Stopped size xs (Value ∷ []) depth at fault
+  extreme_bare c at depth fault limited is none_ = choice_stop c at depth fault limited is
+      (subst (λ (f : ParseFault). Stopped size xs (Pair ∷ []) depth (at + 1) f) (sym none_.0) (refused size xs Pair depth (at + 1) (pair_refuses (kind_at xs (at + 1)) none_.1)))
+
+  pub extreme_deep : (c : Choice) (at inside depth : ℕ) → depth ≤ 64 → 64 ≤ depth → kind_at xs at ≡ Some (choice_kind c) → Needed size xs kind.OpenRound (at + 1) (Ok inside)
+      → Stopped size xs (Value ∷ []) depth at (TooDeep (offset_at size xs (at + 1)))
+  extreme_deep c at inside depth limited deep is open_ = choice_stop c at depth (TooDeep (offset_at size xs (at + 1))) limited is
+      (too_deep size xs Pair (expression ++ Needs kind.Comma ∷ expression ++ Needs kind.CloseRound ∷ []) kind.OpenRound depth (at + 1) (stands xs (at + 1) kind.OpenRound open_.1) refl (omega arith))
+
+  pair_stop : (c : Choice) (at inside depth : ℕ) (fault : ParseFault) → depth < 64 → kind_at xs at ≡ Some (choice_kind c) → Needed size xs kind.OpenRound (at + 1) (Ok inside)
+      → Stopped size xs (expression ++ Needs kind.Comma ∷ expression ++ Needs kind.CloseRound ∷ []) depth inside fault → Stopped size xs (Value ∷ []) depth at fault
+  pair_stop c at inside depth fault limited is open_ stop = choice_stop c at depth fault (omega arith) is
+      (took_stop size xs Pair (expression ++ Needs kind.Comma ∷ expression ++ Needs kind.CloseRound ∷ []) kind.OpenRound depth (at + 1) fault (stands xs (at + 1) kind.OpenRound open_.1) refl (omega arith) refl refl
+        (subst (λ (n : ℕ). Stopped size xs (expression ++ Needs kind.Comma ∷ expression ++ Needs kind.CloseRound ∷ []) depth n fault) open_.0 stop))
+
+  pub extreme_first : (c : Choice) (at inside depth : ℕ) (fault : ParseFault) → depth < 64 → kind_at xs at ≡ Some (choice_kind c) → Needed size xs kind.OpenRound (at + 1) (Ok inside)
+      → ReadsClosed size xs kind.Comma (depth + 1) inside (Err fault) → Stopped size xs (Value ∷ []) depth at fault
+  extreme_first c at inside depth fault limited is open_ stop = pair_stop c at inside depth fault limited is open_
+      (stop_frame size xs (expression ++ Needs kind.Comma ∷ []) (expression ++ Needs kind.CloseRound ∷ []) depth inside fault (omega arith) refl (stop (1 + depth) (omega arith)))
+
+  pub extreme_second : (c : Choice) (at inside behind depth : ℕ) (a : Expr) (fault : ParseFault) → depth < 64 → kind_at xs at ≡ Some (choice_kind c) → Needed size xs kind.OpenRound (at + 1) (Ok inside)
+      → ReadsClosed size xs kind.Comma (depth + 1) inside (Ok (a, behind)) → ReadsClosed size xs kind.CloseRound (depth + 1) behind (Err fault) → Stopped size xs (Value ∷ []) depth at fault
+  extreme_second c at inside behind depth a fault limited is open_ first stop = pair_stop c at inside depth fault limited is open_
+      (stop_after size xs (expression ++ Needs kind.Comma ∷ expression ++ Needs kind.CloseRound ∷ []) (expression ++ Needs kind.CloseRound ∷ []) depth inside behind fault
+        (went_frame size xs (expression ++ Needs kind.Comma ∷ []) [] (expression ++ Needs kind.CloseRound ∷ []) depth inside behind (omega arith) refl (first.0 (1 + depth) (omega arith)))
+        (stop depth (omega arith)))
+
+  -- a stop behind abs
+  single_stop : (at depth : ℕ) (fault : ParseFault) → depth ≤ 64 → kind_at xs at ≡ Some kind.Abs → Stopped size xs (Single ∷ []) depth (at + 1) fault → Stopped size xs (Value ∷ []) depth at fault
+  single_stop at depth fault limited is stop = took_stop size xs Value (Single ∷ []) kind.Abs depth at fault (stands xs at kind.Abs is) refl (omega arith) refl refl stop
+
+  pub absolute_bare : (at depth : ℕ) (fault : ParseFault) → depth ≤ 64 → kind_at xs at ≡ Some kind.Abs → Needed size xs kind.OpenRound (at + 1) (Err fault) → Stopped size xs (Value ∷ []) depth at fault
+  absolute_bare at depth fault limited is none_ = single_stop at depth fault limited is
+      (subst (λ (f : ParseFault). Stopped size xs (Single ∷ []) depth (at + 1) f) (sym none_.0) (refused size xs Single depth (at + 1) (single_refuses (kind_at xs (at + 1)) none_.1)))
+
+  pub absolute_deep : (at inside depth : ℕ) → depth ≤ 64 → 64 ≤ depth → kind_at xs at ≡ Some kind.Abs → Needed size xs kind.OpenRound (at + 1) (Ok inside) → Stopped size xs (Value ∷ []) depth at (TooDeep (offset_at size xs (at + 1)))
+  absolute_deep at inside depth limited deep is open_ = single_stop at depth (TooDeep (offset_at size xs (at + 1))) limited is
+      (too_deep size xs Single (expression ++ Needs kind.CloseRound ∷ []) kind.OpenRound depth (at + 1) (stands xs (at + 1) kind.OpenRound open_.1) refl (omega arith))
+
+  pub absolute_stop : (at inside depth : ℕ) (fault : ParseFault) → depth < 64 → kind_at xs at ≡ Some kind.Abs → Needed size xs kind.OpenRound (at + 1) (Ok inside)
+      → ReadsClosed size xs kind.CloseRound (depth + 1) inside (Err fault) → Stopped size xs (Value ∷ []) depth at fault
+  absolute_stop at inside depth fault limited is open_ stop = single_stop at depth fault (omega arith) is
+      (took_stop size xs Single (expression ++ Needs kind.CloseRound ∷ []) kind.OpenRound depth (at + 1) fault (stands xs (at + 1) kind.OpenRound open_.1) refl (omega arith) refl refl
+        (subst (λ (n : ℕ). Stopped size xs (expression ++ Needs kind.CloseRound ∷ []) depth n fault) open_.0 (stop depth (omega arith))))
+
+  pub absolute_read : (at inside next depth : ℕ) (e : Expr) → depth < 64 → kind_at xs at ≡ Some kind.Abs → Needed size xs kind.OpenRound (at + 1) (Ok inside)
+      → ReadsClosed size xs kind.CloseRound (depth + 1) inside (Ok (e, next)) → ReadsAs Operand size xs (Value ∷ []) depth at (Ok (expr.Abs e, next))
+  absolute_read at inside next depth e limited is open_ read =
+      let x = stands xs at kind.Abs is in
+      let o = stands xs (at + 1) kind.OpenRound open_.1 in
+      let y = stands xs read.1.mid kind.CloseRound read.1.closed in
+      let inside_is = open_.0 in let forward = read.1.forward in let behind = read.1.behind in
+      let whole : piece xs at next ≡ x.token ∷ o.token ∷ piece xs inside read.1.mid ++ y.token ∷ [] =
+        ap (piece xs at) behind ∙ piece_snoc xs at read.1.mid y.token y.is (omega arith)
+        ∙ ap (λ (ys : List Lexeme). ys ++ y.token ∷ []) (piece_cons xs at read.1.mid x.token x.is (omega arith) ∙ ap (λ (ys : List Lexeme). x.token ∷ ys) (piece_cons xs (at + 1) read.1.mid o.token o.is (omega arith)
+          ∙ ap (λ (n : ℕ). o.token ∷ piece xs n read.1.mid) (sym inside_is))) in
+      (took size xs Value (Single ∷ []) [] kind.Abs depth at next x refl (omega arith) refl refl
+        (took size xs Single (expression ++ Needs kind.CloseRound ∷ []) [] kind.OpenRound depth (at + 1) next o refl (omega arith) refl refl
+          (subst (λ (n : ℕ). Went size xs (expression ++ Needs kind.CloseRound ∷ []) [] depth n next) inside_is (read.0 depth (omega arith)))),
+       subst (λ (ys : List Lexeme). Spells (Operand (expr.Abs e)) ys) (sym whole) (absolute x.token o.token y.token x.kind o.kind read.1.spelled y.kind))

@@ -235,6 +235,17 @@ pub stop_frame : (size : ℕ) (xs : List Lexeme) (f es : List Frame) (depth at :
 stop_frame size xs f es depth at fault fits counted stop = λ fs behind.
     subst (λ (fr : List Frame). IsFault (fault_from size fr (drop at xs)) fault) (sym (append_assoc f es fs)) (stop (es ++ fs) (behind_more depth es fs fits counted behind))
 
+-- the same, with frames that nest nothing
+pub went_beside : (size : ℕ) (xs : List Lexeme) (f g es : List Frame) (depth at next : ℕ) → nesting es ≡ 0 → depth ≤ 64 → are_counted es ≡ true → Went size xs f g depth at next → Went size xs (f ++ es) (g ++ es) depth at next
+went_beside size xs f g es depth at next flat limited counted went =
+    let same : depth ≡ nesting es + depth = omega arith in
+    went_frame size xs f g es depth at next (omega arith) counted (subst (λ (d : ℕ). Went size xs f g d at next) same went)
+
+pub stop_beside : (size : ℕ) (xs : List Lexeme) (f es : List Frame) (depth at : ℕ) (fault : ParseFault) → nesting es ≡ 0 → depth ≤ 64 → are_counted es ≡ true → Stopped size xs f depth at fault → Stopped size xs (f ++ es) depth at fault
+stop_beside size xs f es depth at fault flat limited counted stop =
+    let same : depth ≡ nesting es + depth = omega arith in
+    stop_frame size xs f es depth at fault (omega arith) counted (subst (λ (d : ℕ). Stopped size xs f d at fault) same stop)
+
 kinds : List TokenKind
 kinds =
     kind.Word ∷ kind.Number ∷ kind.If ∷ kind.Else ∷ kind.Refine ∷ kind.Erase ∷ kind.Print ∷ kind.Min ∷ kind.Max ∷ kind.Abs ∷ kind.Assign ∷ kind.Equal ∷ kind.NotEqual ∷ kind.Not

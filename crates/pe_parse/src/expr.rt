@@ -88,7 +88,6 @@ impl<'a> Reader<'a> {
     pub(crate) fn closed(&self, closing: TokenKind, at: usize, depth: usize) -> Found<Expr>
         requires tokens { AreTokensOf self.now.text.now self.now.tokens.now }
         requires shallow { depth ≤ 64 }
-        requires within { at ≤ length self.now.tokens.now }
         requires closes { (bytes : List ℕ) → is_too_large closing bytes ≡ false }
         ensures { ReadsClosed (size_of self.now) (seen self.now) closing depth at result }
     {
@@ -109,10 +108,11 @@ impl<'a> Reader<'a> {
         requires kind { kind_at (seen self.now) at ≡ Some kind.OpenRound }
         ensures { ReadsAs Operand (size_of self.now) (seen self.now) (Value ∷ []) depth at result }
     {
+        let inside = at + 1;
         if depth >= DEEPEST {
             return Err(ParseFault::TooDeep { at: self.offset(at) });
         }
-        self.closed(TokenKind::CloseRound, at + 1, depth + 1)
+        self.closed(TokenKind::CloseRound, inside, depth + 1)
     }
 
     #[cycle(expr)]
@@ -122,10 +122,11 @@ impl<'a> Reader<'a> {
         requires kind { kind_at (seen self.now) at ≡ Some (prefix_kind prefix) }
         ensures { ReadsAs Operand (size_of self.now) (seen self.now) (Value ∷ []) depth at result }
     {
+        let behind = at + 1;
         if depth >= DEEPEST {
             return Err(ParseFault::TooDeep { at: self.offset(at) });
         }
-        let (operand, next) = match self.operand(at + 1, depth + 1) {
+        let (operand, next) = match self.operand(behind, depth + 1) {
             Ok(found) => found,
             Err(fault) => return Err(fault),
         };
