@@ -19,7 +19,7 @@ use Rattle.pe_parse.specs.Grammar.{Spells, Names, plain, dotted, Operand, Chaine
 use Rattle.pe_parse.specs.Places.{Frame, Needs, Value, Second, Ending, Pair, Single, Takes, move, expression, nests, nesting, are_counted}
 use Rattle.pe_parse.specs.Faults.{is_too_large}
 use Rattle.pe_parse.specs.Reading.{piece, bytes_in, spelled_at, Went, Stopped, Needed, Closed, ReadsName, ReadsAs, ReadsClosed}
-use Rattle.pe_parse.proofs.Steps.{Stands, stands, at_within, took, took_stop, went_here, too_deep, too_large, skips, refuses, skipped, refused, went_trans, went_frame, stop_after, stop_frame, needed, missing}
+use Rattle.pe_parse.proofs.Steps.{Stands, stands, at_within, took, took_stop, went_here, too_deep, too_large, skips, refuses, is_refuse, skipped, refused, went_trans, went_frame, stop_after, stop_frame, needed, missing}
 use Rattle.pe_parse.proofs.Pieces.{piece_cons, piece_single, piece_snoc, piece_join}
 
 module _ (size : ℕ) (xs : List Lexeme) where
@@ -228,24 +228,21 @@ module _ (size : ℕ) (xs : List Lexeme) where
               (last.0 depth (omega arith))))),
        subst (λ (ys : List Lexeme). Spells (Operand (expr.Extreme c a b)) ys) (sym whole) (extreme c x.token o.token y.token z.token x.kind o.kind first.1.spelled y.kind last.1.spelled z.kind))
 
-  value_refuses : (o : Option TokenKind) → (o ≡ Some kind.Number → ⊥) → (o ≡ Some kind.Word → ⊥) → (o ≡ Some kind.OpenRound → ⊥) → (o ≡ Some kind.Min → ⊥) → (o ≡ Some kind.Max → ⊥) → (o ≡ Some kind.Abs → ⊥)
-      → (o ≡ Some kind.Minus → ⊥) → (o ≡ Some kind.Not → ⊥) → refuses Value o ≡ true
-  value_refuses None a b c d e f g h = refl
-  value_refuses (Some kind.Number) a b c d e f g h = absurd (a refl)
-  value_refuses (Some kind.Word) a b c d e f g h = absurd (b refl)
-  value_refuses (Some kind.OpenRound) a b c d e f g h = absurd (c refl)
-  value_refuses (Some kind.Min) a b c d e f g h = absurd (d refl)
-  value_refuses (Some kind.Max) a b c d e f g h = absurd (e refl)
-  value_refuses (Some kind.Abs) a b c d e f g h = absurd (f refl)
-  value_refuses (Some kind.Minus) a b c d e f g h = absurd (g refl)
-  value_refuses (Some kind.Not) a b c d e f g h = absurd (h refl)
-  value_refuses (Some _) a b c d e f g h = refl
+  value_refuses : (k : TokenKind) → (k ≡ kind.Number → ⊥) → (k ≡ kind.Word → ⊥) → (k ≡ kind.OpenRound → ⊥) → (k ≡ kind.Min → ⊥) → (k ≡ kind.Max → ⊥) → (k ≡ kind.Abs → ⊥) → (k ≡ kind.Minus → ⊥) → (k ≡ kind.Not → ⊥) → is_refuse (move Value k) ≡ true
+  value_refuses kind.Number a b c d e f g h = absurd (a refl)
+  value_refuses kind.Word a b c d e f g h = absurd (b refl)
+  value_refuses kind.OpenRound a b c d e f g h = absurd (c refl)
+  value_refuses kind.Min a b c d e f g h = absurd (d refl)
+  value_refuses kind.Max a b c d e f g h = absurd (e refl)
+  value_refuses kind.Abs a b c d e f g h = absurd (f refl)
+  value_refuses kind.Minus a b c d e f g h = absurd (g refl)
+  value_refuses kind.Not a b c d e f g h = absurd (h refl)
+  value_refuses _ a b c d e f g h = refl
 
   -- no operand begins
-  pub operand_none : (at depth : ℕ) → (kind_at xs at ≡ Some kind.Number → ⊥) → (kind_at xs at ≡ Some kind.Word → ⊥) → (kind_at xs at ≡ Some kind.OpenRound → ⊥) → (kind_at xs at ≡ Some kind.Min → ⊥)
-      → (kind_at xs at ≡ Some kind.Max → ⊥) → (kind_at xs at ≡ Some kind.Abs → ⊥) → (kind_at xs at ≡ Some kind.Minus → ⊥) → (kind_at xs at ≡ Some kind.Not → ⊥)
+  pub operand_none : (at depth : ℕ) (k : TokenKind) → kind_at xs at ≡ Some k → (k ≡ kind.Number → ⊥) → (k ≡ kind.Word → ⊥) → (k ≡ kind.OpenRound → ⊥) → (k ≡ kind.Min → ⊥) → (k ≡ kind.Max → ⊥) → (k ≡ kind.Abs → ⊥) → (k ≡ kind.Minus → ⊥) → (k ≡ kind.Not → ⊥)
       → Stopped size xs (Value ∷ []) depth at (Syntax (offset_at size xs at))
-  operand_none at depth a b c d e f g h = refused size xs Value depth at (value_refuses (kind_at xs at) a b c d e f g h)
+  operand_none at depth k is a b c d e f g h = refused size xs Value depth at (ap (refuses Value) is ∙ value_refuses k a b c d e f g h)
 
   pair_refuses : (o : Option TokenKind) → (o ≡ Some kind.OpenRound → ⊥) → refuses Pair o ≡ true
   pair_refuses None h = refl
@@ -323,3 +320,6 @@ module _ (size : ℕ) (xs : List Lexeme) where
         (took size xs Single (expression ++ Needs kind.CloseRound ∷ []) [] kind.OpenRound depth (at + 1) next o refl (omega arith) refl refl
           (subst (λ (n : ℕ). Went size xs (expression ++ Needs kind.CloseRound ∷ []) [] depth n next) inside_is (read.0 depth (omega arith)))),
        subst (λ (ys : List Lexeme). Spells (Operand (expr.Abs e)) ys) (sym whole) (absolute x.token o.token y.token x.kind o.kind read.1.spelled y.kind))
+
+  pub operand_end : (at depth : ℕ) → kind_at xs at ≡ None → Stopped size xs (Value ∷ []) depth at (Syntax (offset_at size xs at))
+  operand_end at depth none_ = refused size xs Value depth at (ap (refuses Value) none_)

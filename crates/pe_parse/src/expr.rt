@@ -194,15 +194,18 @@ impl<'a> Reader<'a> {
         requires shallow { depth ≤ 64 }
         ensures { ReadsAs Operand (size_of self.now) (seen self.now) (Value ∷ []) depth at result }
     {
-        match self.kind(at) {
-            Some(TokenKind::Number) => self.number(at),
-            Some(TokenKind::Word) => self.named(at),
-            Some(TokenKind::OpenRound) => self.group(at, depth),
-            Some(TokenKind::Min) => self.extreme(Choice::Min, at, depth),
-            Some(TokenKind::Max) => self.extreme(Choice::Max, at, depth),
-            Some(TokenKind::Abs) => self.absolute(at, depth),
-            Some(TokenKind::Minus) => self.prefixed(Prefix::Minus, at, depth),
-            Some(TokenKind::Not) => self.prefixed(Prefix::Not, at, depth),
+        let Some(kind) = self.kind(at) else {
+            return Err(ParseFault::Syntax { at: self.offset(at) });
+        };
+        match kind {
+            TokenKind::Number => self.number(at),
+            TokenKind::Word => self.named(at),
+            TokenKind::OpenRound => self.group(at, depth),
+            TokenKind::Min => self.extreme(Choice::Min, at, depth),
+            TokenKind::Max => self.extreme(Choice::Max, at, depth),
+            TokenKind::Abs => self.absolute(at, depth),
+            TokenKind::Minus => self.prefixed(Prefix::Minus, at, depth),
+            TokenKind::Not => self.prefixed(Prefix::Not, at, depth),
             _ => Err(ParseFault::Syntax { at: self.offset(at) }),
         }
     }

@@ -11,10 +11,13 @@ use Rattle.pe_parse.specs.declared.tree.Expr.TheVariants as expr
 use Rattle.pe_parse.specs.Grammar.{Chained, Operand}
 use Rattle.pe_parse.specs.Places.{Value, chain_frames, expression}
 use Rattle.pe_parse.specs.Reading.{seen, size_of, ReadsAs, Stopped, sign_at}
-use Rattle.pe_parse.proofs.Operands.{closed_read, closed_stop, closed_missing, group_read, group_stop, group_deep, prefixed_read, prefixed_stop, prefixed_deep, extreme_read, extreme_bare, extreme_deep, extreme_first, extreme_second, absolute_bare, absolute_deep, absolute_stop, absolute_read, operand_none, group_answer}
+use Rattle.pe_parse.proofs.Operands.{closed_read, closed_stop, closed_missing, group_read, group_stop, group_deep, prefixed_read, prefixed_stop, prefixed_deep, extreme_read, extreme_bare, extreme_deep, extreme_first, extreme_second, absolute_bare, absolute_deep, absolute_stop, absolute_read, operand_none, operand_end, group_answer}
 use Rattle.pe_parse.proofs.Chains.{Linking, first_read, first_stop, link_read, link_stop, link_many, single_read, chain_read, comparison_bare, comparison_stop, comparison_read}
 use Rattle.pe_parse.proofs.reader.Reader.+expr.Goals as goal
-use Rattle.pe_parse.proofs.reader.Reader.+expr.Goals.{operand-in_default-via-in-Some+in_default, operand-in_default-via-in_default}
+
+no_links : (ls : List (Sign × Expr)) → length ls ≡ 0 → ls ≡ []
+no_links [] h = refl
+no_links (l ∷ ls) h = absurd (omega arith)
 
 pub absolute-returns-in-Err : goal.absolute-returns-in-Err
 absolute-returns-in-Err t c =
@@ -58,21 +61,22 @@ chain-returns-in-Err-tighter t c =
 
 pub chain-loop-sign-preserved : goal.chain-loop-sign-preserved
 chain-loop-sign-preserved t c =
-    let pushed : c.push.new.self.items ≡ c.loop-sign.links.items ++ (c.in-Some.sign, c.in-Ok-tighter.found.0) ∷ [] = ? in
+    let pushed : c.push.new.self.items ≡ c.loop-sign.links.items ++ (c.in-Some.sign, c.in-Ok-tighter.found.0) ∷ [] = grind (arith, common_steps) in
     subst (λ (ls : List (Sign × Expr)). Linking (size_of c.args.self.now) (seen c.args.self.now) c.args.rank c.args.depth c.args.at c.in-Ok-tighter.found.1 c.loop-sign.first-1 ls) (sym pushed)
       (link_read (size_of c.args.self.now) (seen c.args.self.now) c.args.rank c.args.depth c.args.at c.requires.shallow c.requires.many c.loop-sign.next c.loop-sign.first-1 c.loop-sign.links.items c.loop-sign.invariant c.in-Some.sign c.in-Ok-tighter.found.1 c.in-Ok-tighter.found.0 (omega (arith, c.len.ensures)) (sym c.sign.ensures ∙ c.in-Some.is) c.in-Ok-tighter.ensures)
 
 pub chain-returns-then-is_empty : goal.chain-returns-then-is_empty
 chain-returns-then-is_empty t c =
-    let none_ : sign_at c.args.rank (seen c.args.self.now) c.loop-sign.next ≡ None = ? in
-    single_read (size_of c.args.self.now) (seen c.args.self.now) c.args.rank c.args.depth c.args.at c.requires.shallow c.requires.many c.loop-sign.next c.loop-sign.first-1 c.loop-sign.links.items c.loop-sign.invariant ? none_
+    let none_ : sign_at c.args.rank (seen c.args.self.now) c.loop-sign.next ≡ None = sym c.in_default.ensures in
+    single_read (size_of c.args.self.now) (seen c.args.self.now) c.args.rank c.args.depth c.args.at c.requires.shallow c.requires.many c.loop-sign.next c.loop-sign.first-1 c.loop-sign.links.items c.loop-sign.invariant (no_links c.loop-sign.links.items (grind (arith, common_steps))) none_
 
 pub chain-returns-in-Ok-boxed : goal.chain-returns-in-Ok-boxed
 chain-returns-in-Ok-boxed t c =
-    let none_ : sign_at c.args.rank (seen c.args.self.now) c.loop-sign.next ≡ None = ? in
-    let some : 0 < length c.loop-sign.links.items = ? in
+    let none_ : sign_at c.args.rank (seen c.args.self.now) c.loop-sign.next ≡ None = sym c.in_default.ensures in
+    let some : 0 < length c.loop-sign.links.items = grind (arith, common_steps) in
     let whole = chain_read (size_of c.args.self.now) (seen c.args.self.now) c.args.rank c.args.depth c.args.at c.requires.shallow c.requires.many c.loop-sign.next c.loop-sign.first-1 c.loop-sign.links.items c.loop-sign.invariant some none_ in
-    ?
+    subst (λ (e : Expr). ReadsAs (Chained c.args.rank) (size_of c.args.self.now) (seen c.args.self.now) (chain_frames c.args.rank) c.args.depth c.args.at (Ok (expr.Chain e c.new.result, c.loop-sign.next))) (sym c.in-Ok-boxed.ensures)
+      (subst (λ (ls : List (Sign × Expr)). ReadsAs (Chained c.args.rank) (size_of c.args.self.now) (seen c.args.self.now) (chain_frames c.args.rank) c.args.depth c.args.at (Ok (expr.Chain c.loop-sign.first-1 ls, c.loop-sign.next))) (sym c.new.ensures) whole)
 
 pub closed-returns-in-Ok-needs : goal.closed-returns-in-Ok-needs
 closed-returns-in-Ok-needs t c =
@@ -88,7 +92,7 @@ closed-returns-in-Err-needs t c =
 
 pub comparison-returns-in_default : goal.comparison-returns-in_default
 comparison-returns-in_default t c =
-    let none_ : sign_at Comparison (seen c.args.self.now) c.in-Ok.found.1 ≡ None = ? in
+    let none_ : sign_at Comparison (seen c.args.self.now) c.in-Ok.found.1 ≡ None = sym c.in_default.ensures in
     comparison_bare (size_of c.args.self.now) (seen c.args.self.now) c.args.depth c.args.at c.in-Ok.found.1 c.in-Ok.found.0 c.requires.shallow c.in-Ok.ensures none_
 
 pub comparison-returns-in-Err-chain : goal.comparison-returns-in-Err-chain
@@ -98,8 +102,9 @@ comparison-returns-in-Err-chain t c =
 pub comparison-returns-in-Ok-boxed : goal.comparison-returns-in-Ok-boxed
 comparison-returns-in-Ok-boxed t c =
     let whole = comparison_read (size_of c.args.self.now) (seen c.args.self.now) c.args.depth c.args.at c.in-Ok.found.1 c.in-Ok.found.0 c.requires.shallow c.in-Ok.ensures c.in-Some.sign (sym c.sign.ensures ∙ c.in-Some.is) c.in-Ok-chain.found.1 c.in-Ok-chain.found.0 c.in-Ok-chain.ensures in
-    let pushed : c.push.new.self.items ≡ (c.in-Some.sign, c.in-Ok-chain.found.0) ∷ [] = ? in
-    ?
+    let pushed : c.push.new.self.items ≡ (c.in-Some.sign, c.in-Ok-chain.found.0) ∷ [] = grind (arith, common_steps) in
+    subst (λ (e : Expr). ReadsAs (Chained Comparison) (size_of c.args.self.now) (seen c.args.self.now) (chain_frames Comparison) c.args.depth c.args.at (Ok (expr.Chain e c.new.result, c.in-Ok-chain.found.1))) (sym c.in-Ok-boxed.ensures)
+      (subst (λ (ls : List (Sign × Expr)). ReadsAs (Chained Comparison) (size_of c.args.self.now) (seen c.args.self.now) (chain_frames Comparison) c.args.depth c.args.at (Ok (expr.Chain c.in-Ok.found.0 ls, c.in-Ok-chain.found.1))) (sym (c.new.ensures ∙ pushed)) whole)
 
 pub extreme-returns-in-Err : goal.extreme-returns-in-Err
 extreme-returns-in-Err t c =
@@ -147,7 +152,14 @@ group-returns t c =
 
 pub operand-returns-in_default : goal.operand-returns-in_default
 operand-returns-in_default t c =
-    ? 
+    subst (λ (n : ℕ). Stopped (size_of c.args.self.now) (seen c.args.self.now) (Value ∷ []) c.args.depth c.args.at (Syntax n)) (sym c.offset.ensures)
+      (operand_end (size_of c.args.self.now) (seen c.args.self.now) c.args.at c.args.depth (sym c.in_default.ensures))
+
+pub operand-returns-in_default-kind : goal.operand-returns-in_default-kind
+operand-returns-in_default-kind t c =
+    let o = c.in_default-kind in
+    subst (λ (n : ℕ). Stopped (size_of c.args.self.now) (seen c.args.self.now) (Value ∷ []) c.args.depth c.args.at (Syntax n)) (sym c.offset-in_default-kind.ensures)
+      (operand_none (size_of c.args.self.now) (seen c.args.self.now) c.args.at c.args.depth c.in-Some.kind (sym c.in-Some.ensures) o.not-Number o.not-Word o.not-OpenRound o.not-Min o.not-Max o.not-Abs o.not-Minus o.not-Not)
 
 pub prefixed-returns-then-depth-ge-DEEPEST : goal.prefixed-returns-then-depth-ge-DEEPEST
 prefixed-returns-then-depth-ge-DEEPEST t c =
