@@ -10,3 +10,7 @@ pub mod Spelled
 pub mod Operands
 -- chains, read link by link
 pub mod Chains
+-- statements, each read as its rule says
+pub mod Bodies
+-- statements in braces, conditions, and statements one after another
+pub mod Blocks

@@ -10,8 +10,13 @@ use Rattle.pe_parse.specs.declared.tree.Sign.{Sign}
 use Rattle.pe_parse.specs.declared.tree.Name.{Name}
 use Rattle.pe_parse.specs.declared.rank.Rank.TheVariants.{Disjunction}
 use Rattle.pe_parse.specs.declared.tree.Expr.{Expr}
-use Rattle.pe_parse.specs.Grammar.{Phrase, Chained, Spells, Names, sign_of}
-use Rattle.pe_parse.specs.Places.{Frame, Needs, Second, expression, nests, nesting, are_counted, sign_if}
+use Rattle.pe_parse.specs.declared.tree.Values.{Values}
+use Rattle.pe_parse.specs.declared.tree.Stmt.{Stmt}
+use Rattle.pe_lex.specs.declared.token.TokenKind.TheVariants as kind
+use Rattle.pe_parse.specs.Statements.{Statements, statement_of, statements_of}
+use Rattle.pe_parse.specs.Places as frame
+use Rattle.pe_parse.specs.Grammar.{Phrase, Chained, Listed, One, All, Spells, Names, sign_of}
+use Rattle.pe_parse.specs.Places.{Frame, Needs, Second, Block, Sequence, expression, nests, nesting, are_counted, sign_if}
 use Rattle.pe_parse.specs.Faults.{fault_from}
 
 -- the tokens from one number to another
@@ -88,3 +93,45 @@ abbrev pub ReadsClosed : ℕ → List Lexeme → TokenKind → ℕ → ℕ → R
 ReadsClosed size xs closing depth at (Ok found) =
     ((outer : ℕ) → nests (Needs closing) + outer ≡ depth → Went size xs (expression ++ Needs closing ∷ []) [] outer at found.1) × Closed xs closing at found.1 found.0
 ReadsClosed size xs closing depth at (Err fault) = (outer : ℕ) → nests (Needs closing) + outer ≡ depth → Stopped size xs (expression ++ Needs closing ∷ []) outer at fault
+
+-- the values of a print from a token on: the first, and the others behind their commas
+pub record ValuesAt (xs : List Lexeme) (at next : ℕ) (items : List Expr) : Type 0 where
+  pub first : Expr
+  pub others : List Expr
+  pub are : items ≡ first ∷ others
+  pub mid : ℕ
+  pub forward : at ≤ mid
+  pub behind : mid ≤ next
+  pub spelled_first : Spells (Chained Disjunction first) (piece xs at mid)
+  pub spelled : Spells (Listed others) (piece xs mid next)
+
+abbrev pub ReadsValues : ℕ → List Lexeme → ℕ → ℕ → Result (Values × ℕ) ParseFault → Type 0
+ReadsValues size xs depth at (Ok found) = Went size xs (expression ++ frame.Values 1 ∷ []) [] depth at found.1 × ValuesAt xs at found.1 found.0.items
+ReadsValues size xs depth at (Err fault) = Stopped size xs (expression ++ frame.Values 1 ∷ []) depth at fault
+
+-- statements in braces from a token on
+pub record BlockAt (xs : List Lexeme) (at next : ℕ) (ss : Statements) : Type 0 where
+  pub opened : kind_at xs at ≡ Some kind.OpenCurly
+  pub mid : ℕ
+  pub forward : at + 1 ≤ mid
+  pub behind : next ≡ mid + 1
+  pub spelled : Spells (All ss) (piece xs (at + 1) mid)
+  pub closed : kind_at xs mid ≡ Some kind.CloseCurly
+
+abbrev pub ReadsBlock : ℕ → List Lexeme → ℕ → ℕ → Result (List Stmt × ℕ) ParseFault → Type 0
+ReadsBlock size xs depth at (Ok found) = Went size xs (Block ∷ []) [] depth at found.1 × BlockAt xs at found.1 (statements_of found.0)
+ReadsBlock size xs depth at (Err fault) = Stopped size xs (Block ∷ []) depth at fault
+
+-- a statement was read, behind which others may come
+abbrev pub ReadStatement : ℕ → List Lexeme → ℕ → ℕ → Stmt × ℕ → Type 0
+ReadStatement size xs depth at found = Went size xs (Sequence ∷ []) (Sequence ∷ []) depth at found.1 × (at < found.1) × Spells (One (statement_of found.0)) (piece xs at found.1)
+
+abbrev pub ReadsStatement : ℕ → List Lexeme → ℕ → ℕ → Result (Stmt × ℕ) ParseFault → Type 0
+ReadsStatement size xs depth at (Ok found) = ReadStatement size xs depth at found
+ReadsStatement size xs depth at (Err fault) = Stopped size xs (Sequence ∷ []) depth at fault
+
+-- the same, where a statement may begin
+abbrev pub MayRead : ℕ → List Lexeme → ℕ → ℕ → Result (Option (Stmt × ℕ)) ParseFault → Type 0
+MayRead size xs depth at (Ok None) = (at ≤ length xs) → Went size xs (Sequence ∷ []) [] depth at at
+MayRead size xs depth at (Ok (Some found)) = ReadStatement size xs depth at found
+MayRead size xs depth at (Err fault) = Stopped size xs (Sequence ∷ []) depth at fault

@@ -5,6 +5,7 @@ mod expr;
 mod fault;
 mod rank;
 mod reader;
+mod stmt;
 mod tree;
 mod words;
 
