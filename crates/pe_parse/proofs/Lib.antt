@@ -14,3 +14,5 @@ pub mod Chains
 pub mod Bodies
 -- statements in braces, conditions, and statements one after another
 pub mod Blocks
+-- a whole body
+pub mod Whole

@@ -21,6 +21,10 @@ lexeme_at text [] at d h = absurd (omega arith)
 lexeme_at text (t ∷ ts) zero d h = refl
 lexeme_at text (t ∷ ts) (suc at) d h = lexeme_at text ts at d (omega arith)
 
+pub lexemes_length : (text : List ℕ) (tokens : List Token) → length (lexemes_of text tokens) ≡ length tokens
+lexemes_length text [] = refl
+lexemes_length text (t ∷ ts) = ap suc (lexemes_length text ts)
+
 pub spelled_is : (text : List ℕ) (tokens : List Token) (at : ℕ) (d : Token) → at < length tokens → (lexeme_of text (get_or tokens at d)).bytes ≡ spelled_at (lexemes_of text tokens) at
 spelled_is text tokens at d h = sym (ap bytes_in (lexeme_at text tokens at d h))
 

@@ -4,6 +4,7 @@
 mod expr;
 mod fault;
 mod rank;
+mod read;
 mod reader;
 mod stmt;
 mod tree;
@@ -11,4 +12,5 @@ mod words;
 
 pub use fault::ParseFault;
 pub use rank::Rank;
+pub use read::parse;
 pub use tree::{Body, Choice, Expr, Name, Prefix, Sign, Stmt, Trigger, Values, Word};

@@ -11,6 +11,7 @@ use pe_lex::{Token, TokenKind};
 use std::alloc::Global;
 
 /// A text and its tokens, from which a body is read.
+#[derive(Clone, Copy)]
 pub(crate) struct Reader<'a> {
     pub(crate) alloc: Global,
     pub(crate) text: &'a [u8],

@@ -2,14 +2,26 @@ use Rattle.std.proofs.Common.{◌≡◌, ◌<◌, ◌≤◌, ◌+◌, ◌++◌, 
 use Rattle.std.proofs.lemmas.Grind.{common_steps}
 use Rattle.pe_parse.specs.declared.fault.ParseFault.TheVariants.{Syntax, TooDeep, TooMany}
 use Rattle.pe_parse.specs.declared.tree.Stmt.{Stmt}
+use Rattle.pe_lex.specs.declared.token.TokenKind.{TokenKind}
+use Rattle.pe_parse.specs.declared.reader.Reader.{Reader}
+use Rattle.pe_parse.specs.Lexemes.{lexeme_of, kind_at}
 use Rattle.pe_parse.specs.Statements.{statements_of}
 use Rattle.pe_parse.specs.Grammar.{All}
 use Rattle.pe_parse.specs.Places as frame
 use Rattle.pe_parse.specs.Places.{Block, Sequence}
 use Rattle.pe_parse.specs.Reading.{seen, size_of, Stopped, ReadsAs}
-use Rattle.pe_parse.proofs.Steps.{skips}
+use Rattle.pe_parse.proofs.Spelled.{lexemes_length}
+use Rattle.pe_parse.proofs.Steps.{skips, stands, at_within}
 use Rattle.pe_parse.proofs.Blocks.{Running, block_bare, block_deep, block_stop, block_open, block_read, choose_stop, choose_first, choose_read, choose_second, choose_both, no_statement, no_kind, run_start, run_more, run_end, run_stop}
 use Rattle.pe_parse.proofs.reader.Reader.+body.Goals as goal
+
+seen_length : (r : Reader) → length (seen r) ≡ length r.tokens.now
+seen_length r = lexemes_length r.text.now r.tokens.now
+
+next_within : (r : Reader) (at inside : ℕ) {k : TokenKind} → inside ≡ at + 1 → kind_at (seen r) at ≡ Some k → inside ≤ length r.tokens.now
+next_within r at inside {k} next_is is =
+    let st = stands (seen r) at k is in
+    omega (arith, at_within (seen r) at st.token st.is, seen_length r)
 
 pub block-returns-in-Err : goal.block-returns-in-Err
 block-returns-in-Err t c =
@@ -21,7 +33,7 @@ block-returns-then-depth-ge-DEEPEST t c =
 
 pub block-body-requires : goal.block-body-requires
 block-body-requires t c =
-    ?
+    (search rules, (c.requires.tokens, (omega arith, next_within c.args.self.now c.args.at c.in-Ok.inside c.in-Ok.ensures.0 c.in-Ok.ensures.1)))
 
 pub block-returns-in-Err-body : goal.block-returns-in-Err-body
 block-returns-in-Err-body t c =
@@ -66,16 +78,19 @@ statement-returns-in_default-kind t c =
 
 pub body-loop-found-init : goal.body-loop-found-init
 body-loop-found-init t c =
-    subst (λ (b : List Stmt). Running (size_of c.args.self.now) (seen c.args.self.now) c.args.depth c.args.at c.args.at b) (sym c.new-statements.ensures.items) (run_start (size_of c.args.self.now) (seen c.args.self.now) c.args.depth c.args.at c.requires.shallow ?)
+    subst (λ (b : List Stmt). Running (size_of c.args.self.now) (seen c.args.self.now) c.args.depth c.args.at c.args.at b) (sym c.new-statements.ensures.items) (run_start (size_of c.args.self.now) (seen c.args.self.now) c.args.depth c.args.at c.requires.shallow (omega (arith, seen_length c.args.self.now)))
 
 pub body-loop-found-preserved : goal.body-loop-found-preserved
 body-loop-found-preserved t c =
-    ?
+    let pushed : c.push.new.self.items ≡ c.loop-found.statements.items ++ c.in-Ok-Some.found.0 ∷ [] = grind (arith, common_steps) in
+    let read = rw c.in-Ok-Some.field-0-is at c.in-Ok-Some.ensures in
+    subst (λ (b : List Stmt). Running (size_of c.args.self.now) (seen c.args.self.now) c.args.depth c.args.at c.in-Ok-Some.found.1 b) (sym pushed) (run_more (size_of c.args.self.now) (seen c.args.self.now) c.args.depth c.args.at c.requires.shallow c.loop-found.next c.loop-found.statements.items c.loop-found.invariant c.in-Ok-Some.found.0 c.in-Ok-Some.found.1 read)
 
 pub body-returns-in-Ok-None : goal.body-returns-in-Ok-None
 body-returns-in-Ok-None t c =
-    ?
+    let none_ = rw c.in-Ok-None.field-0-is at c.in-Ok-None.ensures in
+    subst (λ (b : List Stmt). ReadsAs (λ body. All (statements_of body)) (size_of c.args.self.now) (seen c.args.self.now) (Sequence ∷ []) c.args.depth c.args.at (Ok (b, c.loop-found.next))) (sym c.new.ensures) (run_end (size_of c.args.self.now) (seen c.args.self.now) c.args.depth c.args.at c.requires.shallow c.loop-found.next c.loop-found.statements.items c.loop-found.invariant none_)
 
 pub body-returns-in-Err : goal.body-returns-in-Err
 body-returns-in-Err t c =
-    ?
+    run_stop (size_of c.args.self.now) (seen c.args.self.now) c.args.depth c.args.at c.requires.shallow c.loop-found.next c.loop-found.statements.items c.loop-found.invariant c.in-Err.fault c.in-Err.ensures
