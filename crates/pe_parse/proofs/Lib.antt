@@ -16,3 +16,5 @@ pub mod Bodies
 pub mod Blocks
 -- a whole body
 pub mod Whole
+-- each body that is spelled is accepted, token by token
+pub mod Accepts

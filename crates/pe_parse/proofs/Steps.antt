@@ -171,7 +171,7 @@ abbrev pub refuses : Frame → Option TokenKind → Bool
 refuses f None = not (can_end f)
 refuses f (Some k) = is_refuse (move f k)
 
-skip_is : (m : Move) → is_skip m ≡ true → m ≡ Skips
+pub skip_is : (m : Move) → is_skip m ≡ true → m ≡ Skips
 skip_is Skips h = refl
 skip_is (Takes g) h = absurd (cc)
 skip_is Refuses h = absurd (cc)
@@ -268,7 +268,7 @@ kind_other : (a b : TokenKind) (e : Bool) → (kind_number a == kind_number b) �
 kind_other a b true h differ = let same : kind_number a ≡ kind_number b = grind (arith, nat_tests) in absurd (differ (kind_same a b same))
 kind_other a b false h differ = refl
 
-needs_takes : (k : TokenKind) → move (Needs k) k ≡ Takes []
+pub needs_takes : (k : TokenKind) → move (Needs k) k ≡ Takes []
 needs_takes k = ap (λ (b : Bool). cond b (Takes []) Refuses) (kind_self k)
 
 -- a token that had to come
