@@ -1,13 +1,11 @@
 -- What is spelled is accepted, token by token.
-use Rattle.std.proofs.Common.{◌≡◌, ◌≢◌, ◌⊎◌, ℕ, ◌+◌, ◌-◌, ◌<◌, ◌≤◌, suc, zero, List, [], ◌∷◌, ◌++◌, length, Option, Some, None, Bool, true, false, cond, ◌&&◌, refl, sym, ◌∙◌, ap, subst, inl, inr, append_assoc, append-nil, arith}
-use Rattle.std.specs.Prelude.{slice_get, ◌==◌}
-use Rattle.std.proofs.lemmas.Bool.Decides.{nat_tests}
+use Rattle.std.proofs.Common.{◌≡◌, ℕ, ◌+◌, List, [], ◌∷◌, ◌++◌, Option, Some, None, Bool, true, false, cond, ◌&&◌, refl, sym, ◌∙◌, ap, subst, append_assoc, append-nil}
+use Rattle.std.specs.Prelude.{slice_get}
 use Rattle.pe_lex.specs.declared.token.TokenKind.{TokenKind}
 use Rattle.pe_lex.specs.declared.token.TokenKind.TheVariants as kind
 use Rattle.pe_parse.specs.declared.rank.Rank.{Rank}
 use Rattle.pe_parse.specs.declared.rank.Rank.TheVariants.{Disjunction, Conjunction, Comparison, Sum, Product}
 use Rattle.pe_parse.specs.declared.tree.Sign.{Sign}
-use Rattle.pe_parse.specs.declared.tree.Sign.TheVariants as sign
 use Rattle.pe_parse.specs.declared.tree.Prefix.{Prefix}
 use Rattle.pe_parse.specs.declared.tree.Choice.{Choice}
 use Rattle.pe_parse.specs.declared.tree.Trigger.{Trigger}
@@ -19,10 +17,10 @@ use Rattle.pe_parse.specs.declared.tree.Expr.{Expr}
 use Rattle.pe_parse.specs.Lexemes.{Lexeme, kind_in}
 use Rattle.pe_parse.specs.Statements.{Statement, Statements}
 use Rattle.pe_parse.specs.Grammar.{Phrase, Chained, Operand, Linked, Listed, One, All, Names, plain, dotted, Spells, number, name, prefixed, group, extreme, absolute, single, chain, linked_none, linked, listed_none, listed, assigns, marks, prints, chooses, chooses_else, nothing, then_more, MayFollow, operand_of, rank_of, sign_of, prefix_kind, choice_kind, trigger_kind}
-use Rattle.pe_parse.specs.Places.{Frame, Needs, Value, Links, Second, Ending, Pair, Single, Values, Block, Otherwise, Sequence, Move, Takes, Skips, Refuses, move, moved, link_move, sign_if, same_rank, step, can_end, ends, kind_number, operand_frames, chain_frames, more_links, expression}
+use Rattle.pe_parse.specs.Places.{Frame, Needs, Value, Links, Second, Ending, Pair, Single, Values, Block, Otherwise, Sequence, Move, Takes, move, moved, link_move, sign_if, same_rank, step, ends, operand_frames, chain_frames, more_links, expression}
 use Rattle.pe_parse.proofs.Steps.{is_skip, skips, skip_is, needs_takes}
 
-abbrev on_step : Option (List Frame) → (List Frame → Bool) → Bool
+abbrev pub on_step : Option (List Frame) → (List Frame → Bool) → Bool
 on_step None later = false
 on_step (Some fs) later = later fs
 

@@ -1,21 +1,21 @@
 -- Statements in braces, conditions, and statements one after another.
-use Rattle.std.proofs.Common.{◌≡◌, ◌≢◌, ℕ, ◌+◌, ◌-◌, ◌<◌, ◌≤◌, suc, zero, List, [], ◌∷◌, ◌++◌, length, map, Option, Some, None, Bool, true, false, Result, Ok, Err, refl, sym, ◌∙◌, ap, subst, append_assoc, append-nil, arith}
+use Rattle.std.proofs.Common.{◌≡◌, ℕ, ◌+◌, ◌<◌, ◌≤◌, List, [], ◌∷◌, ◌++◌, length, Option, Some, None, true, Ok, Err, refl, sym, ◌∙◌, ap, subst, append_assoc, append-nil, arith}
 use Rattle.std.specs.Prelude.{slice_get}
 use Rattle.pe_lex.specs.declared.token.TokenKind.{TokenKind}
 use Rattle.pe_lex.specs.declared.token.TokenKind.TheVariants as kind
 use Rattle.pe_parse.specs.declared.fault.ParseFault.{ParseFault}
-use Rattle.pe_parse.specs.declared.fault.ParseFault.TheVariants.{Syntax, TooDeep}
+use Rattle.pe_parse.specs.declared.fault.ParseFault.TheVariants.{TooDeep}
 use Rattle.pe_parse.specs.declared.rank.Rank.TheVariants.{Disjunction}
 use Rattle.pe_parse.specs.declared.tree.Expr.{Expr}
 use Rattle.pe_parse.specs.declared.tree.Stmt.{Stmt}
 use Rattle.pe_parse.specs.declared.tree.Stmt.TheVariants as stmt
 use Rattle.pe_parse.specs.Lexemes.{Lexeme, kind_at, offset_at}
-use Rattle.pe_parse.specs.Statements.{Statement, Statements, Chooses, ChoosesElse, Nothing, Then, gathered, statement_of, statements_of}
-use Rattle.pe_parse.specs.Grammar.{Phrase, Spells, Chained, One, All, chooses, chooses_else, nothing, then_more}
-use Rattle.pe_parse.specs.Places.{Frame, Needs, Block, Otherwise, Sequence, Takes, move, expression, nesting, are_counted}
-use Rattle.pe_parse.specs.Reading.{piece, Went, Stopped, Needed, ReadsAs, BlockAt, ReadsBlock, ReadStatement, ReadsStatement, MayRead}
-use Rattle.pe_parse.proofs.Steps.{Stands, stands, at_within, took, took_stop, went_here, too_deep, skips, refuses, is_skip, skipped, refused, went_trans, went_frame, went_beside, stop_after, stop_frame, stop_beside, needed, missing}
-use Rattle.pe_parse.proofs.Pieces.{piece_cons, piece_single, piece_snoc, piece_join, piece_empty}
+use Rattle.pe_parse.specs.Statements.{Statement, Chooses, ChoosesElse, Nothing, Then, statement_of, statements_of}
+use Rattle.pe_parse.specs.Grammar.{Spells, Chained, One, All, chooses, chooses_else, nothing, then_more}
+use Rattle.pe_parse.specs.Places.{Needs, Block, Otherwise, Sequence, expression}
+use Rattle.pe_parse.specs.Reading.{piece, Went, Stopped, Needed, ReadsAs, ReadsBlock, ReadStatement}
+use Rattle.pe_parse.proofs.Steps.{stands, took, took_stop, went_here, too_deep, skips, refuses, skipped, refused, went_trans, went_frame, went_beside, stop_after, stop_frame, stop_beside, needed, missing}
+use Rattle.pe_parse.proofs.Pieces.{piece_cons, piece_snoc, piece_join, piece_empty}
 use Rattle.pe_parse.proofs.Bodies.{of_if, of_if_else}
 
 -- So many statements of a body have been read, and others may come.

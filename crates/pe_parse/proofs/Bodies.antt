@@ -1,11 +1,11 @@
 -- Statements, each read as its rule says: what is left open, and what the tokens spell.
-use Rattle.std.proofs.Common.{◌≡◌, ◌≢◌, ℕ, ◌+◌, ◌-◌, ◌<◌, ◌≤◌, suc, zero, List, [], ◌∷◌, ◌++◌, length, map, Option, Some, None, Bool, true, false, ◌&&◌, Result, Ok, Err, refl, sym, ◌∙◌, ap, subst, append_assoc, append-nil, length-append, arith}
-use Rattle.std.specs.Prelude.{slice_get, nat_le}
+use Rattle.std.proofs.Common.{◌≡◌, ℕ, ◌+◌, ◌<◌, ◌≤◌, List, [], ◌∷◌, ◌++◌, length, Option, Some, None, Bool, true, false, ◌&&◌, Ok, Err, refl, sym, ◌∙◌, ap, subst, append_assoc, append-nil, length-append, arith}
+use Rattle.std.specs.Prelude.{nat_le}
 use Rattle.std.proofs.lemmas.Bool.Decides.{nat_tests}
 use Rattle.pe_lex.specs.declared.token.TokenKind.{TokenKind}
 use Rattle.pe_lex.specs.declared.token.TokenKind.TheVariants as kind
 use Rattle.pe_parse.specs.declared.fault.ParseFault.{ParseFault}
-use Rattle.pe_parse.specs.declared.fault.ParseFault.TheVariants.{Syntax, TooDeep, TooMany, Memory}
+use Rattle.pe_parse.specs.declared.fault.ParseFault.TheVariants.{TooMany}
 use Rattle.pe_parse.specs.declared.rank.Rank.TheVariants.{Disjunction}
 use Rattle.pe_parse.specs.declared.tree.Name.{Name}
 use Rattle.pe_parse.specs.declared.tree.Word.{Word}
@@ -18,12 +18,12 @@ use Rattle.pe_parse.specs.declared.tree.Stmt.TheVariants as stmt
 use Rattle.pe_parse.specs.declared.tree.Stmt.TheOpen as open_
 use Rattle.pe_parse.specs.declared.tree.Stmt.TheFolds.{fold-roll-Stmt}
 use Rattle.pe_parse.specs.Lexemes.{Lexeme, kind_at, offset_at, offset_in}
-use Rattle.pe_parse.specs.Statements.{Statement, Statements, Assigns, Marks, Prints, Chooses, ChoosesElse, Nothing, Then, gathered, statement_step, statement_of, statements_of}
-use Rattle.pe_parse.specs.Grammar.{Phrase, Spells, Names, Chained, Listed, One, All, listed, listed_none, assigns, marks, prints, chooses, chooses_else, nothing, then_more, trigger_kind}
-use Rattle.pe_parse.specs.Places.{Frame, Needs, Second, Values, Block, Otherwise, Sequence, Takes, move, expression, nests, nesting, are_counted}
+use Rattle.pe_parse.specs.Statements.{Statement, Assigns, Marks, Prints, Chooses, ChoosesElse, statement_step, statement_of, statements_of}
+use Rattle.pe_parse.specs.Grammar.{Spells, Chained, Listed, One, listed, listed_none, assigns, marks, prints, trigger_kind}
+use Rattle.pe_parse.specs.Places.{Needs, Second, Values, Sequence, Takes, move, expression, are_counted}
 use Rattle.pe_parse.specs.Faults.{is_too_large}
-use Rattle.pe_parse.specs.Reading.{piece, bytes_in, spelled_at, Went, Stopped, Needed, ReadsName, ReadsAs, ReadsClosed, ValuesAt, ReadsValues, BlockAt, ReadsBlock, ReadStatement, ReadsStatement}
-use Rattle.pe_parse.proofs.Steps.{Stands, stands, at_within, took, took_stop, went_here, too_deep, too_many, skips, refuses, is_skip, skipped, refused, went_trans, went_frame, went_beside, stop_after, stop_frame, stop_beside, needed, missing}
+use Rattle.pe_parse.specs.Reading.{piece, bytes_in, spelled_at, Went, Stopped, Needed, ReadsName, ReadsAs, ReadsClosed, ValuesAt, ReadsValues, ReadStatement}
+use Rattle.pe_parse.proofs.Steps.{stands, took, took_stop, too_many, skips, skipped, went_trans, went_beside, stop_after, stop_beside, needed, missing}
 use Rattle.pe_parse.proofs.Pieces.{piece_cons, piece_single, piece_snoc, piece_join, piece_empty}
 
 -- what the statements of the code are as plain data

@@ -1,6 +1,6 @@
 -- Chains, read link by link.
-use Rattle.std.proofs.Common.{◌≡◌, ◌≢◌, ℕ, ◌+◌, ◌-◌, ◌<◌, ◌≤◌, suc, zero, List, [], ◌∷◌, ◌++◌, length, Option, Some, None, Bool, true, false, cond, ◌&&◌, Result, Ok, Err, refl, sym, ◌∙◌, ap, subst, append_assoc, append-nil, length-append, arith}
-use Rattle.std.specs.Prelude.{slice_get, nat_le}
+use Rattle.std.proofs.Common.{◌≡◌, ◌≢◌, ℕ, ◌+◌, ◌<◌, ◌≤◌, List, [], ◌∷◌, ◌++◌, length, Option, Some, None, Bool, true, false, cond, ◌&&◌, Ok, refl, sym, ◌∙◌, ap, subst, append_assoc, append-nil, length-append, arith}
+use Rattle.std.specs.Prelude.{nat_le}
 use Rattle.std.proofs.lemmas.Bool.Decides.{nat_tests}
 use Rattle.pe_lex.specs.declared.token.TokenKind.{TokenKind}
 use Rattle.pe_lex.specs.declared.token.TokenKind.TheVariants as kind
@@ -9,15 +9,14 @@ use Rattle.pe_parse.specs.declared.fault.ParseFault.TheVariants.{TooMany}
 use Rattle.pe_parse.specs.declared.rank.Rank.{Rank}
 use Rattle.pe_parse.specs.declared.rank.Rank.TheVariants.{Disjunction, Conjunction, Comparison, Sum, Product}
 use Rattle.pe_parse.specs.declared.tree.Sign.{Sign}
-use Rattle.pe_parse.specs.declared.tree.Sign.TheVariants as sign
 use Rattle.pe_parse.specs.declared.tree.Expr.{Expr}
 use Rattle.pe_parse.specs.declared.tree.Expr.TheVariants as expr
 use Rattle.pe_parse.specs.Lexemes.{Lexeme, kind_at, offset_at}
-use Rattle.pe_parse.specs.Grammar.{Phrase, Spells, Chained, Operand, Linked, single, chain, linked, linked_none, MayFollow, operand_of, rank_of, sign_of}
-use Rattle.pe_parse.specs.Places.{Frame, Links, Takes, Skips, Move, move, link_move, sign_if, same_rank, more_links, operand_frames, chain_frames, nesting, are_counted}
+use Rattle.pe_parse.specs.Grammar.{Spells, Chained, Linked, single, chain, linked, linked_none, MayFollow, operand_of, rank_of, sign_of}
+use Rattle.pe_parse.specs.Places.{Frame, Links, Takes, move, link_move, sign_if, same_rank, more_links, operand_frames, chain_frames, nesting, are_counted}
 use Rattle.pe_parse.specs.Faults.{is_too_large}
 use Rattle.pe_parse.specs.Reading.{piece, sign_among, sign_at, Went, Stopped, ReadsAs}
-use Rattle.pe_parse.proofs.Steps.{Stands, stands, at_within, nesting-append, counted-append, took, took_stop, went_here, too_many, skips, is_skip, skipped, went_trans, went_beside, stop_after, stop_beside}
+use Rattle.pe_parse.proofs.Steps.{stands, nesting-append, counted-append, took, took_stop, too_many, skips, is_skip, skipped, went_trans, went_beside, stop_after, stop_beside}
 use Rattle.pe_parse.proofs.Pieces.{piece_cons, piece_empty, piece_join}
 
 -- a token that is a sign of a rank

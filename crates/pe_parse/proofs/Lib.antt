@@ -18,3 +18,5 @@ pub mod Blocks
 pub mod Whole
 -- each body that is spelled is accepted, token by token
 pub mod Accepts
+-- where a token is refused, no body begins with it
+pub mod Refusals

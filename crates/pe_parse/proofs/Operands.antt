@@ -1,11 +1,11 @@
 -- Operands, each read as its rule says: what is left open, and what the tokens spell.
-use Rattle.std.proofs.Common.{◌≡◌, ◌≢◌, ℕ, ◌+◌, ◌-◌, ◌<◌, ◌≤◌, suc, zero, pos, ℤ, List, [], ◌∷◌, ◌++◌, length, Option, Some, None, Bool, true, false, Result, Ok, Err, refl, sym, ◌∙◌, ap, subst, arith}
-use Rattle.std.specs.Prelude.{slice_get, nat_le}
+use Rattle.std.proofs.Common.{◌≡◌, ℕ, ◌+◌, ◌<◌, ◌≤◌, pos, ℤ, List, [], ◌∷◌, ◌++◌, Option, Some, None, true, false, Result, Ok, Err, refl, sym, ◌∙◌, ap, subst, arith}
+use Rattle.std.specs.Prelude.{nat_le}
 use Rattle.std.proofs.lemmas.Bool.Decides.{nat_tests}
 use Rattle.pe_lex.specs.declared.token.TokenKind.{TokenKind}
 use Rattle.pe_lex.specs.declared.token.TokenKind.TheVariants as kind
 use Rattle.pe_parse.specs.declared.fault.ParseFault.{ParseFault}
-use Rattle.pe_parse.specs.declared.fault.ParseFault.TheVariants.{Syntax, TooDeep, TooMany, Literal, Memory}
+use Rattle.pe_parse.specs.declared.fault.ParseFault.TheVariants.{Syntax, TooDeep, Literal}
 use Rattle.pe_parse.specs.declared.rank.Rank.TheVariants.{Disjunction}
 use Rattle.pe_parse.specs.declared.tree.Name.{Name}
 use Rattle.pe_parse.specs.declared.tree.Expr.{Expr}
@@ -15,11 +15,11 @@ use Rattle.pe_parse.specs.declared.tree.Prefix.TheVariants as prefix
 use Rattle.pe_parse.specs.declared.tree.Choice.{Choice}
 use Rattle.pe_parse.specs.declared.tree.Choice.TheVariants as choice
 use Rattle.pe_parse.specs.Lexemes.{Lexeme, kind_at, offset_at, offset_in, value_of}
-use Rattle.pe_parse.specs.Grammar.{Spells, Names, plain, dotted, Operand, Chained, number, name, prefixed, group, extreme, absolute, prefix_kind, choice_kind}
-use Rattle.pe_parse.specs.Places.{Frame, Needs, Value, Second, Ending, Pair, Single, Takes, move, expression, nests, nesting, are_counted}
+use Rattle.pe_parse.specs.Grammar.{Spells, plain, dotted, Operand, Chained, number, name, prefixed, group, extreme, absolute, prefix_kind, choice_kind}
+use Rattle.pe_parse.specs.Places.{Needs, Value, Second, Ending, Pair, Single, Takes, move, expression, nesting}
 use Rattle.pe_parse.specs.Faults.{is_too_large}
-use Rattle.pe_parse.specs.Reading.{piece, bytes_in, spelled_at, Went, Stopped, Needed, Closed, ReadsName, ReadsAs, ReadsClosed}
-use Rattle.pe_parse.proofs.Steps.{Stands, stands, at_within, took, took_stop, went_here, too_deep, too_large, skips, refuses, is_refuse, skipped, refused, went_trans, went_frame, stop_after, stop_frame, needed, missing}
+use Rattle.pe_parse.specs.Reading.{piece, bytes_in, spelled_at, Went, Stopped, Needed, ReadsName, ReadsAs, ReadsClosed}
+use Rattle.pe_parse.proofs.Steps.{stands, at_within, took, took_stop, went_here, too_deep, too_large, skips, refuses, is_refuse, skipped, refused, went_trans, went_frame, stop_after, stop_frame, needed, missing}
 use Rattle.pe_parse.proofs.Pieces.{piece_cons, piece_single, piece_snoc, piece_join}
 
 module _ (size : ℕ) (xs : List Lexeme) where

@@ -1,5 +1,5 @@
 -- Parts of the tokens, joined.
-use Rattle.std.proofs.Common.{◌≡◌, ℕ, ◌+◌, ◌-◌, ◌<◌, ◌≤◌, suc, zero, List, [], ◌∷◌, ◌++◌, length, take, drop, Option, Some, None, refl, sym, ◌∙◌, ap, subst, append_assoc, drop-drop, length-drop, arith}
+use Rattle.std.proofs.Common.{◌≡◌, ℕ, ◌+◌, ◌-◌, ◌<◌, ◌≤◌, suc, zero, List, [], ◌∷◌, ◌++◌, take, drop, Some, refl, sym, ◌∙◌, ap, drop-drop, arith}
 use Rattle.std.specs.Prelude.{slice_get}
 use Rattle.pe_parse.specs.Lexemes.{Lexeme}
 use Rattle.pe_parse.specs.Reading.{piece}

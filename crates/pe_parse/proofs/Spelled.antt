@@ -1,6 +1,6 @@
 -- What tokens spell: words, and the values of numbers.
-use Rattle.std.proofs.Common.{◌≡◌, ℕ, ◌+◌, ◌-◌, ◌*◌, ◌/◌, ◌<◌, ◌≤◌, suc, zero, List, [], ◌∷◌, length, take, drop, get_or, map, Option, Some, None, Bool, true, false, ◌&&◌, ◌||◌, refl, sym, ◌∙◌, ap, subst, arith}
-use Rattle.std.specs.Prelude.{slice_get, IsUtf8, nat_le, ◌==◌}
+use Rattle.std.proofs.Common.{◌≡◌, ℕ, ◌+◌, ◌-◌, ◌*◌, ◌/◌, ◌<◌, ◌≤◌, suc, zero, List, [], ◌∷◌, length, drop, get_or, Some, Bool, true, false, ◌&&◌, refl, sym, ◌∙◌, ap, arith}
+use Rattle.std.specs.Prelude.{slice_get, IsUtf8}
 use Rattle.std.specs.List.{list_all}
 use Rattle.std.specs.Str.{IsAscii}
 use Rattle.std.proofs.lemmas.Str.{IsUtf8-from_ascii}
@@ -10,10 +10,10 @@ use Rattle.std.proofs.Math.Seq.{drop-cons}
 use Rattle.pe_lex.specs.declared.token.TokenKind.{TokenKind}
 use Rattle.pe_lex.specs.declared.token.TokenKind.TheVariants as kind
 use Rattle.pe_lex.specs.declared.token.Token.{Token}
-use Rattle.pe_lex.specs.Forms.{is_letter, is_digit, is_word_byte, has_form, AnyWord, kind_of}
-use Rattle.pe_lex.specs.Spans.{IsTokenOf, AreTokensOf}
+use Rattle.pe_lex.specs.Forms.{is_letter, is_word_byte, has_form, AnyWord}
+use Rattle.pe_lex.specs.Spans.{AreTokensOf}
 use Rattle.pe_lex.proofs.Spans.{word_form}
-use Rattle.pe_parse.specs.Lexemes.{Lexeme, lexeme_of, lexemes_of, kind_in, kind_at, value_from, value_of}
+use Rattle.pe_parse.specs.Lexemes.{lexeme_of, lexemes_of, kind_at, value_from}
 use Rattle.pe_parse.specs.Reading.{bytes_in, spelled_at}
 
 pub lexeme_at : (text : List ℕ) (tokens : List Token) (at : ℕ) (d : Token) → at < length tokens → slice_get (lexemes_of text tokens) at ≡ Some (lexeme_of text (get_or tokens at d))

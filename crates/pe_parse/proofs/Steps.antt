@@ -1,13 +1,13 @@
 -- What one token does to the frames that are open, and how parts that were read are joined.
-use Rattle.std.proofs.Common.{◌≡◌, ◌≢◌, ◌⊎◌, ℕ, ◌+◌, ◌-◌, ◌<◌, ◌≤◌, suc, zero, List, [], ◌∷◌, ◌++◌, length, take, drop, Option, Some, None, Bool, true, false, not, cond, ◌&&◌, Result, Ok, Err, refl, sym, ◌∙◌, ap, subst, inl, inr, append_assoc, arith}
+use Rattle.std.proofs.Common.{◌≡◌, ℕ, ◌+◌, ◌<◌, ◌≤◌, suc, zero, List, [], ◌∷◌, ◌++◌, length, drop, Option, Some, None, Bool, true, false, not, cond, ◌&&◌, Ok, Err, refl, sym, ◌∙◌, ap, subst, append_assoc, arith}
 use Rattle.std.specs.Prelude.{slice_get, nat_le, ◌==◌}
 use Rattle.std.proofs.lemmas.Bool.Decides.{nat_tests}
 use Rattle.pe_lex.specs.declared.token.TokenKind.{TokenKind}
 use Rattle.pe_lex.specs.declared.token.TokenKind.TheVariants as kind
 use Rattle.pe_parse.specs.declared.fault.ParseFault.{ParseFault}
-use Rattle.pe_parse.specs.declared.fault.ParseFault.TheVariants.{Syntax, TooDeep, TooMany, Literal, Memory}
+use Rattle.pe_parse.specs.declared.fault.ParseFault.TheVariants.{Syntax, TooDeep, TooMany, Literal}
 use Rattle.pe_parse.specs.Lexemes.{Lexeme, kind_in, kind_at, offset_in, offset_at}
-use Rattle.pe_parse.specs.Places.{Frame, Needs, Move, Takes, Skips, Refuses, move, moved, step, can_end, ends, nests, nesting, is_counted, are_counted, kind_number}
+use Rattle.pe_parse.specs.Places.{Frame, Needs, Move, Takes, Skips, Refuses, move, moved, step, can_end, ends, nesting, is_counted, are_counted, kind_number}
 use Rattle.pe_parse.specs.Faults.{is_too_large, passed_limit, or_fault, at_token, fault_from}
 use Rattle.pe_parse.specs.Reading.{Behind, Went, IsFault, Stopped, Needed}
 

@@ -1,14 +1,13 @@
 -- A whole body, from its first token to its last.
-use Rattle.std.proofs.Common.{◌≡◌, ℕ, ◌+◌, ◌-◌, ◌<◌, ◌≤◌, suc, zero, List, [], ◌∷◌, ◌++◌, length, take, drop, get_or, Option, Some, None, refl, sym, ◌∙◌, ap, subst, arith}
+use Rattle.std.proofs.Common.{◌≡◌, ℕ, ◌<◌, ◌≤◌, suc, zero, List, [], ◌∷◌, length, take, drop, Option, Some, None, refl, ◌∙◌, ap, arith}
 use Rattle.std.specs.Prelude.{slice_get}
 use Rattle.std.proofs.lemmas.List.{take_all}
 use Rattle.pe_parse.specs.declared.fault.ParseFault.{ParseFault}
 use Rattle.pe_parse.specs.declared.fault.ParseFault.TheVariants.{Syntax}
 use Rattle.pe_parse.specs.Lexemes.{Lexeme, offset_at, offset_in}
-use Rattle.pe_parse.specs.Places.{Frame, Sequence}
+use Rattle.pe_parse.specs.Places.{Sequence}
 use Rattle.pe_parse.specs.Faults.{fault_from}
 use Rattle.pe_parse.specs.Reading.{piece, Behind, Went, IsFault, Stopped}
-use Rattle.pe_parse.proofs.Steps.{at_some, at_none}
 
 module _ (size : ℕ) (xs : List Lexeme) where
   nothing_behind : Behind 0 []

@@ -1,9 +1,9 @@
 -- What it means that a body begins with tokens.
-use Rattle.std.specs.Prelude.{ℕ, Bool, false, List, [], ◌∷◌, ◌++◌, Option, Some, None}
-use Rattle.pe_parse.specs.Lexemes.{Lexeme}
+use Rattle.std.specs.Prelude.{ℕ, ◌≡◌, ◌+◌, ◌<◌, ◌≤◌, List, [], ◌∷◌, ◌++◌, length, take, Option, Some, None}
+use Rattle.pe_parse.specs.Lexemes.{Lexeme, offset_at}
 use Rattle.pe_parse.specs.Statements.{Statements}
 use Rattle.pe_parse.specs.Grammar.{All, Spells}
-use Rattle.pe_parse.specs.Places.{Frame, step, ends}
+use Rattle.pe_parse.specs.Places.{Frame, step}
 
 -- a body begins with these tokens, and goes on with others or with none
 pub record Begins (xs : List Lexeme) : Type 0 where
@@ -19,3 +19,12 @@ open_next (Some fs) later = later fs
 abbrev pub open_after : List Frame → List Lexeme → Option (List Frame)
 open_after fs [] = Some fs
 open_after fs (x ∷ xs) = open_next (step fs x.kind) (λ gs. open_after gs xs)
+
+-- No body begins with the tokens up to and including the one at this offset; or the tokens end here, at the
+-- length of the text, and are no body.
+pub record NoBody (size : ℕ) (xs : List Lexeme) (at : ℕ) : Type 0 where
+  pub number : ℕ
+  pub within : number ≤ length xs
+  pub is : at ≡ offset_at size xs number
+  pub none_begins : number < length xs → Begins (take (number + 1) xs) → ⊥
+  pub none : (body : Statements) → Spells (All body) xs → ⊥

@@ -1,10 +1,10 @@
 -- The first fault of a list of tokens.
-use Rattle.std.specs.Prelude.{ℕ, ◌≡◌, ◌==◌, nat_le, Bool, true, false, ◌&&◌, List, [], ◌∷◌, length, Option, Some, None, if◌then◌else◌}
+use Rattle.std.specs.Prelude.{ℕ, nat_le, Bool, true, false, List, [], ◌∷◌, length, Option, Some, None, if◌then◌else◌}
 use Rattle.pe_lex.specs.declared.token.TokenKind.{TokenKind}
 use Rattle.pe_lex.specs.declared.token.Token.{Token}
 use Rattle.pe_lex.specs.declared.token.TokenKind.TheVariants as kind
 use Rattle.pe_parse.specs.declared.fault.ParseFault.{ParseFault}
-use Rattle.pe_parse.specs.declared.fault.ParseFault.TheVariants.{Syntax, TooDeep, TooMany, Literal, Memory}
+use Rattle.pe_parse.specs.declared.fault.ParseFault.TheVariants.{Syntax, TooDeep, TooMany, Literal}
 use Rattle.pe_parse.specs.Lexemes.{Lexeme, lexemes_of, value_of}
 use Rattle.pe_parse.specs.Places.{Frame, Sequence, step, ends, nesting, are_counted}
 

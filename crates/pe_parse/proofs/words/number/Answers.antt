@@ -1,4 +1,4 @@
-use Rattle.std.proofs.Common.{◌≡◌, ◌<◌, ℕ, ◌-◌, ◌/◌, get_or, sym, ◌∙◌, subst, arith}
+use Rattle.std.proofs.Common.{◌<◌, ℕ, ◌-◌, ◌/◌, ◌∙◌, subst}
 use Rattle.pe_parse.specs.Lexemes.{value_of}
 use Rattle.pe_parse.proofs.Spelled.{past_limit}
 use Rattle.pe_parse.proofs.words.number.Goals as goal

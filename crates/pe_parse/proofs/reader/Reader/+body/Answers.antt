@@ -1,13 +1,12 @@
-use Rattle.std.proofs.Common.{◌≡◌, ◌<◌, ◌≤◌, ◌+◌, ◌++◌, ◌∷◌, [], ℕ, List, Ok, Err, Some, None, length, subst, sym, ap, refl, ◌∙◌, rules, arith}
+use Rattle.std.proofs.Common.{◌≡◌, ◌≤◌, ◌+◌, ◌++◌, ◌∷◌, [], ℕ, List, Ok, Some, length, subst, sym, ap, ◌∙◌, rules, arith}
 use Rattle.std.proofs.lemmas.Grind.{common_steps}
-use Rattle.pe_parse.specs.declared.fault.ParseFault.TheVariants.{Syntax, TooDeep, TooMany}
+use Rattle.pe_parse.specs.declared.fault.ParseFault.TheVariants.{TooDeep}
 use Rattle.pe_parse.specs.declared.tree.Stmt.{Stmt}
 use Rattle.pe_lex.specs.declared.token.TokenKind.{TokenKind}
 use Rattle.pe_parse.specs.declared.reader.Reader.{Reader}
-use Rattle.pe_parse.specs.Lexemes.{lexeme_of, kind_at}
+use Rattle.pe_parse.specs.Lexemes.{kind_at}
 use Rattle.pe_parse.specs.Statements.{statements_of}
 use Rattle.pe_parse.specs.Grammar.{All}
-use Rattle.pe_parse.specs.Places as frame
 use Rattle.pe_parse.specs.Places.{Block, Sequence}
 use Rattle.pe_parse.specs.Reading.{seen, size_of, Stopped, ReadsAs}
 use Rattle.pe_parse.proofs.Spelled.{lexemes_length}

@@ -1,4 +1,4 @@
-use Rattle.std.proofs.Common.{◌≡◌, ◌+◌, ◌-◌, ◌*◌, ℕ, length}
+use Rattle.std.proofs.Common.{◌+◌, ◌-◌, ◌*◌, ℕ, length}
 use Rattle.pe_parse.specs.Reading.{seen, size_of}
 use Rattle.pe_parse.proofs.Blocks.{Running}
 use Rattle.pe_parse.proofs.reader.Reader.+body.Given as goal

@@ -1,17 +1,14 @@
-use Rattle.std.proofs.Common.{◌≡◌, ◌≢◌, ◌<◌, ◌≤◌, ◌+◌, ◌++◌, ◌∷◌, [], ℕ, List, Ok, Err, Some, None, Option, Result, length, true, false, Bool, subst, sym, ap, refl, ◌∙◌, rules, arith, length-append}
+use Rattle.std.proofs.Common.{◌≡◌, ◌<◌, ◌++◌, ◌∷◌, [], ℕ, List, Ok, None, length, subst, sym, refl, ◌∙◌, rules, arith}
 use Rattle.std.proofs.lemmas.Grind.{common_steps}
-use Rattle.pe_lex.specs.declared.token.TokenKind.TheVariants as kind
-use Rattle.pe_parse.specs.declared.fault.ParseFault.{ParseFault}
 use Rattle.pe_parse.specs.declared.fault.ParseFault.TheVariants.{Syntax, TooDeep, TooMany}
-use Rattle.pe_parse.specs.declared.rank.Rank.{Rank}
-use Rattle.pe_parse.specs.declared.rank.Rank.TheVariants.{Disjunction, Conjunction, Comparison, Sum, Product}
+use Rattle.pe_parse.specs.declared.rank.Rank.TheVariants.{Comparison}
 use Rattle.pe_parse.specs.declared.tree.Sign.{Sign}
 use Rattle.pe_parse.specs.declared.tree.Expr.{Expr}
 use Rattle.pe_parse.specs.declared.tree.Expr.TheVariants as expr
 use Rattle.pe_parse.specs.Grammar.{Chained, Operand}
-use Rattle.pe_parse.specs.Places.{Value, chain_frames, expression}
+use Rattle.pe_parse.specs.Places.{Value, chain_frames}
 use Rattle.pe_parse.specs.Reading.{seen, size_of, ReadsAs, Stopped, sign_at}
-use Rattle.pe_parse.proofs.Operands.{closed_read, closed_stop, closed_missing, group_read, group_stop, group_deep, prefixed_read, prefixed_stop, prefixed_deep, extreme_read, extreme_bare, extreme_deep, extreme_first, extreme_second, absolute_bare, absolute_deep, absolute_stop, absolute_read, operand_none, operand_end, group_answer}
+use Rattle.pe_parse.proofs.Operands.{closed_read, closed_stop, closed_missing, group_deep, prefixed_read, prefixed_stop, prefixed_deep, extreme_read, extreme_bare, extreme_deep, extreme_first, extreme_second, absolute_bare, absolute_deep, absolute_stop, absolute_read, operand_none, operand_end, group_answer}
 use Rattle.pe_parse.proofs.Chains.{Linking, first_read, first_stop, link_read, link_stop, link_many, single_read, chain_read, comparison_bare, comparison_stop, comparison_read}
 use Rattle.pe_parse.proofs.reader.Reader.+expr.Goals as goal
 

@@ -1,4 +1,4 @@
-use Rattle.std.proofs.Common.{◌≡◌, ◌+◌, ◌-◌, ◌*◌, ℕ, length}
+use Rattle.std.proofs.Common.{◌+◌, ◌-◌, ◌*◌, ℕ, length}
 use Rattle.pe_parse.specs.declared.rank.Rank.{Rank}
 use Rattle.pe_parse.specs.declared.rank.Rank.TheVariants.{Disjunction, Conjunction, Comparison, Sum, Product}
 use Rattle.pe_parse.specs.Reading.{seen, size_of}

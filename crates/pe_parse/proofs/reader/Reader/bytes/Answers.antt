@@ -1,7 +1,6 @@
-use Rattle.std.proofs.Common.{◌≡◌, ◌<◌, ◌≤◌, ℕ, length, get_or, arith}
+use Rattle.std.proofs.Common.{arith}
 use Rattle.pe_lex.specs.declared.token.Token.{Token}
 use Rattle.pe_lex.specs.declared.token.TokenKind.TheVariants as kind
-use Rattle.pe_lex.specs.Spans.{IsTokenOf, AreTokensOf}
 use Rattle.pe_lex.proofs.Spans.{token_is}
 use Rattle.pe_parse.proofs.Spelled.{spelled_is}
 use Rattle.pe_parse.proofs.reader.Reader.bytes.Goals as goal

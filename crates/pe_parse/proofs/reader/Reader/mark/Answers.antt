@@ -1,10 +1,4 @@
-use Rattle.std.proofs.Common.{◌≡◌, ◌<◌, ◌≤◌, ◌+◌, ◌++◌, ◌∷◌, [], ℕ, List, Ok, Err, Some, None, length, subst, sym, ap, refl, ◌∙◌, arith}
-use Rattle.std.proofs.lemmas.Grind.{common_steps}
-use Rattle.pe_parse.specs.declared.fault.ParseFault.TheVariants.{Syntax, TooDeep, TooMany}
-use Rattle.pe_parse.specs.declared.tree.Expr.{Expr}
-use Rattle.pe_parse.specs.Places as frame
-use Rattle.pe_parse.specs.Places.{expression}
-use Rattle.pe_parse.specs.Reading.{seen, size_of, Stopped}
+use Rattle.pe_parse.specs.Reading.{seen, size_of}
 use Rattle.pe_parse.proofs.Bodies.{mark_bare, mark_open, mark_read}
 use Rattle.pe_parse.proofs.reader.Reader.mark.Goals as goal
 

@@ -1,4 +1,3 @@
-use Rattle.std.proofs.Common.{◌≡◌, Ok, Err}
 use Rattle.pe_parse.specs.Reading.{seen, size_of}
 use Rattle.pe_parse.proofs.Operands.{name_plain, name_dotted, name_broken}
 use Rattle.pe_parse.proofs.reader.Reader.name.Goals as goal

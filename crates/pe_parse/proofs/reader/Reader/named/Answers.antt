@@ -1,4 +1,3 @@
-use Rattle.std.proofs.Common.{◌≡◌, Ok, Err}
 use Rattle.pe_parse.specs.Reading.{seen, size_of}
 use Rattle.pe_parse.proofs.Operands.{name_read, name_stop}
 use Rattle.pe_parse.proofs.reader.Reader.named.Goals as goal

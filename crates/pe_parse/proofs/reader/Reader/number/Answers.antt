@@ -1,14 +1,10 @@
-use Rattle.std.proofs.Common.{◌≡◌, ◌≤◌, pos, ℤ, Ok, Err, Result, subst, sym, ◌∙◌, ap, ℕ, ◌+◌, [], ◌∷◌, arith}
+use Rattle.std.proofs.Common.{◌≡◌, ◌≤◌, pos, ℤ, subst, sym, ◌∙◌, ap, ℕ, [], ◌∷◌, arith}
 use Rattle.std.proofs.lemmas.Int.{to_z-of_z, ints}
 use mir.Syntax.{w64}
 use mir.Val.{to_z, of_z}
-use Rattle.pe_parse.specs.declared.fault.ParseFault.{ParseFault}
 use Rattle.pe_parse.specs.declared.fault.ParseFault.TheVariants.{Literal}
-use Rattle.pe_parse.specs.declared.tree.Expr.{Expr}
-use Rattle.pe_parse.specs.declared.tree.Expr.TheVariants as expr
-use Rattle.pe_parse.specs.Grammar.{Operand}
 use Rattle.pe_parse.specs.Places.{Value}
-use Rattle.pe_parse.specs.Reading.{seen, size_of, ReadsAs, Stopped}
+use Rattle.pe_parse.specs.Reading.{seen, size_of, Stopped}
 use Rattle.pe_parse.proofs.Operands.{number_read, number_large}
 use Rattle.pe_parse.proofs.reader.Reader.number.Goals as goal
 

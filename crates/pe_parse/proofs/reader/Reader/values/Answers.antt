@@ -1,11 +1,11 @@
-use Rattle.std.proofs.Common.{◌≡◌, ◌<◌, ◌≤◌, ◌+◌, ◌++◌, ◌∷◌, [], ℕ, List, Ok, Err, Some, None, length, subst, sym, ap, refl, ◌∙◌, arith}
+use Rattle.std.proofs.Common.{◌≡◌, ◌++◌, ◌∷◌, [], ℕ, List, subst, sym, arith}
 use Rattle.std.proofs.lemmas.Grind.{common_steps}
-use Rattle.pe_parse.specs.declared.fault.ParseFault.TheVariants.{Syntax, TooDeep, TooMany}
+use Rattle.pe_parse.specs.declared.fault.ParseFault.TheVariants.{TooMany}
 use Rattle.pe_parse.specs.declared.tree.Expr.{Expr}
 use Rattle.pe_parse.specs.Places as frame
 use Rattle.pe_parse.specs.Places.{expression}
 use Rattle.pe_parse.specs.Reading.{seen, size_of, Stopped, ValuesAt}
-use Rattle.pe_parse.proofs.Bodies.{Listing, value_first, value_stop, value_read, value_stop_later, value_many, values_end}
+use Rattle.pe_parse.proofs.Bodies.{Listing, value_first, value_read, value_stop_later, value_many, values_end}
 use Rattle.pe_parse.proofs.reader.Reader.values.Goals as goal
 
 pub loop-behind-init : goal.loop-behind-init

@@ -1,4 +1,4 @@
-use Rattle.std.proofs.Common.{◌≡◌, ◌-◌, ℕ, length}
+use Rattle.std.proofs.Common.{◌-◌, length}
 use Rattle.pe_parse.specs.Reading.{seen, size_of}
 use Rattle.pe_parse.proofs.Bodies.{Listing}
 use Rattle.pe_parse.proofs.reader.Reader.values.Given as goal

@@ -1,4 +1,4 @@
-use Rattle.std.proofs.Common.{◌≡◌, List, ℕ, subst, sym}
+use Rattle.std.proofs.Common.{subst, sym}
 use Rattle.std.specs.Prelude.{IsUtf8}
 use Rattle.pe_parse.proofs.Spelled.{word_text}
 use Rattle.pe_parse.proofs.reader.Reader.word.Goals as goal
