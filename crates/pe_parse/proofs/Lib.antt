@@ -20,3 +20,5 @@ pub mod Whole
 pub mod Accepts
 -- where a token is refused, no body begins with it
 pub mod Refusals
+-- tokens that may come begin a body
+pub mod Completes

@@ -258,7 +258,7 @@ kind_found kind.Word = refl
 kind_found _ = refl
 
 -- kinds of one number are one
-kind_same : (a b : TokenKind) → kind_number a ≡ kind_number b → a ≡ b
+pub kind_same : (a b : TokenKind) → kind_number a ≡ kind_number b → a ≡ b
 kind_same a b h = let e : Some a ≡ Some b = sym (kind_found a) ∙ ap (slice_get kinds) h ∙ kind_found b in cc
 
 kind_self : (k : TokenKind) → (kind_number k == kind_number k) ≡ true
