@@ -12,3 +12,5 @@ pub mod Acts
 pub mod Lines
 -- the walk of level 1 alone
 pub mod LevelOne
+-- how a tree may hold its parts in lists and apart
+pub mod formers
