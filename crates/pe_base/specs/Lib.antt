@@ -12,5 +12,5 @@ pub mod Acts
 pub mod Lines
 -- the walk of level 1 alone
 pub mod LevelOne
--- how a tree may hold its parts in lists and apart
+-- how a list and a box lie in a type that holds itself through them
 pub mod formers

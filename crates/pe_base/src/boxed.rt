@@ -3,7 +3,7 @@ ghost use Rattle.std.specs.Prelude.{◌≡◌, IfOk};
 use std::alloc::{AllocError, Global};
 use std::marker::Model;
 
-/// A value that is owned and kept apart, so that a tree may hold its parts: contracts see the value.
+/// A box, which contracts see as the value in it.
 #[derive(Debug, Drop)]
 pub struct Boxed<T> {
     inner: Box<T>,
@@ -25,7 +25,7 @@ impl<T> Boxed<T> {
         &self.inner
     }
 
-    /// The value, taken out.
+    /// The value, without its box.
     pub fn into_inner(self) -> T
         ensures { result ≡ self }
     {
@@ -35,7 +35,7 @@ impl<T> Boxed<T> {
 }
 
 impl<T: Drop> Boxed<T> {
-    /// Keeps a value apart. Fails only for want of memory.
+    /// A box of a value. The answer is an error only for want of memory.
     pub fn new(alloc: Global, value: T) -> Result<Boxed<T>, AllocError>
         ensures { IfOk result (λ b. b ≡ value) }
     {
