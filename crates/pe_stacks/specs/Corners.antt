@@ -1,5 +1,5 @@
 -- The corners of a cell.
-use Rattle.std.specs.Prelude.{ℕ, ◌^◌, List, Option, None, replicate, slice_index_or, slice_set}
+use Rattle.std.specs.Prelude.{◌≡◌, ℕ, ◌^◌, ◌<◌, List, Option, None, IsSome, length, filter_map, replicate, slice_index_or, slice_set}
 
 -- the dimension, and for each corner by its number the vertex there, if there is one
 pub record CornerList (X : Type 0) : Type 0 where
@@ -16,3 +16,13 @@ module _ {X : Type 0} where
 
   abbrev pub with_vertex : CornerList X → ℕ → Option X → CornerList X
   with_vertex corners k vertex = record corners { places = slice_set corners.places k vertex }
+
+  -- the vertices that are there, by their corners' numbers
+  abbrev pub vertices_of : CornerList X → List X
+  vertices_of corners = filter_map (λ place. place) corners.places
+
+  -- the corners of a cell of this dimension, with a vertex in every place
+  pub record IsFull (axes : ℕ) (corners : CornerList X) : Type 0 where
+    pub dim : corners.dim ≡ axes
+    pub count : length corners.places ≡ 2 ^ axes
+    pub full : (k : ℕ) → k < 2 ^ axes → IsSome (vertex_at corners k)
