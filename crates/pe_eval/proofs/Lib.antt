@@ -1,1 +1,3 @@
 pub mod FullCorners
+pub mod Chains
+pub mod Prints

@@ -12,3 +12,5 @@ pub mod Stops
 pub mod Meaning
 -- what a view shows
 pub mod Sights
+-- what a call that runs a body answers
+pub mod Answers

@@ -4,6 +4,8 @@
 mod arithmetic;
 mod fault;
 mod names;
+mod print;
+mod value;
 mod view;
 mod writes;
 
