@@ -117,4 +117,4 @@ fits_link reach expr first links i item is fits lt here =
     let P : Bool → Type 0 = λ b. IsTrue b in
     let Q : Sign × Expr → Type 0 = λ link. IsTrue (expr_fits reach link.1) in
     subst Q (sym here) (list_all-at (λ link. expr_fits reach link.1) links i item
-        (second_of_both (expr_fits reach first) (list_all (λ link. expr_fits reach link.1) links) (subst P (ap (expr_fits reach) is ∙ expr_fits-Chain reach first links) fits)) lt)
+    (second_of_both (expr_fits reach first) (list_all (λ link. expr_fits reach link.1) links) (subst P (ap (expr_fits reach) is ∙ expr_fits-Chain reach first links) fits)) lt)

@@ -26,4 +26,4 @@ module _ {X : Type 0} where
         ∙ map-set see (vertices_of corners) k w
         ∙ ap (slice_set (map see (vertices_of corners)) k) seen
         ∙ sym (ap (λ it. option_map_or (λ y. slice_set (map see (vertices_of corners)) k (change y)) it (map see (vertices_of corners)))
-               (seen_there axes corners k x full is))
+        (seen_there axes corners k x full is))

@@ -15,6 +15,7 @@ use Rattle.pe_check.specs.declared.checked.VertexName.{VertexName}
 use Rattle.pe_check.specs.declared.checked.VertexName.TheVariants.{Own, Corner, ParentCorner}
 use Rattle.pe_check.specs.declared.checked.Slot.{Slot}
 use Rattle.pe_check.specs.declared.checked.Slot.TheVariants as slot
+use Rattle.pe_check.specs.declared.checked.Expr.{Expr}
 use Rattle.pe_check.specs.declared.checked.Stmt.{Stmt}
 use Rattle.pe_check.specs.declared.checked.Stmt.TheOpen.{Stmt-F}
 use Rattle.pe_check.specs.declared.checked.Stmt.TheFolds.{fold-Stmt}
@@ -124,13 +125,16 @@ print_start numbers = codes "print" ++ number_parts numbers
 abbrev pub print_line : List ℤ → List ℕ
 print_line numbers = line (codes "print") (map signed_decimal numbers)
 
+-- a print at an event
+abbrev pub printed : List Expr → Scene → Outcome
+printed values scene = with_value scene.seen scene.list (values_of values scene) (λ numbers. behind (print_line numbers) (fine scene.seen scene.list))
+
 -- a statement whose bodies do this
 abbrev pub stmt_step : Stmt-F Act → Act
 stmt_step (Stmt-F.Assign slot expr) setting seen list =
     with_value seen list (value_of expr (scene_of setting seen list)) (λ n. fine (with_number slot n seen) (with_global slot n list))
 stmt_step (Stmt-F.Mark trigger vertex) setting seen list = fine (marked trigger setting.max_level vertex seen) list
-stmt_step (Stmt-F.Print values) setting seen list =
-    with_value seen list (values_of values.items (scene_of setting seen list)) (λ numbers. behind (print_line numbers) (fine seen list))
+stmt_step (Stmt-F.Print values) setting seen list = printed values.items (scene_of setting seen list)
 stmt_step (Stmt-F.If test body) setting seen list =
     with_value seen list (value_of test (scene_of setting seen list)) (λ n. if is_zero n then fine seen list else in_turn body setting seen list)
 stmt_step (Stmt-F.IfElse test body other) setting seen list =

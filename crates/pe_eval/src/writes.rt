@@ -111,16 +111,48 @@ impl View<'_> {
         ensures ready { IsReady self.new }
     {
         match (self, name) {
-            (View::Vertex { vertex, at, max_level, .. }, VertexName::Own) => {
+            (
+                View::Vertex {
+                    vertex,
+                    at,
+                    max_level,
+                    ..
+                },
+                VertexName::Own,
+            ) => {
                 mark_vertex(vertex, trigger, at.level, *max_level);
             }
-            (View::Cell { corners, at, max_level, .. }, VertexName::Corner(k)) => {
+            (
+                View::Cell {
+                    corners,
+                    at,
+                    max_level,
+                    ..
+                },
+                VertexName::Corner(k),
+            ) => {
                 mark_corner(corners, k, trigger, at.level, *max_level);
             }
-            (View::Vertex { parents, at, max_level, .. }, VertexName::ParentCorner(k)) => {
+            (
+                View::Vertex {
+                    parents,
+                    at,
+                    max_level,
+                    ..
+                },
+                VertexName::ParentCorner(k),
+            ) => {
                 mark_corner(parents, k, trigger, at.level - 1, *max_level);
             }
-            (View::Cell { parents, at, max_level, .. }, VertexName::ParentCorner(k)) => {
+            (
+                View::Cell {
+                    parents,
+                    at,
+                    max_level,
+                    ..
+                },
+                VertexName::ParentCorner(k),
+            ) => {
                 mark_corner(parents, k, trigger, at.level - 1, *max_level);
             }
             _ => unreachable!(),
