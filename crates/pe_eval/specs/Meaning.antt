@@ -134,7 +134,7 @@ abbrev pub stmt_step : Stmt-F Act → Act
 stmt_step (Stmt-F.Assign slot expr) setting seen list =
     with_value seen list (value_of expr (scene_of setting seen list)) (λ n. fine (with_number slot n seen) (with_global slot n list))
 stmt_step (Stmt-F.Mark trigger vertex) setting seen list = fine (marked trigger setting.max_level vertex seen) list
-stmt_step (Stmt-F.Print values) setting seen list = printed values.items (scene_of setting seen list)
+stmt_step (Stmt-F.Print values) setting seen list = printed values (scene_of setting seen list)
 stmt_step (Stmt-F.If test body) setting seen list =
     with_value seen list (value_of test (scene_of setting seen list)) (λ n. if is_zero n then fine seen list else in_turn body setting seen list)
 stmt_step (Stmt-F.IfElse test body other) setting seen list =
