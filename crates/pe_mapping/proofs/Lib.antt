@@ -4,3 +4,5 @@
 pub mod Texts
 -- answers of events, and events one after another
 pub mod Events
+-- the mapping for tests
+pub mod LedgerEvents

@@ -3,7 +3,7 @@ ghost use Rattle.std.specs.Prelude.{◌≡◌, ℕ, ◌^◌, ◌++◌, OnOk, OnE
 ghost use Rattle.pe_base.specs.declared.event.Event.TheVariants.{BeginIteration, CreateInnerVertex, TouchVertexFirstTime, EnterCell};
 ghost use Rattle.pe_base.specs.Acts.Effects.{Outcome};
 ghost use Rattle.pe_stacks.specs.Corners.{IsFull};
-ghost use Rattle.pe_mapping.specs.Held.{outcome_of, Adds, AddsPart};
+ghost use Rattle.pe_mapping.specs.Held.{outcome_of, Adds, AddsPart, Keeps};
 ghost use Rattle.pe_mapping.specs.Sights.{plain_sight, vertex_sight, cell_sight};
 ghost use Rattle.pe_mapping.specs.Moments.{IsTraversal, IsBelowRoot};
 
@@ -12,18 +12,19 @@ use pe_base::{Event, Kind, Place, Stop};
 use pe_stacks::{CellRec, Corners, Vertex};
 
 // Begins a traversal.
-fn begin<M: Mapping>(m: &mut M, traversal: u64) -> Result<(), Stop>
+pub(crate) fn begin<M: Mapping>(m: &mut M, traversal: u64) -> Result<(), Stop>
     requires { IsTraversal traversal }
     ensures text { OnOk result (Adds (M.held m.old).told
         (outcome_of M.rules (M.held m.old) BeginIteration traversal plain_sight).text (M.held m.new).told) }
     ensures part { OnErr result (AddsPart (M.held m.old).told
         (outcome_of M.rules (M.held m.old) BeginIteration traversal plain_sight).text (M.held m.new).told) }
+    ensures keeps { Keeps (M.held m.old) (M.held m.new) }
 {
     m.plain_event(Event::BeginIteration, traversal)
 }
 
 // Fires the two events of a vertex that is born.
-fn welcome<M: Mapping>(
+pub(crate) fn welcome<M: Mapping>(
     m: &mut M,
     traversal: u64,
     at: &Place,
@@ -43,6 +44,7 @@ fn welcome<M: Mapping>(
         let second : Outcome = M.rules.effect (M.held m.old).plan TouchVertexFirstTime traversal first.list first.seen in
         OnErr result (AddsPart (M.held m.old).told (first.text ++ second.text) (M.held m.new).told) }
     ensures kind { vertex.new.kind ≡ vertex.old.kind }
+    ensures keeps { Keeps (M.held m.old) (M.held m.new) }
     ensures parents { IsFull (M.held m.old).dim parents.new }
 {
     match m.vertex_event(
@@ -70,7 +72,7 @@ fn welcome<M: Mapping>(
 }
 
 // Enters a cell, and tells the kind of its first corner then.
-fn enter<M: Mapping>(
+pub(crate) fn enter<M: Mapping>(
     m: &mut M,
     traversal: u64,
     at: &Place,
@@ -83,6 +85,9 @@ fn enter<M: Mapping>(
     requires place { IsBelowRoot at.now }
     requires parents { IsFull (M.held m.old).dim parents.old }
     requires corners { IsFull (M.held m.old).dim corners.old }
+    ensures keeps { Keeps (M.held m.old) (M.held m.new) }
+    ensures parents { IsFull (M.held m.old).dim parents.new }
+    ensures corners { IsFull (M.held m.old).dim corners.new }
 {
     match m.cell_event(
         Event::EnterCell,

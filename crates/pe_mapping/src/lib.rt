@@ -4,6 +4,8 @@
 
 #[cfg(test)]
 mod callers;
+#[cfg(test)]
+mod ledger;
 mod mapping;
 
 pub use mapping::Mapping;
