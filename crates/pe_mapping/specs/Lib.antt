@@ -8,8 +8,3 @@ pub mod Sights
 pub mod Moments
 -- what a call answers and leaves, by the effect
 pub mod Answers
--- the law of effects where nothing changes, for those who write a mapping
-pub mod Lawful
--- a mapping for tests, and that it meets the law of effects
-pub mod Ledger
-pub mod LedgerLaw

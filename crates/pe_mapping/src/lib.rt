@@ -2,10 +2,6 @@
 //! the event sees.
 #![tactic(auto)]
 
-#[cfg(test)]
-mod callers;
-#[cfg(test)]
-mod ledger;
 mod mapping;
 
 pub use mapping::Mapping;

@@ -1,7 +1,7 @@
 use Rattle.std.proofs.Common.{refl, inl, inr}
-use Rattle.pe_mapping.specs.Lawful.{all_triggered_same, leaves_same}
-use Rattle.pe_mapping.proofs.LedgerEvents.{quiet_at_vertices}
-use Rattle.pe_mapping.proofs.ledger.LedgerMapping.vertex_event.Goals as goal
+use Rattle.pe_mapping.proofs.Lawful.{all_triggered_same, leaves_same}
+use Rattle.ledger.proofs.Quiet.{quiet_at_vertices}
+use Rattle.ledger.proofs.mapping.LedgerMapping.vertex_event.Goals as goal
 
 pub returns-in-None-clause-lawful : goal.returns-in-None-clause-lawful
 returns-in-None-clause-lawful c = leaves_same _ _

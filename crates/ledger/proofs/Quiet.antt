@@ -13,7 +13,7 @@ use Rattle.pe_stacks.specs.Corners.{CornerList, vertex_at, with_vertex, vertices
 use Rattle.pe_mapping.specs.Sights.{seen_vertex, seen_corners}
 use Rattle.pe_mapping.specs.Held.{Held, Told, Adds, outcome_of}
 use Rattle.pe_mapping.specs.Answers.{IsOutcome}
-use Rattle.pe_mapping.specs.Ledger.{effect_of, nothing_done, first_erased, ledger_rules}
+use Rattle.ledger.specs.Effects.{effect_of, nothing_done, first_erased, ledger_rules}
 use Rattle.pe_mapping.proofs.Texts.{adds-nothing}
 
 -- a vertex that was asked to erase

@@ -6,8 +6,8 @@ use Rattle.std.proofs.lemmas.List.Elements.{All-cons}
 use Rattle.pe_base.specs.declared.event.Event.{Event}
 use Rattle.pe_base.specs.declared.event.Event.TheVariants.{TouchVertexFirstTime, EnterCell}
 use Rattle.pe_base.specs.Acts.Effects.{VertexRecord, Seen, Outcome, Fault, Overflow, AreTriggered, AreBoth, MayLeave, AreLawful}
-use Rattle.pe_mapping.specs.Ledger.{is_at_end, nothing_done, touched, touch, first_erased, entered, effect_of, ledger_rules}
-use Rattle.pe_mapping.specs.Lawful.{triggered_same, all_triggered_same, any_triggered_same, both_same, leaves_same}
+use Rattle.ledger.specs.Effects.{is_at_end, nothing_done, touched, touch, first_erased, entered, effect_of, ledger_rules}
+use Rattle.pe_mapping.proofs.Lawful.{triggered_same, all_triggered_same, any_triggered_same, both_same, leaves_same}
 
 touch-lawful : (greatest : ℕ) (list : List ℤ) (seen : Seen) (vertex : Option VertexRecord) → seen.vertex ≡ vertex → MayLeave greatest seen (touch greatest list seen vertex).seen
 touch-lawful greatest list seen None is = leaves_same greatest seen

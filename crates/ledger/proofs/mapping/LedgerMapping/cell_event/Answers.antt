@@ -1,8 +1,8 @@
 use Rattle.std.proofs.Common.{pos, [], ◌∷◌, sym, subst, refl}
-use Rattle.pe_mapping.specs.Lawful.{all_triggered_same, leaves_same}
-use Rattle.pe_mapping.specs.LedgerLaw.{first_erased_lawful}
-use Rattle.pe_mapping.proofs.LedgerEvents.{quiet_at_cells, corners-first_erased}
-use Rattle.pe_mapping.proofs.ledger.LedgerMapping.cell_event.Goals as goal
+use Rattle.pe_mapping.proofs.Lawful.{all_triggered_same, leaves_same}
+use Rattle.ledger.specs.Law.{first_erased_lawful}
+use Rattle.ledger.proofs.Quiet.{quiet_at_cells, corners-first_erased}
+use Rattle.ledger.proofs.mapping.LedgerMapping.cell_event.Goals as goal
 
 pub returns-in-EnterCell-clause-lawful : goal.returns-in-EnterCell-clause-lawful
 returns-in-EnterCell-clause-lawful c =
