@@ -2,6 +2,7 @@
 //! and the definitions that every contract above is written in.
 #![tactic(auto)]
 
+mod boxed;
 mod dim;
 mod effects;
 mod event;
@@ -18,6 +19,7 @@ mod tally;
 mod text;
 mod way;
 
+pub use boxed::Boxed;
 pub use dim::Dim;
 pub use effects::Effects;
 pub use event::{Event, Sort};

@@ -1,5 +1,5 @@
 -- The limits of a grid's settings.
-use Rattle.std.specs.Prelude.{◌≤◌, ◌+◌, ◌*◌, ℕ, List, length}
+use Rattle.std.specs.Prelude.{◌≤◌, ℕ}
 
 -- levels: a grid has from 1 to 20 of them, and starts with no more than it may have
 pub record AreLevels (max_level start_level : ℕ) : Type 0 where

@@ -1,0 +1,6 @@
+//! The tree of a body of the event language, and how it is read from the tokens of a text.
+#![tactic(auto)]
+
+mod tree;
+
+pub use tree::{Body, Choice, Expr, Name, Prefix, Sign, Stmt, Trigger, Values, Word};
