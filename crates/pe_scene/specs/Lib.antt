@@ -5,3 +5,10 @@ pub mod Trace
 -- the bodies of events, and how they lie in a scenario
 pub mod Bodies
 pub mod BodiesView
+-- the tables of a document, and which keys they may have
+pub mod Sections
+-- what a reader answers
+pub mod Faults
+-- the numbers of a document
+pub mod Settings
+pub mod SettingsView

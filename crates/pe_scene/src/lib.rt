@@ -2,9 +2,13 @@
 #![tactic(auto)]
 
 mod bodies;
+mod fault;
 mod scenario;
+mod section;
+mod settings;
 mod trace;
 
 pub use bodies::Bodies;
-pub use scenario::{BodyCause, Scenario, SceneFault};
+pub use fault::{BodyCause, SceneFault};
+pub use scenario::Scenario;
 pub use trace::Trace;

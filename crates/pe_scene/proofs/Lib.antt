@@ -1,0 +1,4 @@
+-- Facts on reading scenarios.
+
+-- the least of the keys of a table
+pub mod Keys
