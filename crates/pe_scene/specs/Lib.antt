@@ -12,3 +12,7 @@ pub mod Faults
 -- the numbers of a document
 pub mod Settings
 pub mod SettingsView
+-- arrays of texts: events to trace, and names of fields
+pub mod Texts
+pub mod Fields
+pub mod TextsView

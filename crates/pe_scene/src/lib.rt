@@ -6,6 +6,7 @@ mod fault;
 mod scenario;
 mod section;
 mod settings;
+mod texts;
 mod trace;
 
 pub use bodies::Bodies;
