@@ -2,3 +2,5 @@
 
 -- the least of the keys of a table
 pub mod Keys
+-- arrays
+pub mod Arrays
