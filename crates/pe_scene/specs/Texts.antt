@@ -1,5 +1,5 @@
 -- Arrays of texts: the events to trace, and the names of fields.
-use Rattle.std.specs.Prelude.{ℕ, Bool, true, not, ◌&&◌, nat_le, List, [], ◌∷◌, length, codes, Option, Some, None, is_some, option_and_then, Result, Ok, Err, if◌then◌else◌}
+use Rattle.std.specs.Prelude.{ℕ, Bool, true, false, not, ◌&&◌, nat_le, List, [], ◌∷◌, length, codes, Option, Some, None, is_some, option_and_then, Result, Ok, Err, if◌then◌else◌}
 use Rattle.std.specs.List.{list_all, filter_map, cons_option}
 use Rattle.toml.specs.Data.{Data, Items, no_items, item, Members, get_member, as_str, as_array}
 use Rattle.pe_base.specs.declared.event.Event.{Event}
@@ -51,11 +51,12 @@ abbrev pub taken_names : List (List ℕ)
 taken_names = codes "state" ∷ codes "kind" ∷ []
 
 -- a letter, and at most 15 letters, digits or underscores behind it
+abbrev pub is_spelled : List ℕ → Bool
+is_spelled [] = false
+is_spelled (c ∷ cs) = is_letter c && nat_le (length cs) 15 && list_all is_word_byte cs
+
 abbrev pub is_field_name : List ℕ → Bool
-is_field_name text = spelled text && not (is_one_of taken_names text) where
-  spelled : List ℕ → Bool
-  spelled [] = not true
-  spelled (c ∷ cs) = is_letter c && nat_le (length cs) 15 && list_all is_word_byte cs
+is_field_name text = is_spelled text && not (is_one_of taken_names text)
 
 -- names of fields, none twice
 abbrev pub are_field_names : List (List ℕ) → Bool

@@ -3,6 +3,7 @@
 
 mod bodies;
 mod fault;
+mod fields;
 mod scenario;
 mod section;
 mod settings;

@@ -1,30 +1,19 @@
-//! Arrays of texts: the events to trace, and the names of fields.
-ghost use Rattle.std.specs.Prelude.{◌≡◌, ◌≤◌, ◌++◌, [], codes, IfOk, IfSome, length};
-ghost use Rattle.std.specs.List.{list_all};
+//! Arrays of texts, and the events to trace.
+ghost use Rattle.std.specs.Prelude.{◌≡◌, []};
 ghost use Rattle.toml.specs.View.{view, items_view, table_view};
-ghost use Rattle.pe_lex.specs.Forms.{is_letter, is_word_byte};
 ghost use Rattle.pe_scene.specs.Trace.{traces};
-ghost use Rattle.pe_scene.specs.Sections.{named};
-ghost use Rattle.pe_scene.specs.Texts.{are_texts, texts_of, next_event, events_after, trace_in, is_field_name, are_field_names, names_of};
+ghost use Rattle.pe_scene.specs.Texts.{are_texts, next_event, events_after, trace_in};
 ghost use Rattle.pe_scene.specs.TextsView.{GivesTrace, TracesEvents};
-ghost use Rattle.pe_scene.specs.Fields.{names_at};
-ghost use Rattle.pe_scene.specs.Faults.{Gives};
 
 use crate::fault::{KeyFault, SceneFault};
 use crate::section::{Section, value_at};
 use crate::trace::Trace;
-use pe_base::{Event, List, Text};
-use std::alloc::{AllocError, Global};
+use pe_base::Event;
+use std::alloc::Global;
 use toml::{Table, Value};
 
-/// How many fields of one kind there may be.
-const MOST_FIELDS: usize = 8;
-
-/// How many bytes a field's name may have.
-const NAME_BYTES: usize = 16;
-
 /// Whether each value is a text.
-fn are_texts(values: &[Value]) -> bool
+pub(crate) fn are_texts(values: &[Value]) -> bool
     ensures { result ≡ are_texts (items_view values.now) }
 {
     for value in values {
