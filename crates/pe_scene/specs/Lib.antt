@@ -16,3 +16,6 @@ pub mod SettingsView
 pub mod Texts
 pub mod Fields
 pub mod TextsView
+-- what a scenario says before its bodies
+pub mod Front
+pub mod FrontView

@@ -4,6 +4,7 @@
 mod bodies;
 mod fault;
 mod fields;
+mod front;
 mod scenario;
 mod section;
 mod settings;
