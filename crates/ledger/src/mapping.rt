@@ -58,6 +58,7 @@ impl Mapping for Ledger {
       told = record { text = Some []; faults = 0 };
       dim = it.dim;
       sure = false;
+      lent = [];
     } };
 
     fn fresh_v(&mut self) -> Result<Number, AllocError> {
