@@ -1,1 +1,5 @@
 pub mod FullCorners
+pub mod Chains
+pub mod Prints
+pub mod Lawful
+pub mod Meanings

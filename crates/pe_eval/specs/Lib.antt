@@ -10,5 +10,9 @@ pub mod Values
 pub mod Stops
 -- what statements do
 pub mod Meaning
+-- what a body may do to what its event sees
+pub mod Law
 -- what a view shows
 pub mod Sights
+-- what a call that runs a body answers
+pub mod Answers

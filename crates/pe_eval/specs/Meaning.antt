@@ -1,6 +1,7 @@
 -- What a body does at an event: its statements run in order, and a fault stops it.
 use Rattle.std.specs.Prelude.{ℕ, ℤ, pos, ◌-◌, List, [], ◌∷◌, ◌++◌, map, codes, slice_get, slice_set, Option, Some, None, option_map, Result, Ok, Err, if◌then◌else◌}
 use Rattle.std.specs.Option.{option_map_or}
+use Rattle.std.specs.List.{flat_map}
 use Rattle.std.specs.Fmt.{signed_decimal}
 use Rattle.pe_base.specs.declared.state.State.{State}
 use Rattle.pe_base.specs.declared.kind.Kind.{Kind}
@@ -14,6 +15,7 @@ use Rattle.pe_check.specs.declared.checked.VertexName.{VertexName}
 use Rattle.pe_check.specs.declared.checked.VertexName.TheVariants.{Own, Corner, ParentCorner}
 use Rattle.pe_check.specs.declared.checked.Slot.{Slot}
 use Rattle.pe_check.specs.declared.checked.Slot.TheVariants as slot
+use Rattle.pe_check.specs.declared.checked.Expr.{Expr}
 use Rattle.pe_check.specs.declared.checked.Stmt.{Stmt}
 use Rattle.pe_check.specs.declared.checked.Stmt.TheOpen.{Stmt-F}
 use Rattle.pe_check.specs.declared.checked.Stmt.TheFolds.{fold-Stmt}
@@ -75,10 +77,14 @@ with_vertex Own change seen = record seen { vertex = option_map change seen.vert
 with_vertex (Corner k) change seen = record seen { corners = changed_at k change seen.corners }
 with_vertex (ParentCorner k) change seen = record seen { parents = changed_at k change seen.parents }
 
+-- a number of a vertex is set
+abbrev pub with_field : ℕ → ℤ → VertexRecord → VertexRecord
+with_field field n vertex = record vertex { numbers = slice_set vertex.numbers field n }
+
 -- a number of what the event sees is set
 abbrev pub with_number : Slot → ℤ → Seen → Seen
 with_number (slot.Global field) n seen = seen
-with_number (slot.Vertex vertex field) n seen = with_vertex vertex (λ it. record it { numbers = slice_set it.numbers field n }) seen
+with_number (slot.Vertex vertex field) n seen = with_vertex vertex (with_field field n) seen
 with_number (slot.Cell field) n seen = record seen { cell = option_map (λ numbers. slice_set numbers field n) seen.cell }
 with_number (slot.Parent field) n seen = record seen { parent = slice_set seen.parent field n }
 
@@ -99,22 +105,36 @@ abbrev pub triggered_state : Trigger → ℕ → ℕ → Kind → State → Stat
 triggered_state Refine level max_level kind state = refined_state level max_level kind state
 triggered_state Erase level max_level kind state = erased_state kind state
 
--- a vertex is asked to refine or to erase
+-- a vertex of a level is asked to refine or to erase
+abbrev pub with_trigger : Trigger → ℕ → ℕ → VertexRecord → VertexRecord
+with_trigger trigger level max_level vertex =
+    record vertex { state = triggered_state trigger level max_level vertex.kind vertex.state }
+
 abbrev pub marked : Trigger → ℕ → VertexName → Seen → Seen
-marked trigger max_level vertex seen =
-    with_vertex vertex (λ it. record it { state = triggered_state trigger (level_of vertex seen) max_level it.kind it.state }) seen
+marked trigger max_level vertex seen = with_vertex vertex (with_trigger trigger (level_of vertex seen) max_level) seen
+
+-- the parts of a line, each behind one space
+abbrev pub number_parts : List ℤ → List ℕ
+number_parts numbers = flat_map (λ part. 32 ∷ part) (map signed_decimal numbers)
+
+-- the line of a print, without its line feed
+abbrev pub print_start : List ℤ → List ℕ
+print_start numbers = codes "print" ++ number_parts numbers
 
 -- the line of a print
 abbrev pub print_line : List ℤ → List ℕ
 print_line numbers = line (codes "print") (map signed_decimal numbers)
+
+-- a print at an event
+abbrev pub printed : List Expr → Scene → Outcome
+printed values scene = with_value scene.seen scene.list (values_of values scene) (λ numbers. behind (print_line numbers) (fine scene.seen scene.list))
 
 -- a statement whose bodies do this
 abbrev pub stmt_step : Stmt-F Act → Act
 stmt_step (Stmt-F.Assign slot expr) setting seen list =
     with_value seen list (value_of expr (scene_of setting seen list)) (λ n. fine (with_number slot n seen) (with_global slot n list))
 stmt_step (Stmt-F.Mark trigger vertex) setting seen list = fine (marked trigger setting.max_level vertex seen) list
-stmt_step (Stmt-F.Print values) setting seen list =
-    with_value seen list (values_of values.items (scene_of setting seen list)) (λ numbers. behind (print_line numbers) (fine seen list))
+stmt_step (Stmt-F.Print values) setting seen list = printed values.items (scene_of setting seen list)
 stmt_step (Stmt-F.If test body) setting seen list =
     with_value seen list (value_of test (scene_of setting seen list)) (λ n. if is_zero n then fine seen list else in_turn body setting seen list)
 stmt_step (Stmt-F.IfElse test body other) setting seen list =

@@ -9,7 +9,7 @@ use Rattle.pe_base.specs.Acts.Effects.{VertexRecord, Seen}
 use Rattle.pe_stacks.specs.declared.record.Vertex as stacks
 use Rattle.pe_stacks.specs.Corners.{CornerList, vertices_of, IsFull}
 use Rattle.pe_check.specs.Fits.{Reach}
-use denote.MutBor.{GName}
+use Rattle.std.specs.Borrow.{GName}
 use Rattle.pe_eval.specs.declared.view.View.{View}
 use Rattle.pe_eval.specs.declared.view.View.TheVariants.{Plain, Vertex, Cell}
 use Rattle.pe_eval.specs.Names.{Scene}

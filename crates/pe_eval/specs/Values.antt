@@ -1,5 +1,5 @@
 -- The value of an expression at an event.
-use Rattle.std.specs.Prelude.{ℤ, List, [], ◌∷◌, Result, Ok, Err}
+use Rattle.std.specs.Prelude.{ℤ, List, [], ◌∷◌, map, Result, Ok, Err}
 use Rattle.pe_parse.specs.declared.tree.Sign.{Sign}
 use Rattle.pe_check.specs.declared.checked.Expr.{Expr}
 use Rattle.pe_check.specs.declared.checked.Expr.TheOpen.{Expr-F}
@@ -25,6 +25,10 @@ expr_step (Expr-F.Abs operand) scene = operand scene >>= λ a. absolute a
 abbrev pub value_of : Expr → Scene → Value
 value_of = fold-Expr (Scene → Value) expr_step
 
+-- a chain whose value so far is known
+abbrev pub value_behind : Value → List (Sign × Expr) → Scene → Value
+value_behind so_far links scene = chain_value scene so_far (map (λ link. (link.0, value_of link.1)) links)
+
 -- one value and then more
 abbrev pub values_from : Value → Result (List ℤ) Fault → Result (List ℤ) Fault
 values_from (Err fault) rest = Err fault
@@ -35,3 +39,8 @@ values_from (Ok n) (Ok ns) = Ok (n ∷ ns)
 abbrev pub values_of : List Expr → Scene → Result (List ℤ) Fault
 values_of [] scene = Ok []
 values_of (expr ∷ exprs) scene = values_from (value_of expr scene) (values_of exprs scene)
+
+-- what is made of values, if there are any
+abbrev pub with_values : {X Y : Type 0} → (X → Y) → Result X Fault → Result Y Fault
+with_values make (Ok values) = Ok (make values)
+with_values make (Err fault) = Err fault

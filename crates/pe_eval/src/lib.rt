@@ -3,8 +3,14 @@
 
 mod arithmetic;
 mod fault;
+mod laws;
 mod names;
+mod print;
+mod run;
+mod value;
 mod view;
 mod writes;
 
+pub use laws::bodies_are_lawful;
+pub use run::eval;
 pub use view::View;

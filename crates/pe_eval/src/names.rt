@@ -1,7 +1,7 @@
-ghost use Rattle.std.specs.Prelude.{◌≡◌, ◌<◌, Some, IsTrue, slice_index, pos};
+ghost use Rattle.std.specs.Prelude.{◌≡◌, ◌≤◌, ◌^◌, Some, IsTrue, slice_index, pos};
 ghost use Rattle.pe_check.specs.Fits.{name_fits, slot_fits, vertex_fits, has_place, is_cell};
 ghost use Rattle.pe_eval.specs.Names.{name_value, slot_value, vertex_named, state_number as number_of_state, kind_number as number_of_kind};
-ghost use Rattle.pe_eval.specs.Sights.{sight, globals_of, frame, reach_of, IsReady, seen_vertex, scene};
+ghost use Rattle.pe_eval.specs.Sights.{sight, globals_of, frame, reach_of, IsBelowRoot, IsReady, seen_vertex, scene};
 
 use crate::view::View;
 use pe_base::{Fields, Kind, Place, State};
@@ -53,7 +53,8 @@ impl View<'_> {
 
     /// The level of the place.
     fn level(&self) -> i64
-        requires place { IsTrue (has_place ((frame self.now).sort)) }
+        requires place { IsTrue (has_place (frame self.now).sort) }
+        requires ready { IsReady self.now }
         ensures { result ≡ pos (sight self.now).place.level }
     {
         i64::from(self.place().level)
@@ -62,11 +63,10 @@ impl View<'_> {
     /// The position of the place on an axis.
     fn position(&self, axis: u8) -> i64
         requires place { IsTrue (has_place ((frame self.now).sort)) }
-        requires axis { axis < 4 }
         requires ready { IsReady self.now }
         ensures { result ≡ pos (slice_index (sight self.now).place.pos axis) }
     {
-        self.place().pos[axis as usize] as i64
+        position_on(self.place(), axis) as i64
     }
 
     /// The numbers of the whole grid.
@@ -82,8 +82,10 @@ impl View<'_> {
 
     /// The place of the vertex or of the cell.
     fn place(&self) -> &Place
-        requires { IsTrue (has_place ((frame self.now).sort)) }
-        ensures { result.now ≡ (sight self.now).place }
+        requires place { IsTrue (has_place (frame self.now).sort) }
+        requires ready { IsReady self.now }
+        ensures value { result.now ≡ (sight self.now).place }
+        ensures below { IsBelowRoot result.now }
     {
         match self {
             View::Plain { .. } => unreachable!(),
@@ -128,6 +130,18 @@ impl View<'_> {
             (View::Cell { parents, .. }, VertexName::ParentCorner(k)) => parents.at(k),
             _ => unreachable!(),
         }
+    }
+}
+
+/// The position of a place on an axis, and 0 on an axis behind the fourth.
+fn position_on(place: &Place, axis: u8) -> u64
+    requires { IsBelowRoot place.now }
+    ensures value { result ≡ slice_index place.now.pos axis }
+    ensures few { result ≤ 3 ^ 20 }
+{
+    match place.pos.get(axis as usize) {
+        Some(x) => *x,
+        None => 0,
     }
 }
 
