@@ -1,4 +1,8 @@
--- A body whose names are resolved, in reading order.
+-- The check of names, in reading order.
 
--- when it fits an event
+-- the table of names
+pub mod Table
+-- when a body whose names are resolved fits an event
 pub mod Fits
+-- what the check answers
+pub mod Answers

@@ -1,6 +1,9 @@
 //! A body of the event language whose names are resolved, and how it is made of a body that was read.
 #![tactic(auto)]
 
+mod cause;
 mod checked;
+mod head;
 
+pub use cause::CheckFault;
 pub use checked::{Checked, Expr, Name, Slot, Stmt, Values, VertexName};

@@ -3,3 +3,4 @@ pub mod Chains
 pub mod Prints
 pub mod Lawful
 pub mod Meanings
+pub mod Runs
