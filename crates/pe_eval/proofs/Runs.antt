@@ -44,6 +44,7 @@ sink_fault-later outcome text first second third told le fault = record {
   rest = fault.rest;
   whole = ap (λ t. text ++ t) fault.whole ∙ sym (append_assoc text fault.part fault.rest);
   text = appends-then first.text second.text third.text text fault.part told fault.text;
+  faults = omega (arith, le, fault.faults);
   rises = rises-later first.faults second.faults third.faults le fault.rises;
 }
 
@@ -54,6 +55,7 @@ sink_fault-more outcome more whole old new longer fault = record {
   rest = fault.rest ++ more;
   whole = longer ∙ ap (λ t. t ++ more) fault.whole ∙ append_assoc fault.part fault.rest more;
   text = fault.text;
+  faults = fault.faults;
   rises = fault.rises;
 }
 
@@ -166,10 +168,10 @@ went-through body begun old view now i went all =
 
 -- a print at which the sink fails
 cut_at : (scene : Scene) (values : Result (List ℤ) Fault) (line : List ℕ) (old new : Told) → Ok line ≡ with_values print_start values
-    → AppendsPrefix old.text (line ++ 10 ∷ []) new.text → Rises old.faults new.faults
+    → AppendsPrefix old.text (line ++ 10 ∷ []) new.text → old.faults ≤ new.faults → Rises old.faults new.faults
     → IsSinkFault (with_value scene.seen scene.list values (λ numbers. behind (print_line numbers) (fine scene.seen scene.list))) old new
-cut_at scene (Err fault) line old new is told rises = absurd (cc is)
-cut_at scene (Ok numbers) line old new is told rises =
+cut_at scene (Err fault) line old new is told faults rises = absurd (cc is)
+cut_at scene (Ok numbers) line old new is told faults rises =
     let cut = part_of_prefix (line ++ 10 ∷ []) old.text new.text told in
     let same : line ≡ print_start numbers = cc is in
     record {
@@ -177,12 +179,13 @@ cut_at scene (Ok numbers) line old new is told rises =
       rest = cut.1;
       whole = append-nil (print_line numbers) ∙ ap (λ l. l ++ 10 ∷ []) (sym same) ∙ cut.2;
       text = cut.3;
+      faults = faults;
       rises = rises;
     }
 
 pub printed-cut : (scene : Scene) (values : List Expr) (line : List ℕ) (old new : Told) → Ok line ≡ with_values print_start (values_of values scene)
-    → AppendsPrefix old.text (line ++ 10 ∷ []) new.text → Rises old.faults new.faults → IsSinkFault (printed values scene) old new
-printed-cut scene values line old new is told rises = cut_at scene (values_of values scene) line old new is told rises
+    → AppendsPrefix old.text (line ++ 10 ∷ []) new.text → old.faults ≤ new.faults → Rises old.faults new.faults → IsSinkFault (printed values scene) old new
+printed-cut scene values line old new is told faults rises = cut_at scene (values_of values scene) line old new is told faults rises
 
 -- a statement of a body fits where the body does
 pub stmt_fits-at : (begun view : View) (body : List Stmt) (i : ℕ) (stmt : Stmt) → IsTrue (fits (reach_of begun) body) → frame view ≡ frame begun → i < length body → stmt ≡ slice_index_or body i stmt

@@ -28,6 +28,7 @@ pub record IsSinkFault (outcome : Outcome) (old new : Told) : Type 0 where
   pub rest : List ℕ
   pub whole : outcome.text ≡ part ++ rest
   pub text : Appends old.text part new.text
+  pub faults : old.faults ≤ new.faults
   pub rises : Rises old.faults new.faults
 
 -- The answer. Overflow and Division come exactly where the outcome says so, unless the sink failed before; memory never wants.

@@ -2,7 +2,7 @@ use Rattle.std.proofs.Common.{Err}
 use Rattle.pe_base.specs.declared.event.Event.TheVariants.{TouchVertexFirstTime}
 use Rattle.pe_mapping.proofs.Texts.{part-then}
 use Rattle.pe_mapping.proofs.Events.{answer-part, outcome_of-next}
-use Rattle.pe_mapping.proofs.callers.welcome.Goals as goal
+use Rattle.ledger.proofs.rows.welcome.Goals as goal
 
 pub returns-in-Err-vertex_event-clause-part : goal.returns-in-Err-vertex_event-clause-part
 returns-in-Err-vertex_event-clause-part g c =
