@@ -2,3 +2,4 @@ pub mod CornerPlaces
 pub mod Records
 pub mod Loading
 pub mod Storing
+pub mod KindLaws
