@@ -104,6 +104,7 @@ module _ (body : List Stmt) (begun : View) (old : Told) (i : ℕ) (view : View) 
     where
       fine_then : (outcome : Outcome) (rest : Seen → List ℤ → Outcome) → outcome.fault ≡ None → and_then outcome rest ≡ behind outcome.text (rest outcome.seen outcome.list)
       fine_then outcome rest none = ap (λ fault. unless_stopped fault outcome rest) none
+
       twice_behind : (x y : List ℕ) (outcome : Outcome) → behind x (behind y outcome) ≡ behind (x ++ y) outcome
       twice_behind x y outcome = ap (λ text. record outcome { text = text }) (sym (append_assoc x y outcome.text))
 
@@ -131,6 +132,7 @@ module _ (body : List Stmt) (begun : View) (old : Told) (i : ℕ) (view : View) 
     where
       rest : Seen → List ℤ → Outcome
       rest = meaning (drop (i + 1) body) (frame begun).setting
+
       longer : (fault : Option effects.Fault) → IsSinkFault (unless_stopped fault here rest) now next
       longer None = sink_fault-more here (rest here.seen here.list).text (behind here.text (rest here.seen here.list)) now next refl cut
       longer (Some fault) = cut

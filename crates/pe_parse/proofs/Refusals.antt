@@ -50,13 +50,15 @@ stuck_step : (size : ℕ) (fs : List Frame) (x : Lexeme) (xs : List Lexeme) (at 
 stuck_step size fs x xs at None opens later h =
     let same : x.at ≡ at = cc in
     record {
-      number = 0; within = omega arith; is = sym same;
+      number = 0;
+      within = omega arith;
+      is = sym same;
       refused = λ over more. ap (λ (o : Option (List Frame)). on_step o (λ hs. accepts hs more)) opens;
       whole = ap (λ (o : Option (List Frame)). on_step o (λ hs. accepts hs xs)) opens;
     }
 stuck_step size fs x xs at (Some gs) opens later h =
     more_stuck size fs gs x xs at opens (later gs (later_fault (passed_limit gs x) (fault_from size gs xs) at
-      (no_syntax_limit gs x at (nat_le (nesting gs) 64) (are_counted gs) (is_too_large x.kind x.bytes)) h))
+    (no_syntax_limit gs x at (nat_le (nesting gs) 64) (are_counted gs) (is_too_large x.kind x.bytes)) h))
 
 stuck_at : (size : ℕ) (fs : List Frame) (xs : List Lexeme) (at : ℕ) → fault_from size fs xs ≡ Some (Syntax at) → Stuck size fs xs at
 stuck_at size fs [] at h = end_stuck size fs at (ends fs) refl h
