@@ -366,3 +366,39 @@ open_completes fs gs (x ∷ xs) w h c = open_step fs gs x xs w (step fs x.kind) 
 -- tokens that fill each frame
 zero_token : TokenKind → Lexeme
 zero_token k = record { kind = k; bytes = []; at = 0 }
+
+zero_tree : Expr
+zero_tree = expr.Number (pos (value_of []))
+
+zero_spelled : Spells (Chained Disjunction zero_tree) (zero_token kind.Number ∷ [])
+unfolding zero_tree zero_token
+zero_spelled = single Disjunction (single Conjunction (single Comparison (single Sum (single Product (number (record { kind = kind.Number; bytes = []; at = 0 }) refl)))))
+
+filler : (f : Frame) → (u : List Lexeme) × Fills f u
+unfolding zero_token zero_tree
+filler (Needs k) = (zero_token k ∷ [], a_token (zero_token k) refl)
+filler Value = (zero_token kind.Number ∷ [], (expr.Number (pos (value_of [])), number (zero_token kind.Number) refl))
+filler (Links r n) = ([], ([], linked_none r))
+filler Second = ([], no_second)
+filler Ending = ([], no_token)
+filler Pair = (_, a_pair (zero_token kind.OpenRound) (zero_token kind.Comma) (zero_token kind.CloseRound) refl zero_spelled refl zero_spelled refl)
+filler Single = (_, a_single (zero_token kind.OpenRound) (zero_token kind.CloseRound) refl zero_spelled refl)
+filler (Values n) = ([], ([], listed_none))
+filler Block = (_, a_block (zero_token kind.OpenCurly) (zero_token kind.CloseCurly) refl nothing refl)
+filler Otherwise = ([], no_else)
+filler Sequence = ([], (Nothing, nothing))
+
+completed : (fs : List Frame) → (w : List Lexeme) × Completes fs w
+completed [] = ([], done)
+completed (f ∷ fs) = let a = filler f in let b = completed fs in (a.0 ++ b.0, fill a.0 a.1 b.1)
+
+nothing_left : (w : List Lexeme) → Completes [] w → w ≡ []
+nothing_left w done = refl
+
+-- Tokens that may come begin a body.
+pub begins_body : (gs : List Frame) (xs : List Lexeme) → open_after (Sequence ∷ []) xs ≡ Some gs → Begins xs
+begins_body gs xs h =
+    let w = completed gs in
+    let all = found_all [] (xs ++ w.0) (open_completes (Sequence ∷ []) gs xs w.0 h w.1) in
+    let whole : all.front ≡ xs ++ w.0 = sym (all.whole ∙ ap (λ (v : List Lexeme). all.front ++ v) (nothing_left all.back all.rest) ∙ append-nil all.front) in
+    record { more = w.0; body = all.trees; spelled = subst (λ (v : List Lexeme). Spells (All all.trees) v) whole all.spelled }

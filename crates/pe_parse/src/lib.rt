@@ -6,6 +6,8 @@ mod fault;
 mod rank;
 mod read;
 mod reader;
+#[cfg(test)]
+mod rows;
 mod stmt;
 mod tree;
 mod words;

@@ -1,12 +1,11 @@
-ghost use Rattle.std.specs.Prelude.{◌≡◌, ℕ, Ok, Err, None, MatchResult, IfOk, length};
+ghost use Rattle.std.specs.Prelude.{◌≡◌, Ok, None, MatchResult, IfOk, IfErr, length};
 ghost use Rattle.pe_lex.specs.Tokens.{tokens_of};
 ghost use Rattle.pe_parse.specs.Lexemes.{lexemes_of};
 ghost use Rattle.pe_parse.specs.Statements.{statements_of};
 ghost use Rattle.pe_parse.specs.Grammar.{All, Spells};
 ghost use Rattle.pe_parse.specs.Faults.{fault_of};
 ghost use Rattle.pe_parse.specs.Reading.{IsFault};
-ghost use Rattle.pe_parse.specs.Bodies.{NoBody};
-ghost use Rattle.pe_parse.specs.declared.fault.ParseFault.TheVariants.{Syntax};
+ghost use Rattle.pe_parse.specs.Bodies.{Refused};
 
 use crate::fault::ParseFault;
 use crate::reader::Reader;
@@ -20,7 +19,7 @@ pub fn parse(alloc: Global, text: &str, tokens: &[Token]) -> Result<Body, ParseF
     requires { tokens_of text.now ≡ Ok tokens.now }
     ensures tree { IfOk result (λ body. Spells (All (statements_of body)) (lexemes_of text.now tokens.now)) }
     ensures first { MatchResult result (λ _. fault_of text.now tokens.now ≡ None) (λ fault. IsFault (fault_of text.now tokens.now) fault) }
-    ensures syntax { (at : ℕ) → result ≡ Err (Syntax at) → NoBody (length text.now) (lexemes_of text.now tokens.now) at }
+    ensures refused { IfErr result (λ fault. Refused (length text.now) (lexemes_of text.now tokens.now) fault) }
 {
     whole_body(alloc, text, tokens)
 }
