@@ -3,3 +3,4 @@ pub mod Records
 pub mod Loading
 pub mod Storing
 pub mod KindLaws
+pub mod Touching
