@@ -4,3 +4,5 @@ pub mod Loading
 pub mod Storing
 pub mod KindLaws
 pub mod Touching
+pub mod InsideLaws
+pub mod Fitting

@@ -1,3 +1,5 @@
+use Rattle.pe_adapt.proofs.Fitting.{load_as-fits}
+use Rattle.pe_adapt.proofs.InsideLaws.{kind-inside}
 use Rattle.std.proofs.Common.{◌≡◌, sym, ap, subst, ◌∙◌}
 use Rattle.pe_mapping.specs.Sights.{seen_vertex}
 use Rattle.pe_hang.specs.InHand.{setting_of}
