@@ -3,3 +3,6 @@ pub mod Records
 pub mod Loading
 pub mod Storing
 pub mod KindLaws
+pub mod Touching
+pub mod InsideLaws
+pub mod Fitting

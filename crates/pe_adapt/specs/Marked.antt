@@ -1,12 +1,12 @@
 -- Which corners of a cell are old and new, in one number.
-use Rattle.std.specs.Prelude.{◌≡◌, ℕ, ◌<◌, ◌^◌, List, slice_get}
+use Rattle.std.specs.Prelude.{◌≡◌, ℕ, false, ◌<◌, ◌^◌, List, slice_get}
 use Rattle.std.specs.Option.{option_map}
 use Rattle.pe_base.specs.declared.place.Place.{Place}
 use Rattle.pe_base.specs.Tree.Places.{corner, parent_of, IsInside}
 use Rattle.pe_base.specs.declared.kind.Kind.{Kind}
 use Rattle.pe_base.specs.declared.kind.Kind.TheVariants.{Hanging}
 use Rattle.pe_base.specs.Life.States.{is_old, is_new}
-use Rattle.pe_base.specs.Life.Kinds.{kind_from}
+use Rattle.pe_base.specs.Life.Kinds.{kind_from, is_inside}
 use Rattle.pe_base.specs.Life.Carriers.{passes, kind_by}
 use Rattle.pe_base.specs.Acts.Effects.{VertexRecord}
 use Rattle.pe_states.specs.Marks.{is_old_at, is_new_at}
@@ -26,3 +26,8 @@ GiveKinds axes traversal cell parents marks =
 -- a vertex that counts lies inside the root cube
 pub record IsPlaced (axes : ℕ) (kind : Kind) (vertex : Place) : Type 0 where
   pub inside : (kind ≡ Hanging → ⊥) → IsInside axes vertex
+
+-- no corner of a cell that lies on the root's boundary is old or new
+pub record IsQuiet (axes : ℕ) (cell : Place) (its : List VertexRecord) : Type 0 where
+  pub old : (k : ℕ) → k < 2 ^ axes → is_inside axes (corner axes cell k) ≡ false → passes is_old (option_map (λ it. it.state) (slice_get its k)) ≡ false
+  pub new : (k : ℕ) → k < 2 ^ axes → is_inside axes (corner axes cell k) ≡ false → passes is_new (option_map (λ it. it.state) (slice_get its k)) ≡ false

@@ -2,7 +2,10 @@
 ghost use Rattle.std.specs.Prelude.{◌≡◌, ℕ, ◌+◌, ◌≤◌, ◌<◌, ◌^◌, is_err};
 ghost use Rattle.pe_base.specs.Tree.Places.{corner};
 ghost use Rattle.pe_base.specs.Tree.Ways.{way_of};
-ghost use Rattle.pe_base.specs.Life.Kinds.{is_hanging, is_inside};
+ghost use Rattle.pe_base.specs.declared.kind.Kind.TheVariants.{Hanging};
+ghost use Rattle.pe_base.specs.Steps.Routes.{stack_in, stack_out};
+ghost use Rattle.pe_base.specs.Life.Kinds.{kind_from};
+ghost use Rattle.pe_states.specs.Marks.{is_old_at, is_new_at};
 ghost use Rattle.pe_access.specs.States.{StandsFor};
 ghost use Rattle.pe_stacks.specs.Corners.{IsFull};
 ghost use Rattle.pe_mapping.specs.Held.{Keeps};
@@ -11,8 +14,8 @@ ghost use Rattle.pe_hang.specs.InHand.{setting_of, setting_of_events, KeepsMarks
 ghost use Rattle.pe_hang.specs.Follows.{Follows, Fits, Left, read_by, found_of, held_by};
 ghost use Rattle.pe_adapt.specs.Stops.{failure_of};
 ghost use Rattle.pe_adapt.specs.Marked.{GiveKinds, IsPlaced};
-ghost use Rattle.pe_adapt.specs.Spots.{IsSpot, desk_in_hand};
-ghost use Rattle.pe_adapt.specs.Touches.{kind_in_hand, load_corner, store_corner};
+ghost use Rattle.pe_adapt.specs.Spots.{IsSpot, stack_of, desk_in_hand};
+ghost use Rattle.pe_adapt.specs.Touches.{load_corner, store_corner};
 
 use crate::load::load_as;
 use crate::store::store_as;
@@ -22,6 +25,32 @@ use pe_base::{Dim, Kind};
 use pe_mapping::Mapping;
 use pe_stacks::{CellRec, Corners, Depot, Vertex};
 use pe_states::Marks;
+
+// Where a corner comes from. A hanging vertex comes from nowhere.
+fn route_in(dim: Dim, kind: Kind, spot: &Spot, state: &CellState) -> Route
+    requires spot { IsSpot dim spot.now }
+    requires state { StandsFor dim (way_of spot.now.traversal) spot.now.cell state.now }
+    requires placed { IsPlaced dim kind (corner dim spot.now.cell spot.now.corner) }
+    ensures { (kind ≡ Hanging → ⊥) → stack_of result ≡ stack_in dim (way_of spot.now.traversal) (corner dim spot.now.cell spot.now.corner) spot.now.cell }
+{
+    match kind {
+        Kind::Hanging => Route::Stream,
+        _ => state.route_in(spot.corner),
+    }
+}
+
+// Where a corner goes. A hanging vertex goes nowhere.
+fn route_out(dim: Dim, kind: Kind, spot: &Spot, state: &CellState) -> Route
+    requires spot { IsSpot dim spot.now }
+    requires state { StandsFor dim (way_of spot.now.traversal) spot.now.cell state.now }
+    requires placed { IsPlaced dim kind (corner dim spot.now.cell spot.now.corner) }
+    ensures { (kind ≡ Hanging → ⊥) → stack_of result ≡ stack_out dim (way_of spot.now.traversal) (corner dim spot.now.cell spot.now.corner) spot.now.cell }
+{
+    match kind {
+        Kind::Hanging => Route::Stream,
+        _ => state.route_out(spot.corner),
+    }
+}
 
 /// Loads a corner, by marks that give the kinds of its cell's corners. On an error its record is given up.
 pub fn load_marked<M: Mapping, DV: Depot<Vertex<M::V>>>(
@@ -39,8 +68,7 @@ pub fn load_marked<M: Mapping, DV: Depot<Vertex<M::V>>>(
     requires spot { IsSpot dim spot.now }
     requires state { StandsFor dim (way_of spot.now.traversal) spot.now.cell state.now }
     requires kinds { GiveKinds dim spot.now.traversal spot.now.cell (seen_corners M.numbers.vertex parents.old) marks }
-    requires placed { IsPlaced dim (kind_in_hand (setting_of M.rules (M.held m.old) start_level 0 spot.now.traversal) spot.now.cell
-        (seen_corners M.numbers.vertex parents.old) (corner dim spot.now.cell spot.now.corner)) (corner dim spot.now.cell spot.now.corner) }
+    requires placed { IsPlaced dim (kind_from (is_old_at marks spot.now.corner) (is_new_at marks spot.now.corner)) (corner dim spot.now.cell spot.now.corner) }
     requires full { IsFull (M.held m.old).dim parents.old }
     requires fits { Fits (load_corner (setting_of M.rules (M.held m.old) start_level 0 spot.now.traversal) spot.now.input spot.now.cell spot.now.corner
         (desk_in_hand M.numbers (DV.holds dv.old) parents.old parent.old (M.held m.old).list)) }
@@ -58,10 +86,7 @@ pub fn load_marked<M: Mapping, DV: Depot<Vertex<M::V>>>(
     // From the call it is known that a corner's number is below 16.
     let _corners = dim.corners();
     let kind = marks.kind_at(spot.corner);
-    let from = match kind {
-        Kind::Hanging => Route::Stream,
-        _ => state.route_in(spot.corner),
-    };
+    let from = route_in(dim, kind, spot, state);
     load_as(
         start_level,
         kind,
@@ -106,10 +131,7 @@ pub fn store_placed<M: Mapping, DV: Depot<Vertex<M::V>>>(
     ensures marks { KeepsMarks M.numbers.vertex parents.old parents.new }
 {
     let at = corner_place(dim, &spot.cell, spot.corner);
-    let to = match v.kind() {
-        Kind::Hanging => Route::Stream,
-        _ => state.route_out(spot.corner),
-    };
+    let to = route_out(dim, v.kind(), spot, state);
     store_as(
         to,
         spot.output,
