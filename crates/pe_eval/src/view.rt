@@ -2,6 +2,7 @@ use pe_base::{Fields, Place};
 use pe_stacks::{CellRec, Corners, Vertex};
 
 /// What an event lends to a body: the numbers of the whole grid, and what the event sees.
+#[derive(Drop)]
 pub enum View<'a> {
     /// At an event of the traversal as a whole.
     Plain {
