@@ -1,5 +1,5 @@
 -- Parts of a tree that are checked one by one, from left to right.
-use Rattle.std.proofs.Common.{◌≡◌, ◌∙◌, sym, subst, ℕ, zero, suc, ◌+◌, ◌<◌, ◌≤◌, List, [], ◌∷◌, ◌++◌, length, map, drop, refl, ap, Ok, Err, Result, arith, add-one, append_assoc, append-nil, drop-cons, slice_index_or}
+use Rattle.std.proofs.Common.{◌≡◌, ◌∙◌, sym, ℕ, suc, ◌+◌, ◌<◌, ◌≤◌, List, [], ◌∷◌, ◌++◌, length, map, drop, refl, ap, Ok, Err, Result, arith, append_assoc, append-nil, drop-cons, slice_index_or}
 use Rattle.std.proofs.lemmas.List.{drop_all}
 use Rattle.pe_check.specs.declared.cause.CheckFault.{CheckFault}
 use Rattle.pe_check.specs.declared.cause.CheckFault.TheVariants.{UnknownName, NotHere, Corner, ReadOnly, Memory}

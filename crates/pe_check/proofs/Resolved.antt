@@ -1,5 +1,5 @@
 -- A name that is resolved fits its event.
-use Rattle.std.proofs.Common.{◌≡◌, sym, subst, ◌∙◌, ℕ, suc, ◌+◌, ◌<◌, ◌≤◌, ◌^◌, List, [], ◌∷◌, length, refl, ap, arith, Option, Some, None, Bool, true, false, cond, ◌&&◌, nat_lt, IsTrue}
+use Rattle.std.proofs.Common.{◌≡◌, subst, ℕ, ◌+◌, ◌<◌, ◌^◌, List, [], ◌∷◌, length, refl, arith, Option, Some, None, Bool, true, false, cond, ◌&&◌, nat_lt, IsTrue}
 use Rattle.std.proofs.lemmas.Bool.Decides.{nat_tests}
 use Rattle.std.specs.Prelude.{option_map, codes}
 use Rattle.std.specs.List.{position_from}
@@ -12,7 +12,7 @@ use Rattle.pe_check.specs.declared.checked.Name.{Name}
 use Rattle.pe_check.specs.declared.checked.Name.TheVariants as name
 use Rattle.pe_check.specs.declared.head.Head.{Head}
 use Rattle.pe_check.specs.declared.head.Head.TheVariants.{Traversal, Global, Level, Axis, Vertex, Cell, Parent}
-use Rattle.pe_check.specs.Fits.{Reach, name_fits, slot_fits, vertex_fits}
+use Rattle.pe_check.specs.Fits.{name_fits, vertex_fits}
 use Rattle.pe_check.specs.Table.{is_here, has_corner, is_within}
 use Rattle.pe_check.specs.Resolving.{Context, reach_in, field_of, slot_named, of_vertex, behind}
 

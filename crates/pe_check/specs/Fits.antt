@@ -1,5 +1,5 @@
 -- When a body whose names are resolved fits an event.
-use Rattle.std.specs.Prelude.{ℕ, Bool, true, false, ◌&&◌, not, ◌||◌, ◌^◌, nat_lt, List, map}
+use Rattle.std.specs.Prelude.{ℕ, Bool, true, false, ◌&&◌, ◌^◌, nat_lt, List}
 use Rattle.std.specs.List.{list_all}
 use Rattle.pe_base.specs.declared.event.Sort.{Sort}
 use Rattle.pe_base.specs.declared.event.Sort.TheVariants as sort

@@ -1,5 +1,5 @@
 -- What a name stands for at an event of a sort, or why it is refused.
-use Rattle.std.specs.Prelude.{ℕ, ◌^◌, Bool, not, List, length, codes, Option, Some, None, option_map, Result, Ok, Err, if◌then◌else◌}
+use Rattle.std.specs.Prelude.{ℕ, ◌^◌, List, length, codes, Option, Some, None, option_map, Result, Ok, Err, if◌then◌else◌}
 use Rattle.std.specs.Str.{bytes_eq}
 use Rattle.std.specs.List.{position_from}
 use Rattle.pe_base.specs.declared.event.Sort.{Sort}

@@ -1,9 +1,8 @@
 -- The table of names: which first words there are, which events see what they speak of, and what may stand behind them.
-use Rattle.std.specs.Prelude.{ℕ, ◌+◌, ◌-◌, ◌*◌, Bool, true, false, not, ◌&&◌, ◌==◌, nat_lt, List, [], ◌∷◌, codes, find, Option, Some, None, option_map, if◌then◌else◌}
+use Rattle.std.specs.Prelude.{ℕ, ◌+◌, ◌-◌, ◌*◌, Bool, true, not, ◌&&◌, ◌==◌, nat_lt, List, [], ◌∷◌, codes, find, Option, Some, None, if◌then◌else◌}
 use Rattle.std.specs.Char.{is_ascii_digit}
 use Rattle.std.specs.Str.{bytes_eq}
 use Rattle.pe_base.specs.declared.event.Sort.{Sort}
-use Rattle.pe_check.specs.declared.checked.VertexName.{VertexName}
 use Rattle.pe_check.specs.declared.checked.VertexName.TheVariants.{Own, Corner, ParentCorner}
 use Rattle.pe_check.specs.declared.head.Head.{Head}
 use Rattle.pe_check.specs.declared.head.Head.TheVariants.{Traversal, Global, Level, Axis, Vertex, Cell, Parent}

@@ -1,15 +1,14 @@
 -- The meaning of a body is a lawful effect.
-use Rattle.std.proofs.Common.{◌≡◌, ◌∙◌, sym, subst, List, [], ◌∷◌, map, refl, ap, Option, Some, None, Ok, Err, Result, Bool, true, false, cond, ℤ}
+use Rattle.std.proofs.Common.{◌≡◌, sym, subst, List, [], ◌∷◌, map, refl, ap, Option, Some, None, Ok, Err, Result, Bool, true, false, cond, ℤ}
 use Rattle.pe_base.specs.Acts.Effects.{Seen, Outcome, MayLeave}
 use Rattle.pe_base.specs.Acts.Effects as effects
 use Rattle.pe_check.specs.declared.checked.Stmt.{Stmt}
 use Rattle.pe_check.specs.declared.checked.Stmt.TheOpen.{Stmt-F}
-use Rattle.pe_check.specs.declared.checked.Stmt.TheViews.{roll-Stmt}
 use Rattle.pe_check.specs.declared.checked.Stmt.TheFolds.{fold-roll-Stmt, ind-Stmt, map-Stmt}
 use Rattle.pe_eval.specs.declared.fault.Fault.{Fault}
 use Rattle.pe_eval.specs.Arithmetic.{is_zero}
 use Rattle.pe_eval.specs.Values.{value_of, values_of}
-use Rattle.pe_eval.specs.Meaning.{Act, Setting, fine, faulty, behind, and_then, unless_stopped, with_value, in_turn, scene_of, stmt_step, act_of, meaning, with_number, with_global, print_line}
+use Rattle.pe_eval.specs.Meaning.{Act, Setting, fine, behind, unless_stopped, with_value, in_turn, scene_of, stmt_step, act_of, meaning, with_number, with_global, print_line}
 use Rattle.pe_eval.specs.Law.{IsLawfulAct}
 use Rattle.pe_eval.proofs.Lawful.{lawful-same, lawful-then, lawful-number, lawful-mark}
 

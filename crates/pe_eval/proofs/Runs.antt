@@ -1,11 +1,11 @@
 -- Statements in turn: what has been done so far, and what each further statement adds.
-use Rattle.std.proofs.Common.{◌≡◌, ◌∙◌, sym, subst, ℤ, ℕ, suc, ◌+◌, ◌<◌, ◌≤◌, ◌-◌, ◌^◌, List, [], ◌∷◌, ◌++◌, length, map, drop, take, refl, ap, inl, inr, Option, Some, None, arith, add-one, append_assoc, append-nil, drop-cons, slice_index_or, ◌⊎◌, le_refl, Bool, ◌&&◌, IsTrue, Result, Ok, Err}
+use Rattle.std.proofs.Common.{◌≡◌, ◌∙◌, sym, subst, ℤ, ℕ, suc, ◌+◌, ◌<◌, ◌≤◌, List, [], ◌∷◌, ◌++◌, length, drop, take, refl, ap, inl, inr, Option, Some, None, arith, append_assoc, append-nil, drop-cons, slice_index_or, le_refl, Bool, ◌&&◌, IsTrue, Result, Ok, Err}
 use Rattle.std.proofs.lemmas.List.{take-append-drop, drop_all}
 use Rattle.pe_base.specs.declared.stop.Stop.{Stop}
 use Rattle.pe_base.specs.declared.stop.Stop.TheVariants.{Overflow, Division, Sink, Memory}
 use Rattle.pe_base.specs.Acts.Effects.{Seen, Outcome, MayLeave}
 use Rattle.pe_base.specs.Acts.Effects as effects
-use Rattle.pe_io.specs.Counts.{Rises, last_count}
+use Rattle.pe_io.specs.Counts.{Rises}
 use Rattle.pe_io.specs.Sink.{Appends, AppendsPrefix}
 use Rattle.pe_check.specs.declared.checked.Stmt.{Stmt, If, IfElse}
 use Rattle.pe_eval.specs.declared.view.View.{View}
@@ -13,7 +13,7 @@ use Rattle.pe_check.specs.declared.checked.Expr.{Expr}
 use Rattle.pe_eval.specs.declared.fault.Fault.{Fault}
 use Rattle.pe_eval.specs.Names.{Scene}
 use Rattle.pe_eval.specs.Values.{values_of, with_values}
-use Rattle.pe_eval.specs.Meaning.{fine, with_value, printed, print_start, print_line, Act, Setting, in_turn, act_of, meaning, behind, and_then, unless_stopped}
+use Rattle.pe_eval.specs.Meaning.{fine, with_value, printed, print_start, print_line, act_of, meaning, behind, and_then, unless_stopped}
 use Rattle.pe_eval.specs.Sights.{Frame, sight, globals_of, frame}
 use Rattle.pe_check.proofs.Trees.{stmt_fits-If, stmt_fits-IfElse}
 use Rattle.pe_check.specs.Fits.{Reach, fits, stmt_fits, expr_fits}

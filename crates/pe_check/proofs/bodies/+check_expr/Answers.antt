@@ -1,14 +1,14 @@
-use Rattle.std.proofs.Common.{◌≡◌, ◌∙◌, sym, subst, ap, Ok, List, [], ◌∷◌, ◌++◌, ◌+◌, drop, map, IsTrue, rules}
+use Rattle.std.proofs.Common.{◌≡◌, ◌∙◌, sym, subst, ap, Ok, List, [], ◌∷◌, ◌++◌, ◌+◌, drop, IsTrue, rules}
 use Rattle.std.specs.List.{list_all}
 use Rattle.pe_parse.specs.declared.tree.Sign.{Sign}
-use Rattle.pe_parse.specs.declared.tree.Expr.{Expr as Read, Chain as ReadChain}
+use Rattle.pe_parse.specs.declared.tree.Expr.{Chain as ReadChain}
 use Rattle.pe_check.specs.declared.checked.Expr.{Expr, Chain}
 use Rattle.pe_check.specs.Fits.{expr_fits}
 use Rattle.pe_check.specs.Resolving.{reach_in}
 use Rattle.pe_check.specs.Scopes.{context_of}
 use Rattle.pe_check.specs.Checking.{◌>>=◌, expr_of}
 use Rattle.pe_check.proofs.Gathering.{refuses-later, gathered, gathering-more, gathering-wrong, gathering-ends}
-use Rattle.pe_check.proofs.Trees.{checked_link, chain_first_wrong, chain_link_wrong, chain_right, chain_fits, all_fit-more}
+use Rattle.pe_check.proofs.Trees.{checked_link, chain_link_wrong, chain_right, chain_fits, all_fit-more}
 use Rattle.pe_check.proofs.bodies.+check_expr.Goals as goal
 
 pub returns-in-Err-check_expr-clause-answer : goal.returns-in-Err-check_expr-clause-answer
