@@ -72,15 +72,19 @@ stuck_step : (size : ℕ) (fs : List Frame) (x : Lexeme) (xs : List Lexeme) (at 
 stuck_step size fs x xs at None opens later h =
     let same : x.at ≡ at = cc in
     record {
-      number = 0; within = omega arith; is = sym same;
+      number = 0;
+      within = omega arith;
+      is = sym same;
       refused = λ over more. ap (λ (o : Option (List Frame)). on_step o (λ hs. accepts hs more)) opens;
       whole = ap (λ (o : Option (List Frame)). on_step o (λ hs. accepts hs xs)) opens;
-      before = λ k below. absurd (omega arith); frames = fs; opens = refl;
+      before = λ k below. absurd (omega arith);
+      frames = fs;
+      opens = refl;
     }
 stuck_step size fs x xs at (Some gs) opens later h =
     let none_ = no_limit (passed_limit gs x) (fault_from size gs xs) at (no_syntax_limit gs x at (nat_le (nesting gs) 64) (are_counted gs) (is_too_large x.kind x.bytes)) h in
     more_stuck size fs gs x xs at opens none_ (later gs (later_fault (passed_limit gs x) (fault_from size gs xs) at
-      (no_syntax_limit gs x at (nat_le (nesting gs) 64) (are_counted gs) (is_too_large x.kind x.bytes)) h))
+    (no_syntax_limit gs x at (nat_le (nesting gs) 64) (are_counted gs) (is_too_large x.kind x.bytes)) h))
 
 stuck_at : (size : ℕ) (fs : List Frame) (xs : List Lexeme) (at : ℕ) → fault_from size fs xs ≡ Some (Syntax at) → Stuck size fs xs at
 stuck_at size fs [] at h = end_stuck size fs at (ends fs) refl h
@@ -125,8 +129,13 @@ here_or_later size fs gs x xs fault (Some f) opens limit later h =
 here_or_later size fs gs x xs fault None opens limit later h =
     let over = later h in
     record {
-      number = suc over.number; token = over.token; is = over.is; before = more_within fs gs x xs over.number opens limit over.before; frames = over.frames;
-      opens = ap (λ (o : Option (List Frame)). open_next o (λ gs. open_after gs (take (suc over.number) xs))) opens ∙ over.opens; passes = over.passes;
+      number = suc over.number;
+      token = over.token;
+      is = over.is;
+      before = more_within fs gs x xs over.number opens limit over.before;
+      frames = over.frames;
+      opens = ap (λ (o : Option (List Frame)). open_next o (λ gs. open_after gs (take (suc over.number) xs))) opens ∙ over.opens;
+      passes = over.passes;
     }
 
 over_step : (size : ℕ) (fs : List Frame) (x : Lexeme) (xs : List Lexeme) (fault : ParseFault) (o : Option (List Frame)) → ((at : ℕ) → fault ≡ Syntax at → ⊥) → step fs x.kind ≡ o

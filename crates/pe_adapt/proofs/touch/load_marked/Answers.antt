@@ -18,7 +18,7 @@ load_as-requires-clause-fits g c =
     let set = setting_of g.M.Effects.rules old c.args.start_level 0 spot.traversal in
     let desk = desk_in_hand numbers (g.DV.Depot.holds c.args.dv.now) c.args.parents.now c.args.parent.now old.list in
     let same = load-same set c.args.dim spot.input spot.cell spot.corner desk c.kind_at-kind.result (stack_of c.route_in-from.result) c.corner_place-at.result
-        c.requires.dim c.corner_place-at.ensures.place (c.kind_at-kind.ensures ∙ c.requires.kinds spot.corner c.requires.spot.corner) c.route_in-from.ensures in
+    c.requires.dim c.corner_place-at.ensures.place (c.kind_at-kind.ensures ∙ c.requires.kinds spot.corner c.requires.spot.corner) c.route_in-from.ensures in
     subst (λ course. Fits course) (sym same) c.requires.fits
 
 pub returns-clause-follows : goal.returns-clause-follows
@@ -31,11 +31,11 @@ returns-clause-follows g c = λ cells.
     let holds = g.DV.Depot.holds c.args.dv.now in
     let desk = desk_in_hand numbers holds c.args.parents.now c.args.parent.now old.list in
     let same = load-same set c.args.dim spot.input spot.cell spot.corner desk c.kind_at-kind.result (stack_of c.route_in-from.result) c.corner_place-at.result
-        c.requires.dim c.corner_place-at.ensures.place (c.kind_at-kind.ensures ∙ c.requires.kinds spot.corner c.requires.spot.corner) c.route_in-from.ensures in
+    c.requires.dim c.corner_place-at.ensures.place (c.kind_at-kind.ensures ∙ c.requires.kinds spot.corner c.requires.spot.corner) c.route_in-from.ensures in
     subst
     (λ course. Follows course
-      (λ v. (seen_vertex numbers.vertex v, desk_in_hand numbers (g.DV.Depot.holds c.load_as.new.dv) c.load_as.new.parents c.load_as.new.parent new.list))
-      (read_by failure_of c.load_as.result) (found_of old (held_by holds (g.DV.Depot.room c.args.dv.now)) cells) new.told)
+    (λ v. (seen_vertex numbers.vertex v, desk_in_hand numbers (g.DV.Depot.holds c.load_as.new.dv) c.load_as.new.parents c.load_as.new.parent new.list))
+    (read_by failure_of c.load_as.result) (found_of old (held_by holds (g.DV.Depot.room c.args.dv.now)) cells) new.told)
     same (c.load_as.ensures.follows cells)
 
 pub kind_at-kind-requires : goal.kind_at-kind-requires

@@ -16,7 +16,7 @@ store_as-requires-clause-fits g c =
     let set = setting_of_events g.M.Effects.rules old spot.traversal in
     let desk = desk_in_hand numbers (g.DV.Depot.holds c.args.dv.now) c.args.parents.now c.args.parent.now old.list in
     let same = store-same set c.args.dim spot.output spot.cell spot.corner (seen_vertex numbers.vertex c.args.v) desk (stack_of c.route_out-to.result) c.corner_place-at.result
-        c.requires.dim c.corner_place-at.ensures.place (λ counts. c.route_out-to.ensures (λ hangs. counts (sym c.kind.ensures ∙ hangs))) in
+    c.requires.dim c.corner_place-at.ensures.place (λ counts. c.route_out-to.ensures (λ hangs. counts (sym c.kind.ensures ∙ hangs))) in
     subst (λ course. Fits course) (sym same) c.requires.fits
 
 pub returns-clause-follows : goal.returns-clause-follows
@@ -29,9 +29,9 @@ returns-clause-follows g c = λ cells.
     let holds = g.DV.Depot.holds c.args.dv.now in
     let desk = desk_in_hand numbers holds c.args.parents.now c.args.parent.now old.list in
     let same = store-same set c.args.dim spot.output spot.cell spot.corner (seen_vertex numbers.vertex c.args.v) desk (stack_of c.route_out-to.result) c.corner_place-at.result
-        c.requires.dim c.corner_place-at.ensures.place (λ counts. c.route_out-to.ensures (λ hangs. counts (sym c.kind.ensures ∙ hangs))) in
+    c.requires.dim c.corner_place-at.ensures.place (λ counts. c.route_out-to.ensures (λ hangs. counts (sym c.kind.ensures ∙ hangs))) in
     subst
     (λ course. Follows course
-      (λ done. desk_in_hand numbers (g.DV.Depot.holds c.store_as.new.dv) c.store_as.new.parents c.store_as.new.parent new.list)
-      (read_by failure_of c.store_as.result) (found_of old (held_by holds (g.DV.Depot.room c.args.dv.now)) cells) new.told)
+    (λ done. desk_in_hand numbers (g.DV.Depot.holds c.store_as.new.dv) c.store_as.new.parents c.store_as.new.parent new.list)
+    (read_by failure_of c.store_as.result) (found_of old (held_by holds (g.DV.Depot.room c.args.dv.now)) cells) new.told)
     same (c.store_as.ensures.follows cells)
