@@ -28,6 +28,7 @@ use Rattle.pe_walk.proofs.Tokens.Dues.{loaded_around}
 use Rattle.pe_walk.proofs.Tokens.Keeping.{given_some, walk_keeps}
 use Rattle.pe_walk.proofs.Tokens.Counting.{first_around, corners_by_counting}
 use Rattle.pe_walk.proofs.Tokens.Traversals.{lent_items, lent_stacks}
+use Rattle.pe_walk.proofs.Tests.{and_turned}
 
 abbrev pub one_if : Bool → ℕ
 one_if b = cond b 1 0
@@ -223,7 +224,7 @@ sum_only f (x ∷ xs) zero d h none = sum_by-cons f x xs ∙ omega (arith, all_n
 sum_only f (x ∷ xs) (suc i) d h none = sum_by-cons f x xs ∙ omega (arith, none 0 (λ e. omega (arith, e)), sum_only f xs i d (omega arith) (λ j k. none (suc j) (λ e. k (omega (arith, e)))))
 
 -- of the loads of one vertex, at most the first is for the first of the cells around it
-firsts : (o : Outlook) → o.axes ≤ 4 → (v : Place) (touches : List Touch) → Each (λ t. is_same t.vertex v ≡ true) touches → map (λ t. t.cell) touches ≡ around o.axes o.way v → length (filter (is_read o) touches) ≤ 1
+pub firsts : (o : Outlook) → o.axes ≤ 4 → (v : Place) (touches : List Touch) → Each (λ t. is_same t.vertex v ≡ true) touches → map (λ t. t.cell) touches ≡ around o.axes o.way v → length (filter (is_read o) touches) ≤ 1
 firsts o four v [] each e = omega arith
 firsts o four v (touch ∷ touches) each e =
     let around_v = around o.axes o.way v in
@@ -296,13 +297,7 @@ begins_apart o walked greatest t dim grown may free = record {
         sym (length-filter (λ p. is_same p q) (reads_of o greatest root))
         ∙ ap length (filter-map (λ p. is_same p q) (λ t. t.vertex) (filter (is_read o) all))
         ∙ length-map (filter here (filter (is_read o) all)) (λ t. t.vertex)
-        ∙ ap length (sym (filter-filter here (is_read o) all) ∙ filter_same _ (λ t. here t && is_read o t) all (Each-all _ (λ t. swap (is_read o t) (here t)) all) ∙ filter-filter (is_read o) here all)
-      where
-        swap : (a b : Bool) → (a && b) ≡ (b && a)
-        swap true true = refl
-        swap true false = refl
-        swap false true = refl
-        swap false false = refl
+        ∙ ap length (sym (filter-filter here (is_read o) all) ∙ filter_same _ (λ t. here t && is_read o t) all (Each-all _ (λ t. and_turned (is_read o t) (here t)) all) ∙ filter-filter (is_read o) here all)
 
     kept : (q : Place) → Each (λ t. is_same t.vertex q ≡ true) (filter (λ t. is_same t.vertex q) (loads_of o greatest root))
     kept q = Each-weaker _ (λ t. is_same t.vertex q ≡ true) (λ t h. h.1) _ (Each-filter (λ t. Unit {0}) (λ t. is_same t.vertex q) (loads_of o greatest root) (Each-all _ (λ t. tt) (loads_of o greatest root)))
