@@ -68,7 +68,7 @@ module _ {Plan : Type 0} (set : Setting Plan) where
   store-fits Dying true place it family =
       and_then-fit (and_then (vertex_event set TouchVertexLastTime place (it, family)) (vertex_event set DestroyVertex place)) _
       (and_then-fit (vertex_event set TouchVertexLastTime place (it, family)) (vertex_event set DestroyVertex place)
-        (event-fits TouchVertexLastTime place (it, family)) (event-fits DestroyVertex place)) (λ x. refl)
+      (event-fits TouchVertexLastTime place (it, family)) (event-fits DestroyVertex place)) (λ x. refl)
   store-fits Kept true place it family = and_then-fit (vertex_event set TouchVertexLastTime place (it, family)) _ (event-fits TouchVertexLastTime place (it, family)) (λ x. refl)
   store-fits Born true place it family = and_then-fit (vertex_event set TouchVertexLastTime place (it, family)) _ (event-fits TouchVertexLastTime place (it, family)) (λ x. refl)
   store-fits Kept false place it family = refl
@@ -93,7 +93,7 @@ module _ {Plan : Type 0} (set : Setting Plan) where
         let at = stack_at-map f held s in
         allowed-fit _ (top_of (items_at (map_holdings f held) s) (popped (map_holdings f held) s))
         (tests _ _ (lt-ltb s (stack_count (map_holdings f held)) (subst (λ n. s < n) (sym (stack_count-map f held)) (there held.stacks s some)))
-          (lt-ltb (stack_at (map_holdings f held) s).pops (2 ^ 63) (subst (λ stack. stack.pops < 2 ^ 63) (sym at) count)))
+        (lt-ltb (stack_at (map_holdings f held) s).pops (2 ^ 63) (subst (λ stack. stack.pops < 2 ^ 63) (sym at) count)))
         (top-fits (items_at (map_holdings f held) s) (popped (map_holdings f held) s) (subst (λ n. 0 < n) (sym (len_at-map f held s)) some))
 
     push-fits : (s : ℕ) (it : VertexRecord) → s < stack_count held → (stack_at held s).pushes < 2 ^ 63 → 0 < held.out → Fits (push false s it (map_holdings f held))
@@ -101,7 +101,7 @@ module _ {Plan : Type 0} (set : Setting Plan) where
         let at = stack_at-map f held s in
         allowed-fit _ _
         (tests _ _ (tests _ _ (lt-ltb s (stack_count (map_holdings f held)) (subst (λ n. s < n) (sym (stack_count-map f held)) small))
-          (lt-ltb (stack_at (map_holdings f held) s).pushes (2 ^ 63) (subst (λ stack. stack.pushes < 2 ^ 63) (sym at) count))) (lt-ltb 0 held.out out)) refl
+        (lt-ltb (stack_at (map_holdings f held) s).pushes (2 ^ 63) (subst (λ stack. stack.pushes < 2 ^ 63) (sym at) count))) (lt-ltb 0 held.out out)) refl
 
     goes-fits : (output : ℕ) (to : Option ℕ) (o : Option VertexRecord) → stack_or set output to < stack_count held → (stack_at held (stack_or set output to)).pushes < 2 ^ 63 → 0 < held.out
         → Fits (goes set output to o (desk f held family))

@@ -73,6 +73,7 @@ near-cons o x os xs above below near = record { above = over; below = under }
     over : (axis : ℕ) → 0 < slice_index (o ∷ os) axis → 0 < slice_index (x ∷ xs) axis
     over zero some = above some
     over (suc axis) some = near.above axis some
+
     under : (axis bound : ℕ) → slice_index (o ∷ os) axis < bound → slice_index (x ∷ xs) axis < 3 * bound
     under zero bound less = below bound less
     under (suc axis) bound less = near.below axis bound less
@@ -99,9 +100,9 @@ near-all [] = (record { above = λ axis some. some; below = λ axis bound less. 
 near-all (x ∷ xs) =
     Each-flat_map (λ os. IsNear os (x ∷ xs)) (λ y. map (λ ys. y ∷ ys) (carrier_positions xs)) (thirds x)
     (Each-weaker (λ o. IsThird o x) (λ o. Each (λ os. IsNear os (x ∷ xs)) (map (λ ys. o ∷ ys) (carrier_positions xs)))
-      (λ o third. Each-map (λ os. IsNear os (x ∷ xs)) (λ ys. o ∷ ys) (carrier_positions xs)
-        (Each-weaker (λ os. IsNear os xs) (λ os. IsNear (o ∷ os) (x ∷ xs)) (λ os near. near-cons o x os xs third.above third.below near) (carrier_positions xs) (near-all xs)))
-      (thirds x) (are_thirds x (x % 3 == 0) refl))
+    (λ o third. Each-map (λ os. IsNear os (x ∷ xs)) (λ ys. o ∷ ys) (carrier_positions xs)
+    (Each-weaker (λ os. IsNear os xs) (λ os. IsNear (o ∷ os) (x ∷ xs)) (λ os near. near-cons o x os xs third.above third.below near) (carrier_positions xs) (near-all xs)))
+    (thirds x) (are_thirds x (x % 3 == 0) refl))
 
 each-both : {X : Type 0} (P Q : X → Type 0) (xs : List X) → Each P xs → Each Q xs → Each (λ x. P x × Q x) xs
 each-both P Q [] e f = tt
@@ -116,7 +117,6 @@ first-or test x later P here rest false is any = rest any
 any-found : {X : Type 0} (P : X → Type 0) (test : X → Bool) (xs : List X) → list_any test xs ≡ true → Each P xs → (x : X) × P x × (test x ≡ true)
 any-found P test [] any each = absurd (let no : false ≡ true = any in cc)
 any-found P test (x ∷ xs) any each = first-or test x (list_any test xs) P each.0 (λ later. any-found P test xs later each.1) (test x) refl any
-
 
 not-outside : (axes : ℕ) (vertex : Place) → axes ≤ 4 → vertex.level ≤ 20 → (is_inside axes vertex ≡ false → ⊥) → IsInside axes vertex
 not-outside axes vertex few level in_ = at (is_inside axes vertex) refl
@@ -141,6 +141,7 @@ corner-inside axes cell k carrier within is deep below inside near level = recor
     thrice : (level lower : ℕ) → 1 ≤ level → lower ≡ level - 1 → 3 * 3 ^ lower ≡ 3 ^ level
     thrice zero lower deep is = absurd (omega arith)
     thrice (suc n) lower deep is = let same : lower ≡ n = omega arith in ap (λ l. 3 * 3 ^ l) same ∙ omega arith
+
     moved-rest : (pos bs : List ℕ) (axis : ℕ) → length bs ≤ axis → slice_index (moved pos bs) axis ≡ slice_index pos axis
     moved-rest [] bs axis behind = refl
     moved-rest (x ∷ xs) [] axis behind = refl
@@ -161,14 +162,14 @@ carried-inside axes cell digits k its test within is deep fit child below quiet 
     let are : carriers vertex ≡ map (corner axes parent) numbers = ap (λ c. carriers (corner axes c k)) child ∙ carriers_within axes parent digits k within.1 place fit below in
     let IsCorner : Place → Type 0 = λ q. (n : ℕ) × (n < 2 ^ axes) × (q ≡ corner axes parent n) in
     let corners = subst (Each IsCorner) (sym are) (Each-map IsCorner (corner axes parent) numbers
-        (Each-weaker (λ n. n < 2 ^ axes) (λ n. IsCorner (corner axes parent n)) (λ n small. (n, small, refl)) numbers (carrier_numbers-below axes digits k within.1 fit))) in
+    (Each-weaker (λ n. n < 2 ^ axes) (λ n. IsCorner (corner axes parent n)) (λ n small. (n, small, refl)) numbers (carrier_numbers-below axes digits k within.1 fit))) in
     let IsClose : Place → Type 0 = λ q. IsNear q.pos vertex.pos in
     let near = Each-map IsClose (λ pos. (let q : Place = record { level = vertex.level - 1; pos = pos } in q)) (carrier_positions vertex.pos) (near-all vertex.pos) in
     let seen = λ (q : Place). passes test (state_in_hand parent its q) in
     let found = any-found (λ q. IsCorner q × IsClose q) seen (carriers vertex) carried (each-both IsCorner IsClose (carriers vertex) corners near) in
     let n = found.1.0.0 in
     let marked : passes test (option_map (λ it. it.state) (slice_get its n)) ≡ true =
-        sym (ap (λ j. passes test (option_map (λ it. it.state) (slice_get its j))) (ap (corner_number parent) found.1.0.2 ∙ corner_number-corner axes n parent within found.1.0.1 place.pos.four)) ∙ found.2 in
+    sym (ap (λ j. passes test (option_map (λ it. it.state) (slice_get its j))) (ap (corner_number parent) found.1.0.2 ∙ corner_number-corner axes n parent within found.1.0.1 place.pos.four)) ∙ found.2 in
     let inside = not-outside axes (corner axes parent n) within.1 place.level (λ out. absurd (let no : true ≡ false = sym marked ∙ quiet n found.1.0.1 out in cc)) in
     corner-inside axes cell k (corner axes parent n) within is deep below inside (subst (λ q. IsNear q.pos vertex.pos) found.1.0.2 found.1.1) refl
 
@@ -184,9 +185,11 @@ kind-inside axes traversal cell digits k its within is deep fit child below quie
     by_marks true b is_old' is_new' counts = carried-inside axes cell digits k its is_old within is deep fit child below quiet.old is_old'
     by_marks false true is_old' is_new' counts = carried-inside axes cell digits k its is_new within is deep fit child below quiet.new is_new'
     by_marks false false is_old' is_new' counts = absurd (counts refl)
+
     first : (t : Bool) → is_inside axes (corner axes cell k) ≡ t → (kind_from (t && not (traversal == 1)) t ≡ Hanging → ⊥) → IsInside axes (corner axes cell k)
     first true inside counts = inside-is axes (corner axes cell k) within.1 is.level inside
     first false inside counts = absurd (counts refl)
+
     by_level : (t : Bool) → (cell.level == 1) ≡ t → IsInside axes (corner axes cell k)
     by_level true level = first (is_inside axes (corner axes cell k)) refl
         (λ hangs. counts (ap (λ t. if t then level_one_kind axes traversal (corner axes cell k) else kind_from (is_carried is_old (state_in_hand (parent_of cell) its) (corner axes cell k)) (is_carried is_new (state_in_hand (parent_of cell) its) (corner axes cell k))) level ∙ hangs))

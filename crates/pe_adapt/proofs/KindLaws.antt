@@ -110,9 +110,9 @@ carried-in_hand : (axes : ℕ) (parent : Place) (digits : Digits) (k : ℕ) (its
 carried-in_hand axes parent digits k its test marked within is fit below same =
     let seen = λ (q : Place). passes test (state_in_hand parent its q) in
     any_alike marked (λ n. seen (corner axes parent n)) (carrier_numbers axes digits k)
-      (Each-weaker (λ n. n < 2 ^ axes) (λ n. marked n ≡ seen (corner axes parent n))
-        (λ n small. same n small ∙ ap (λ j. passes test (option_map (λ it. it.state) (slice_get its j))) (sym (corner_number-corner axes n parent within small is.pos.four)))
-        (carrier_numbers axes digits k) (carrier_numbers-below axes digits k within.1 fit))
+    (Each-weaker (λ n. n < 2 ^ axes) (λ n. marked n ≡ seen (corner axes parent n))
+    (λ n small. same n small ∙ ap (λ j. passes test (option_map (λ it. it.state) (slice_get its j))) (sym (corner_number-corner axes n parent within small is.pos.four)))
+    (carrier_numbers axes digits k) (carrier_numbers-below axes digits k within.1 fit))
     ∙ sym (any_map seen (corner axes parent) (carrier_numbers axes digits k))
     ∙ ap (λ places. list_any seen places) (sym (carriers_within axes parent digits k within.1 is fit below))
 
@@ -125,9 +125,9 @@ kind-carried axes traversal cell digits k its marks marks' within is deep later 
     let parent = parent_of cell in
     let place = parent-cell axes cell is deep in
     let old = olds ∙ carried-in_hand axes parent digits k its is_old (is_old_at marks) within place fit below are.old
-        ∙ ap (λ c. is_carried is_old (state_in_hand parent its) (corner axes c k)) (sym child) in
+    ∙ ap (λ c. is_carried is_old (state_in_hand parent its) (corner axes c k)) (sym child) in
     let new = news ∙ carried-in_hand axes parent digits k its is_new (is_new_at marks) within place fit below are.new
-        ∙ ap (λ c. is_carried is_new (state_in_hand parent its) (corner axes c k)) (sym child) in
+    ∙ ap (λ c. is_carried is_new (state_in_hand parent its) (corner axes c k)) (sym child) in
     let deeper : (cell.level == 1) ≡ false = grind (arith, nat_tests) in
     ap (λ b. kind_from b (is_new_at marks' k)) old ∙ ap (λ b. kind_from (is_carried is_old (state_in_hand parent its) (corner axes cell k)) b) new
     ∙ sym (ap (λ b. if b then level_one_kind axes traversal (corner axes cell k) else kind_from (is_carried is_old (state_in_hand parent its) (corner axes cell k)) (is_carried is_new (state_in_hand parent its) (corner axes cell k))) deeper)

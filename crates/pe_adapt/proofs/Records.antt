@@ -34,9 +34,9 @@ pub born-is : {Plan V C : Type 0} (set : Setting Plan) (numbers : Numbers V C) (
     → with_family (seen_vertex numbers.vertex lent) (family_in_hand numbers parents parent after) ≡ fresh_vertex set Born place (family_in_hand numbers parents parent before)
 born-is set numbers place parents parent before after payload state made lent zeros list is_state is_made is_lent =
     let is : seen_vertex numbers.vertex lent ≡ record { state = start_state set.traversal place.level set.start_level; kind = Born; numbers = (set.rules.fresh_vertex set.plan before).numbers } =
-        ap (seen_vertex numbers.vertex) (is_lent ∙ is_made)
-        ∙ ap (λ s. record { state = s; kind = Born; numbers = numbers.vertex payload }) is_state
-        ∙ ap (λ n. record { state = start_state set.traversal place.level set.start_level; kind = Born; numbers = n }) zeros in
+    ap (seen_vertex numbers.vertex) (is_lent ∙ is_made)
+    ∙ ap (λ s. record { state = s; kind = Born; numbers = numbers.vertex payload }) is_state
+    ∙ ap (λ n. record { state = start_state set.traversal place.level set.start_level; kind = Born; numbers = n }) zeros in
     ap (λ (v : VertexRecord). with_family v (family_in_hand numbers parents parent after)) is
     ∙ ap (λ (l : List ℤ). with_family (let v : VertexRecord = record { state = start_state set.traversal place.level set.start_level; kind = Born; numbers = (set.rules.fresh_vertex set.plan before).numbers } in v) (family_in_hand numbers parents parent l)) list
 

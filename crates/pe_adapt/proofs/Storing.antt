@@ -103,12 +103,12 @@ module _ {Plan X : Type 0} (f : X → VertexRecord) (set : Setting Plan) (output
   stored-put x held' family' told new sure room cells result fits is same memory full =
       let now = seen_by new sure held room cells in
       let lead = leads_next touch leave (λ (u : Unit {0}). (Some (f x), family')) tt now (leads_start stores (seen_by told sure held room cells)) is
-          (record { sure = refl; vertices = λ s. omega arith; cells = λ s. omega arith }) in
+      (record { sure = refl; vertices = λ s. omega arith; cells = λ s. omega arith }) in
       let s = stack_or set output to in
       leads_last (leave (Some (f x), family')) (λ (u : Unit {0}). desk f held' family') (read_by failure_of result) new lead
       (follows-map (λ vertices. record { vertices = vertices; family = family' }) (push false s (f x) (map_holdings f held)) (λ (u : Unit {0}). map_holdings f held') (read_by failure_of result) now new
-        (put-follows f s x held held' room cells new sure result
-          (and_then-fits (push false s (f x) (map_holdings f held)) _ (leads_rest (leave (Some (f x), family')) lead fits)) same memory full))
+      (put-follows f s x held held' room cells new sure result
+      (and_then-fits (push false s (f x) (map_holdings f held)) _ (leads_rest (leave (Some (f x), family')) lead fits)) same memory full))
 
   -- a vertex that goes on
   waits : (kind : Kind) → it.kind ≡ kind → (kind ≡ Hanging → ⊥) → is_none to ≡ false → touch ≡ at_once (Some it, family)

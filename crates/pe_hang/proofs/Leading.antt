@@ -1,5 +1,5 @@
 -- Within a body: from the start of a course to its end.
-use Rattle.std.proofs.Common.{◌≡◌, ℕ, ◌+◌, ◌^◌, ◌≤◌, ◌<◌, Bool, true, false, ◌&&◌, nat_lt, List, [], ◌∷◌, ◌++◌, Result, Ok, Err, refl, sym, ap, subst, ◌∙◌, arith, append_assoc}
+use Rattle.std.proofs.Common.{◌≡◌, ℕ, Bool, true, false, List, [], ◌++◌, Result, Ok, Err, refl, sym, ap, subst, ◌∙◌, arith, append_assoc}
 use Rattle.std.specs.Prelude.{Contains}
 use Rattle.std.proofs.lemmas.List.{append-nil}
 use Rattle.std.proofs.lemmas.List.Elements.{Contains-append_left, Contains-append_right}
@@ -9,7 +9,7 @@ use Rattle.pe_mapping.specs.Held.{Held, Keeps, Told, Adds, AddsPart}
 use Rattle.pe_hang.specs.InHand.{setting_of}
 use Rattle.pe_mapping.proofs.Texts.{adds-nothing, adds-then, part-first, part-then, fails-then}
 use Rattle.pe_hang.specs.Moves.{allowed}
-use Rattle.pe_hang.specs.Follows.{Fits, is_fit, Found, IsOverfull, HasOverfull, Failure, halted, unwritten, wanting, unheard_of, Follows, Does, FailsToTell, Wants, IsRoomier, Leads, found_of}
+use Rattle.pe_hang.specs.Follows.{Fits, is_fit, Found, IsOverfull, HasOverfull, Failure, halted, unwritten, wanting, unheard_of, Follows, IsRoomier, Leads, found_of}
 
 -- room that is the same, and room behind room
 pub roomier-same : (found : Found) → IsRoomier found found
@@ -115,10 +115,11 @@ module _ {Y : Type 0} {whole : Course Y} {old now : Found} where
 
   overfull-of : (rest : Course Y) (log more : List Push) → Leads whole old now rest → rest.log ≡ log ++ more → HasOverfull now log → HasOverfull old whole.log
   overfull-of rest log more lead split over =
-      let is : whole.log ≡ lead.log ++ (log ++ more) = ap (λ course. course.log) lead.splits ∙ ap (λ t. lead.log ++ t) split in
-      (over.0,
-       subst (λ l. Contains l over.0) (sym is) (Contains-append_right lead.log (log ++ more) over.0 (Contains-append_left log more over.0 over.1)),
-       overfull-before old now over.0 lead.room over.2)
+      let is : whole.log ≡ lead.log ++ (log ++ more) = ap (λ course. course.log) lead.splits ∙ ap (λ t. lead.log ++ t) split in (
+        over.0,
+        subst (λ l. Contains l over.0) (sym is) (Contains-append_right lead.log (log ++ more) over.0 (Contains-append_left log more over.0 over.1)),
+        overfull-before old now over.0 lead.room over.2,
+      )
 
   -- the failure of a call is the caller's
   pub leads_err : {X A B : Type 0} (course : Course X) (next : X → Course Y) (after : A → X) (after' : B → Y) (failure : Failure) (new : Told)
@@ -183,7 +184,7 @@ pub follows-map : {X Y A : Type 0} (f : X → Y) (course : Course X) (after : A 
 follows-map f course after (Ok a) old new is =
     leads_end (λ a. f (after a)) a
     (leads_next course (λ x. at_once (f x)) after a (record old { told = new }) (leads_start (course_map f course) old) is
-      (record { sure = refl; vertices = λ s. omega arith; cells = λ s. omega arith }))
+    (record { sure = refl; vertices = λ s. omega arith; cells = λ s. omega arith }))
 follows-map f course after (Err failure) old new is =
     leads_err course (λ x. at_once (f x)) after (λ a. f (after a)) failure new (leads_start (course_map f course) old) is
 

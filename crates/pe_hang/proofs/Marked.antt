@@ -1,5 +1,5 @@
 -- No event changes whether a vertex is old or new.
-use Rattle.std.proofs.Common.{◌≡◌, ℕ, Bool, true, false, ◌&&◌, List, [], ◌∷◌, inl, inr, refl, sym, ap, subst, ◌∙◌}
+use Rattle.std.proofs.Common.{◌≡◌, ℕ, Bool, true, false, ◌&&◌, List, [], ◌∷◌, inl, inr, refl, ap, ◌∙◌}
 use Rattle.std.specs.Prelude.{if◌then◌else◌, nat_lt}
 use Rattle.pe_base.specs.declared.state.State.{State}
 use Rattle.pe_base.specs.declared.state.State.TheVariants.{Unrefined, RefinementTriggered, Refining, Refined, EraseTriggered, Erasing}
@@ -37,9 +37,9 @@ mark-erased Hanging state = refl
 
 mark-may : (greatest level : ℕ) (kind : Kind) (before after : State) → MayBecome greatest level kind before after → mark after ≡ mark before
 mark-may greatest level kind before after may = elim may [
-  inl same ↦ ap mark same
+  | inl same ↦ ap mark same
   | inr other ↦ elim other [
-    inl refined ↦ ap mark refined ∙ mark-refined level greatest kind before
+    | inl refined ↦ ap mark refined ∙ mark-refined level greatest kind before
     | inr erased ↦ ap mark erased ∙ mark-erased kind before
   ]
 ]
