@@ -2,6 +2,7 @@
 use Rattle.std.proofs.Common.{◌≡◌, ℕ, zero, suc, ◌+◌, ◌/◌, ◌%◌, ◌^◌, ◌<◌, ◌≤◌, List, [], ◌∷◌, length, get_or, ap, arith}
 use Rattle.std.specs.Prelude.{All, slice_index}
 use Rattle.std.proofs.Math.Nat.{pow-le-pow_right}
+use Rattle.std.proofs.lemmas.List.Elements.{All-nil, All-cons}
 use Rattle.pe_base.specs.declared.place.Place.{Place}
 use Rattle.pe_base.specs.Tree.Dim.{IsDim}
 use Rattle.pe_base.specs.Tree.Places.{IsPosition, IsCellPlace, bits, moved, corner}
@@ -44,3 +45,16 @@ cell_below axes cell is axis = IsPosition-below axes (3 ^ cell.level) cell.pos (
 -- and far below the greatest number
 pub level_below : (level : ℕ) → level ≤ 20 → 3 ^ level ≤ 3 ^ 20
 level_below level few = pow-le-pow_right (let positive : 0 < 3 = omega arith in positive) few
+
+-- a corner's position is at most the greatest
+corner_below : (x bit bound : ℕ) → x < bound → bit < 2 → x + bit ≤ bound
+corner_below x bit bound below small = omega arith
+
+pub corners_below : (bound k x y z w : ℕ) → x < bound → y < bound → z < bound → w < bound
+    → All (λ n. n ≤ bound) ((x + k % 2) ∷ (y + k / 2 % 2) ∷ (z + k / 4 % 2) ∷ (w + k / 8 % 2) ∷ [])
+corners_below bound k x y z w a b c d =
+    let below : ℕ → Type 0 = λ n. n ≤ bound in
+    All-cons below (x + k % 2) ((y + k / 2 % 2) ∷ (z + k / 4 % 2) ∷ (w + k / 8 % 2) ∷ []) (corner_below x (k % 2) bound a (omega arith))
+    (All-cons below (y + k / 2 % 2) ((z + k / 4 % 2) ∷ (w + k / 8 % 2) ∷ []) (corner_below y (k / 2 % 2) bound b (omega arith))
+    (All-cons below (z + k / 4 % 2) ((w + k / 8 % 2) ∷ []) (corner_below z (k / 4 % 2) bound c (omega arith))
+    (All-cons below (w + k / 8 % 2) [] (corner_below w (k / 8 % 2) bound d (omega arith)) (All-nil below))))

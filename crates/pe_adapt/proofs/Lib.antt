@@ -1,8 +1,19 @@
+-- What the proofs of one corner's touch cite, and what callers do.
+
+-- places of corners, and their numbers
 pub mod CornerPlaces
+-- records as they come to hand
 pub mod Records
+-- the load of a corner of a kind that is known, and its store
 pub mod Loading
 pub mod Storing
+-- kinds by the marks of the parent's corners
 pub mod KindLaws
-pub mod Touching
+-- what counts is inside the root
 pub mod InsideLaws
+-- a touch by kind and route, and by the definitions
+pub mod Touching
+-- the temporary stacks are few
+pub mod StackLaws
+-- when a touch fits
 pub mod Fitting

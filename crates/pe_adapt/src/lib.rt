@@ -1,6 +1,7 @@
 //! One corner of a cell, loaded or stored.
 #![tactic(auto)]
 
+mod corner;
 mod fire;
 mod kinds;
 mod load;
@@ -9,6 +10,7 @@ mod stop;
 mod store;
 mod touch;
 
+pub use corner::{load_corner, store_corner};
 pub use kinds::{corner_marks, marks_of};
 pub use load::load_as;
 pub use spot::{Spot, corner_place};

@@ -1,8 +1,9 @@
-ghost use Rattle.std.specs.Prelude.{◌≡◌, ◌≤◌, ◌<◌, ◌^◌};
-ghost use Rattle.pe_base.specs.Tree.Places.{IsCellPlace, corner as corner_at};
+ghost use Rattle.std.specs.Prelude.{◌≡◌, ℕ, ◌≤◌, ◌<◌, ◌^◌, slice_index};
+ghost use Rattle.pe_base.specs.Tree.Dim.{IsDim};
+ghost use Rattle.pe_base.specs.Tree.Places.{IsCellPlace, corner};
 ghost use Rattle.pe_mapping.specs.Moments.{IsBelowRoot};
 
-use pe_base::{Digits, Dim, Place};
+use pe_base::{Digits, Place};
 
 /// A corner of a cell in a traversal.
 #[derive(Clone, Copy, Debug, PartialEq, Eq)]
@@ -21,16 +22,14 @@ pub struct Spot {
     pub corner: u8,
 }
 
-/// The place of a corner of a cell.
-pub fn corner_place(dim: Dim, cell: &Place, k: u8) -> Place
-    requires cell { IsCellPlace dim cell.now }
-    requires level { 1 ≤ cell.now.level }
-    requires corner { k < 2 ^ dim }
-    ensures place { result ≡ corner_at dim cell.now k }
-    ensures below { IsBelowRoot result }
+/// The place of a corner of a cell below the root.
+pub fn corner_place(cell: &Place, k: u8) -> Place
+    requires deep { 1 ≤ cell.now.level }
+    requires level { cell.now.level ≤ 20 }
+    requires pos { (axis : ℕ) → slice_index cell.now.pos axis < 3 ^ 20 }
+    ensures place { (axes : ℕ) → IsDim axes → IsCellPlace axes cell.now → k < 2 ^ axes → result ≡ corner axes cell.now k }
+    ensures below { (axes : ℕ) → IsCellPlace axes cell.now → IsBelowRoot result }
 {
-    // From the call it is known that the dimension has no more than four axes.
-    let _corners = dim.corners();
     let [x, y, z, w] = cell.pos;
     Place {
         level: cell.level,

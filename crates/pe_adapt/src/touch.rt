@@ -6,7 +6,7 @@ ghost use Rattle.pe_base.specs.declared.kind.Kind.TheVariants.{Hanging};
 ghost use Rattle.pe_base.specs.Steps.Routes.{stack_in, stack_out};
 ghost use Rattle.pe_base.specs.Life.Kinds.{kind_from};
 ghost use Rattle.pe_states.specs.Marks.{is_old_at, is_new_at};
-ghost use Rattle.pe_access.specs.States.{StandsFor};
+ghost use Rattle.pe_access.specs.States.{StandsFor, axes_of};
 ghost use Rattle.pe_stacks.specs.Corners.{IsFull};
 ghost use Rattle.pe_mapping.specs.Held.{Keeps};
 ghost use Rattle.pe_mapping.specs.Sights.{seen_vertex, seen_corners};
@@ -21,17 +21,17 @@ use crate::load::load_as;
 use crate::store::store_as;
 use crate::{Spot, WalkStop, corner_place};
 use pe_access::{CellState, Route};
-use pe_base::{Dim, Kind};
+use pe_base::Kind;
 use pe_mapping::Mapping;
 use pe_stacks::{CellRec, Corners, Depot, Vertex};
 use pe_states::Marks;
 
 // Where a corner comes from. A hanging vertex comes from nowhere.
-fn route_in(dim: Dim, kind: Kind, spot: &Spot, state: &CellState) -> Route
-    requires spot { IsSpot dim spot.now }
-    requires state { StandsFor dim (way_of spot.now.traversal) spot.now.cell state.now }
-    requires placed { IsPlaced dim kind (corner dim spot.now.cell spot.now.corner) }
-    ensures { (kind ≡ Hanging → ⊥) → stack_of result ≡ stack_in dim (way_of spot.now.traversal) (corner dim spot.now.cell spot.now.corner) spot.now.cell }
+fn route_in(kind: Kind, spot: &Spot, state: &CellState) -> Route
+    requires { spot.now.corner < 2 ^ axes_of state.now }
+    ensures { (axes : ℕ) → IsSpot axes spot.now → StandsFor axes (way_of spot.now.traversal) spot.now.cell state.now
+        → IsPlaced axes kind (corner axes spot.now.cell spot.now.corner) → (kind ≡ Hanging → ⊥)
+        → stack_of result ≡ stack_in axes (way_of spot.now.traversal) (corner axes spot.now.cell spot.now.corner) spot.now.cell }
 {
     match kind {
         Kind::Hanging => Route::Stream,
@@ -40,11 +40,11 @@ fn route_in(dim: Dim, kind: Kind, spot: &Spot, state: &CellState) -> Route
 }
 
 // Where a corner goes. A hanging vertex goes nowhere.
-fn route_out(dim: Dim, kind: Kind, spot: &Spot, state: &CellState) -> Route
-    requires spot { IsSpot dim spot.now }
-    requires state { StandsFor dim (way_of spot.now.traversal) spot.now.cell state.now }
-    requires placed { IsPlaced dim kind (corner dim spot.now.cell spot.now.corner) }
-    ensures { (kind ≡ Hanging → ⊥) → stack_of result ≡ stack_out dim (way_of spot.now.traversal) (corner dim spot.now.cell spot.now.corner) spot.now.cell }
+fn route_out(kind: Kind, spot: &Spot, state: &CellState) -> Route
+    requires { spot.now.corner < 2 ^ axes_of state.now }
+    ensures { (axes : ℕ) → IsSpot axes spot.now → StandsFor axes (way_of spot.now.traversal) spot.now.cell state.now
+        → IsPlaced axes kind (corner axes spot.now.cell spot.now.corner) → (kind ≡ Hanging → ⊥)
+        → stack_of result ≡ stack_out axes (way_of spot.now.traversal) (corner axes spot.now.cell spot.now.corner) spot.now.cell }
 {
     match kind {
         Kind::Hanging => Route::Stream,
@@ -54,7 +54,6 @@ fn route_out(dim: Dim, kind: Kind, spot: &Spot, state: &CellState) -> Route
 
 /// Loads a corner, by marks that give the kinds of its cell's corners. On an error its record is given up.
 pub fn load_marked<M: Mapping, DV: Depot<Vertex<M::V>>>(
-    dim: Dim,
     start_level: u8,
     spot: &Spot,
     state: &CellState,
@@ -64,11 +63,10 @@ pub fn load_marked<M: Mapping, DV: Depot<Vertex<M::V>>>(
     parents: &mut Corners<M::V>,
     parent: &mut CellRec<M::C>,
 ) -> Result<Vertex<M::V>, WalkStop>
-    requires dim { (M.held m.old).dim ≡ dim }
-    requires spot { IsSpot dim spot.now }
-    requires state { StandsFor dim (way_of spot.now.traversal) spot.now.cell state.now }
-    requires kinds { GiveKinds dim spot.now.traversal spot.now.cell (seen_corners M.numbers.vertex parents.old) marks }
-    requires placed { IsPlaced dim (kind_from (is_old_at marks spot.now.corner) (is_new_at marks spot.now.corner)) (corner dim spot.now.cell spot.now.corner) }
+    requires spot { IsSpot (M.held m.old).dim spot.now }
+    requires state { StandsFor (M.held m.old).dim (way_of spot.now.traversal) spot.now.cell state.now }
+    requires kinds { GiveKinds (M.held m.old).dim spot.now.traversal spot.now.cell (seen_corners M.numbers.vertex parents.old) marks }
+    requires placed { IsPlaced (M.held m.old).dim (kind_from (is_old_at marks spot.now.corner) (is_new_at marks spot.now.corner)) (corner (M.held m.old).dim spot.now.cell spot.now.corner) }
     requires full { IsFull (M.held m.old).dim parents.old }
     requires fits { Fits (load_corner (setting_of M.rules (M.held m.old) start_level 0 spot.now.traversal) spot.now.input spot.now.cell spot.now.corner
         (desk_in_hand M.numbers (DV.holds dv.old) parents.old parent.old (M.held m.old).list)) }
@@ -82,11 +80,9 @@ pub fn load_marked<M: Mapping, DV: Depot<Vertex<M::V>>>(
     ensures full { IsFull (M.held m.old).dim parents.new }
     ensures marks { KeepsMarks M.numbers.vertex parents.old parents.new }
 {
-    let at = corner_place(dim, &spot.cell, spot.corner);
-    // From the call it is known that a corner's number is below 16.
-    let _corners = dim.corners();
+    let at = corner_place(&spot.cell, spot.corner);
     let kind = marks.kind_at(spot.corner);
-    let from = route_in(dim, kind, spot, state);
+    let from = route_in(kind, spot, state);
     load_as(
         start_level,
         kind,
@@ -103,7 +99,6 @@ pub fn load_marked<M: Mapping, DV: Depot<Vertex<M::V>>>(
 
 /// Stores a corner. On an error its record is given up.
 pub fn store_placed<M: Mapping, DV: Depot<Vertex<M::V>>>(
-    dim: Dim,
     spot: &Spot,
     state: &CellState,
     v: Vertex<M::V>,
@@ -112,10 +107,9 @@ pub fn store_placed<M: Mapping, DV: Depot<Vertex<M::V>>>(
     parents: &mut Corners<M::V>,
     parent: &mut CellRec<M::C>,
 ) -> Result<(), WalkStop>
-    requires dim { (M.held m.old).dim ≡ dim }
-    requires spot { IsSpot dim spot.now }
-    requires state { StandsFor dim (way_of spot.now.traversal) spot.now.cell state.now }
-    requires placed { IsPlaced dim v.kind (corner dim spot.now.cell spot.now.corner) }
+    requires spot { IsSpot (M.held m.old).dim spot.now }
+    requires state { StandsFor (M.held m.old).dim (way_of spot.now.traversal) spot.now.cell state.now }
+    requires placed { IsPlaced (M.held m.old).dim v.kind (corner (M.held m.old).dim spot.now.cell spot.now.corner) }
     requires full { IsFull (M.held m.old).dim parents.old }
     requires out { 0 < (DV.holds dv.old).out }
     requires fits { Fits (store_corner (setting_of_events M.rules (M.held m.old) spot.now.traversal) spot.now.output spot.now.cell spot.now.corner (seen_vertex M.numbers.vertex v)
@@ -130,8 +124,8 @@ pub fn store_placed<M: Mapping, DV: Depot<Vertex<M::V>>>(
     ensures full { IsFull (M.held m.old).dim parents.new }
     ensures marks { KeepsMarks M.numbers.vertex parents.old parents.new }
 {
-    let at = corner_place(dim, &spot.cell, spot.corner);
-    let to = route_out(dim, v.kind(), spot, state);
+    let at = corner_place(&spot.cell, spot.corner);
+    let to = route_out(v.kind(), spot, state);
     store_as(
         to,
         spot.output,

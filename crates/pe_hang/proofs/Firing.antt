@@ -5,12 +5,11 @@ use Rattle.pe_base.specs.declared.place.Place.{Place}
 use Rattle.pe_base.specs.declared.event.Event.{Event}
 use Rattle.pe_base.specs.declared.stop.Stop.{Stop}
 use Rattle.pe_base.specs.declared.stop.Stop.TheVariants.{Overflow, Division, Sink, Memory}
-use Rattle.pe_base.specs.Acts.Effects.{Seen, Outcome, Fault, VertexRecord, Overflow as overflows, Division as divides}
-use Rattle.pe_base.specs.Walk.Course.{Ending, done, halts, fault_at, Course, from, at_once, course_map}
-use Rattle.pe_base.specs.Walk.Core.{Setting, Family, Own, fire, ended_by, vertex_event, cell_event, plain_event}
-use Rattle.pe_mapping.specs.Held.{Held, Told, Adds, AddsPart, outcome_of}
-use Rattle.pe_mapping.specs.Answers.{Answers, IsOutcome}
-use Rattle.pe_mapping.proofs.Texts.{part-first}
+use Rattle.pe_base.specs.Acts.Effects.{Seen, Outcome, Fault, Overflow as overflows, Division as divides}
+use Rattle.pe_base.specs.Walk.Course.{done, Course, from, at_once, course_map}
+use Rattle.pe_base.specs.Walk.Core.{Setting, fire, ended_by, vertex_event, cell_event, plain_event}
+use Rattle.pe_mapping.specs.Held.{Held, Adds, AddsPart, outcome_of}
+use Rattle.pe_mapping.specs.Answers.{Answers}
 use Rattle.pe_base.specs.Tree.Places.{root}
 use Rattle.std.specs.Option.{unwrap_or}
 use Rattle.pe_base.specs.Walk.Core.{family_after}
@@ -19,7 +18,7 @@ use Rattle.pe_stacks.specs.declared.record.CellRec.{CellRec}
 use Rattle.pe_stacks.specs.Corners.{CornerList}
 use Rattle.pe_mapping.specs.Sights.{Numbers, seen_vertex, seen_cell, plain_sight, vertex_sight, cell_sight}
 use Rattle.pe_hang.specs.InHand.{family_in_hand, own_in_hand}
-use Rattle.pe_hang.specs.Follows.{Found, Follows, failure_at, read_by, found_of}
+use Rattle.pe_hang.specs.Follows.{Follows, failure_at, read_by, found_of}
 
 -- what fires adds its text and nothing more, whatever it is turned into
 module _ {Plan Y : Type 0} (set : Setting Plan) (event : Event) (list : List ℤ) (seen : Seen) (turn : Outcome → Y) where

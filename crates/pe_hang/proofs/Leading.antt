@@ -1,5 +1,5 @@
 -- Within a body: from the start of a course to its end.
-use Rattle.std.proofs.Common.{◌≡◌, ℕ, ◌+◌, ◌^◌, ◌≤◌, ◌<◌, Bool, true, false, ◌&&◌, nat_lt, List, [], ◌∷◌, ◌++◌, Result, Ok, Err, refl, sym, ap, subst, ◌∙◌, arith, append_assoc}
+use Rattle.std.proofs.Common.{◌≡◌, ℕ, Bool, true, false, List, [], ◌++◌, Result, Ok, Err, refl, sym, ap, subst, ◌∙◌, arith, append_assoc}
 use Rattle.std.specs.Prelude.{Contains}
 use Rattle.std.proofs.lemmas.List.{append-nil}
 use Rattle.std.proofs.lemmas.List.Elements.{Contains-append_left, Contains-append_right}
@@ -9,7 +9,7 @@ use Rattle.pe_mapping.specs.Held.{Held, Keeps, Told, Adds, AddsPart}
 use Rattle.pe_hang.specs.InHand.{setting_of}
 use Rattle.pe_mapping.proofs.Texts.{adds-nothing, adds-then, part-first, part-then, fails-then}
 use Rattle.pe_hang.specs.Moves.{allowed}
-use Rattle.pe_hang.specs.Follows.{Fits, is_fit, Found, IsOverfull, HasOverfull, Failure, halted, unwritten, wanting, unheard_of, Follows, Does, FailsToTell, Wants, IsRoomier, Leads, found_of}
+use Rattle.pe_hang.specs.Follows.{Fits, is_fit, Found, IsOverfull, HasOverfull, Failure, halted, unwritten, wanting, unheard_of, Follows, IsRoomier, Leads, found_of}
 
 -- room that is the same, and room behind room
 pub roomier-same : (found : Found) → IsRoomier found found

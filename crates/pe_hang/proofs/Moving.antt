@@ -1,8 +1,8 @@
 -- Calls on a depot, as steps of the machine: what each asks for, and what it is.
-use Rattle.std.proofs.Common.{◌≡◌, ℕ, ◌+◌, ◌^◌, ◌<◌, Bool, true, false, ◌&&◌, List, [], ◌∷◌, map, length, Option, Some, None, refl, sym, ap, subst, ◌∙◌, arith}
+use Rattle.std.proofs.Common.{◌≡◌, ℕ, ◌+◌, ◌^◌, ◌<◌, Bool, true, false, ◌&&◌, List, [], ◌∷◌, map, length, Some, refl, sym, ap, subst, ◌∙◌, arith}
 use Rattle.std.specs.Prelude.{nat_lt, slice_get}
 use Rattle.std.proofs.lemmas.Bool.{ltb-true}
-use Rattle.pe_base.specs.Walk.Course.{Course, done, at_once, ends, stuck, Push}
+use Rattle.pe_base.specs.Walk.Course.{Course, done, at_once}
 use Rattle.pe_stacks.specs.Holdings.{Holdings, stack_count, stack_at, items_at, len_at, lent, given_up, pushed, popped}
 use Rattle.pe_hang.specs.InHand.{map_holdings}
 use Rattle.pe_hang.specs.Moves.{allowed, may_rise, lend, give_up, top_of, pop, push, MayPop, MayPush}

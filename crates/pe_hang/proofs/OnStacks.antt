@@ -1,5 +1,5 @@
 -- Records on stacks, and what is seen of them: each call on a depot does the same to both.
-use Rattle.std.proofs.Common.{◌≡◌, ℕ, ◌+◌, ◌<◌, List, [], ◌∷◌, map, length, drop, set, get_or, refl, sym, ap, ◌∙◌, Option, Some}
+use Rattle.std.proofs.Common.{◌≡◌, ℕ, ◌+◌, map, length, set, sym, ap, ◌∙◌}
 use Rattle.std.proofs.Math.ListN.{get_or-map}
 use Rattle.std.proofs.lemmas.List.{map-set, length-map, drop-map}
 use Rattle.pe_stacks.specs.Holdings.{Stack, Holdings, stack_count, stack_at, items_at, len_at, pushed_on, pushed, popped_from, popped, new_stack, one_back, one_out}

@@ -4,7 +4,7 @@
 --     halted       it halts by this very cause, and all its text was added
 --     unwritten    a part of its text was added, and the sink failed
 --     wanting      a part of its text was added; of a mapping that is sure, some push of the course had no room
-use Rattle.std.specs.Prelude.{◌≡◌, ℕ, ◌+◌, ◌≤◌, ◌<◌, Bool, true, false, List, ◌++◌, Contains, if◌then◌else◌, Result, Ok, Err}
+use Rattle.std.specs.Prelude.{◌≡◌, ℕ, ◌+◌, ◌≤◌, ◌<◌, Bool, true, false, List, Contains, if◌then◌else◌, Result, Ok, Err}
 use Rattle.pe_base.specs.declared.place.Place.{Place}
 use Rattle.pe_base.specs.declared.event.Event.{Event}
 use Rattle.pe_base.specs.declared.stop.Stop.{Stop}

@@ -1,4 +1,4 @@
-use Rattle.std.proofs.Common.{◌≡◌, arith}
+use Rattle.std.proofs.Common.{arith}
 use Rattle.pe_adapt.proofs.KindLaws.{kind-carried, kind-first}
 use Rattle.pe_adapt.proofs.kinds.corner_marks.Goals as goal
 

@@ -1,9 +1,9 @@
-use Rattle.std.proofs.Common.{◌≡◌, ap, Ok, Err, sym, subst, ◌∙◌, Some, None}
+use Rattle.std.proofs.Common.{◌≡◌, ap, Ok, Err, sym, ◌∙◌}
 use Rattle.pe_base.specs.declared.event.Event.TheVariants.{CreateHangingVertex}
 use Rattle.pe_base.specs.declared.kind.Kind.TheVariants.{Born, Hanging}
 use Rattle.pe_mapping.specs.Sights.{seen_vertex}
-use Rattle.pe_hang.specs.InHand.{setting_of, setting_of_events, family_in_hand}
-use Rattle.pe_hang.specs.Follows.{Follows, failure_at, read_by, found_of, held_by}
+use Rattle.pe_hang.specs.InHand.{setting_of, family_in_hand}
+use Rattle.pe_hang.specs.Follows.{failure_at, found_of, held_by}
 use Rattle.pe_adapt.specs.Stops.{failure_of}
 use Rattle.pe_adapt.specs.Spots.{stack_of}
 use Rattle.pe_adapt.proofs.Loading.{loaded-hanging, loaded-born, loaded-stored, stored-top, loaded-waiting}

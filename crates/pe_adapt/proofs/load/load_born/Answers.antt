@@ -1,11 +1,10 @@
-use Rattle.std.proofs.Common.{◌≡◌, Ok, sym, subst, ◌∙◌}
+use Rattle.std.proofs.Common.{Ok, sym, subst, ◌∙◌}
 use Rattle.pe_base.specs.declared.event.Event.TheVariants.{CreateInnerVertex, TouchVertexFirstTime}
-use Rattle.pe_base.specs.declared.kind.Kind.TheVariants.{Born}
-use Rattle.pe_base.specs.Walk.Core.{Family, vertex_event, fresh_vertex}
+use Rattle.pe_base.specs.Walk.Core.{Family, vertex_event}
 use Rattle.pe_base.specs.Walk.Course.{and_then}
 use Rattle.pe_base.specs.Acts.Effects.{VertexRecord}
 use Rattle.pe_mapping.specs.Sights.{seen_vertex}
-use Rattle.pe_hang.specs.InHand.{setting_of, setting_of_events, family_in_hand}
+use Rattle.pe_hang.specs.InHand.{setting_of, family_in_hand}
 use Rattle.pe_hang.specs.Follows.{Follows, read_by, found_of}
 use Rattle.pe_hang.proofs.Leading.{follows-then, follows-found, roomier-held, setting-kept}
 use Rattle.pe_hang.proofs.Firing.{vertex_event-follows}

@@ -1,6 +1,6 @@
-use Rattle.std.proofs.Common.{◌≡◌, sym, subst, ◌∙◌}
+use Rattle.std.proofs.Common.{sym, subst, ◌∙◌}
 use Rattle.pe_base.specs.declared.event.Event.TheVariants.{TouchVertexFirstTime}
-use Rattle.pe_base.specs.Walk.Core.{vertex_event, read_vertex}
+use Rattle.pe_base.specs.Walk.Core.{vertex_event}
 use Rattle.pe_mapping.specs.Sights.{seen_vertex}
 use Rattle.pe_hang.specs.InHand.{setting_of_events, family_in_hand}
 use Rattle.pe_hang.specs.Follows.{Follows, read_by, found_of}

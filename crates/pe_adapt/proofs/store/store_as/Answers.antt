@@ -1,10 +1,10 @@
-use Rattle.std.proofs.Common.{◌≡◌, ℕ, refl, ap, true, false, Ok, Err, sym, subst, ◌∙◌}
+use Rattle.std.proofs.Common.{◌≡◌, ℕ, refl, ap, true, Ok, Err, sym, subst, ◌∙◌}
 use Rattle.std.specs.Prelude.{is_none, OnOk, OnErr}
 use Rattle.pe_base.specs.declared.kind.Kind.TheVariants.{Dying, Hanging}
 use Rattle.pe_base.specs.declared.event.Event.TheVariants.{DestroyHangingVertex}
 use Rattle.pe_mapping.specs.Sights.{seen_vertex}
 use Rattle.pe_hang.specs.InHand.{setting_of_events, family_in_hand, nothing_of}
-use Rattle.pe_hang.specs.Follows.{Follows, failure_at, read_by, found_of, held_by}
+use Rattle.pe_hang.specs.Follows.{failure_at, read_by, found_of, held_by}
 use Rattle.pe_adapt.specs.Stops.{failure_of}
 use Rattle.pe_adapt.specs.Spots.{stack_of}
 use Rattle.pe_stacks.specs.Holdings.{pushed}

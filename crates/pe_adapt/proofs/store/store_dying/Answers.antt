@@ -1,4 +1,4 @@
-use Rattle.std.proofs.Common.{◌≡◌, Ok, Err, sym, subst, ◌∙◌}
+use Rattle.std.proofs.Common.{Ok, Err, subst}
 use Rattle.pe_base.specs.declared.event.Event.TheVariants.{TouchVertexLastTime, DestroyVertex}
 use Rattle.pe_base.specs.Acts.Effects.{VertexRecord}
 use Rattle.pe_base.specs.Walk.Course.{and_then}
@@ -6,7 +6,7 @@ use Rattle.pe_base.specs.Walk.Core.{Family, vertex_event, given_up}
 use Rattle.pe_stacks.specs.declared.record.Vertex.{Vertex as AVertex}
 use Rattle.pe_mapping.specs.Sights.{seen_vertex}
 use Rattle.pe_hang.specs.InHand.{setting_of_events, family_in_hand}
-use Rattle.pe_hang.specs.Follows.{Follows, read_by, found_of}
+use Rattle.pe_hang.specs.Follows.{Follows, found_of}
 use Rattle.pe_hang.proofs.Leading.{follows-map, follows-then, leads_start, leads_err, roomier-held, setting-kept}
 use Rattle.pe_adapt.specs.Stops.{failure_of}
 use Rattle.pe_adapt.proofs.store.store_dying.Goals as goal

@@ -1,6 +1,7 @@
+use Rattle.pe_adapt.proofs.CornerPlaces.{cell_below, level_below}
 use Rattle.pe_adapt.proofs.Fitting.{load_as-fits}
 use Rattle.pe_adapt.proofs.InsideLaws.{kind-inside}
-use Rattle.std.proofs.Common.{◌≡◌, sym, ap, subst, ◌∙◌}
+use Rattle.std.proofs.Common.{◌≡◌, arith, refl, sym, ap, subst, ◌∙◌}
 use Rattle.pe_mapping.specs.Sights.{seen_vertex}
 use Rattle.pe_hang.specs.InHand.{setting_of}
 use Rattle.pe_hang.specs.Follows.{Follows, Fits, read_by, found_of, held_by}
@@ -17,8 +18,8 @@ load_as-requires-clause-fits g c =
     let spot = c.args.spot.now in
     let set = setting_of g.M.Effects.rules old c.args.start_level 0 spot.traversal in
     let desk = desk_in_hand numbers (g.DV.Depot.holds c.args.dv.now) c.args.parents.now c.args.parent.now old.list in
-    let same = load-same set c.args.dim spot.input spot.cell spot.corner desk c.kind_at-kind.result (stack_of c.route_in-from.result) c.corner_place-at.result
-    c.requires.dim c.corner_place-at.ensures.place (c.kind_at-kind.ensures ∙ c.requires.kinds spot.corner c.requires.spot.corner) c.route_in-from.ensures in
+    let same = load-same set old.dim spot.input spot.cell spot.corner desk c.kind_at-kind.result (stack_of c.route_in-from.result) c.corner_place-at.result
+    refl (c.corner_place-at.ensures.place old.dim c.requires.state.grid c.requires.spot.cell c.requires.spot.corner) (c.kind_at-kind.ensures ∙ c.requires.kinds spot.corner c.requires.spot.corner) (c.route_in-from.ensures old.dim c.requires.spot c.requires.state (record { inside = λ counts. c.requires.placed.inside (λ hangs. counts (c.kind_at-kind.ensures ∙ hangs)) })) in
     subst (λ course. Fits course) (sym same) c.requires.fits
 
 pub returns-clause-follows : goal.returns-clause-follows
@@ -30,8 +31,8 @@ returns-clause-follows g c = λ cells.
     let set = setting_of g.M.Effects.rules old c.args.start_level 0 spot.traversal in
     let holds = g.DV.Depot.holds c.args.dv.now in
     let desk = desk_in_hand numbers holds c.args.parents.now c.args.parent.now old.list in
-    let same = load-same set c.args.dim spot.input spot.cell spot.corner desk c.kind_at-kind.result (stack_of c.route_in-from.result) c.corner_place-at.result
-    c.requires.dim c.corner_place-at.ensures.place (c.kind_at-kind.ensures ∙ c.requires.kinds spot.corner c.requires.spot.corner) c.route_in-from.ensures in
+    let same = load-same set old.dim spot.input spot.cell spot.corner desk c.kind_at-kind.result (stack_of c.route_in-from.result) c.corner_place-at.result
+    refl (c.corner_place-at.ensures.place old.dim c.requires.state.grid c.requires.spot.cell c.requires.spot.corner) (c.kind_at-kind.ensures ∙ c.requires.kinds spot.corner c.requires.spot.corner) (c.route_in-from.ensures old.dim c.requires.spot c.requires.state (record { inside = λ counts. c.requires.placed.inside (λ hangs. counts (c.kind_at-kind.ensures ∙ hangs)) })) in
     subst
     (λ course. Follows course
     (λ v. (seen_vertex numbers.vertex v, desk_in_hand numbers (g.DV.Depot.holds c.load_as.new.dv) c.load_as.new.parents c.load_as.new.parent new.list))
@@ -39,4 +40,13 @@ returns-clause-follows g c = λ cells.
     same (c.load_as.ensures.follows cells)
 
 pub kind_at-kind-requires : goal.kind_at-kind-requires
-kind_at-kind-requires g c = small_corner c.args.dim c.args.spot.now.corner c.corners-corners.ensures.range.1 c.requires.spot.corner
+kind_at-kind-requires g c = small_corner (g.M.Mapping.held c.args.m.now).dim c.args.spot.now.corner c.requires.state.grid.1 c.requires.spot.corner
+
+pub corner_place-at-requires-clause-pos : goal.corner_place-at-requires-clause-pos
+corner_place-at-requires-clause-pos g c = λ axis.
+    let cell = c.args.spot.now.cell in
+    let is = c.requires.spot.cell in
+    omega (arith, cell_below (g.M.Mapping.held c.args.m.now).dim cell is axis, level_below cell.level is.level)
+
+pub load_as-requires-clause-place : goal.load_as-requires-clause-place
+load_as-requires-clause-place g c = c.corner_place-at.ensures.below (g.M.Mapping.held c.args.m.now).dim c.requires.spot.cell

@@ -1,4 +1,5 @@
-use Rattle.std.proofs.Common.{◌≡◌, sym, ap, subst, ◌∙◌}
+use Rattle.pe_adapt.proofs.CornerPlaces.{cell_below, level_below}
+use Rattle.std.proofs.Common.{◌≡◌, arith, refl, sym, ap, subst, ◌∙◌}
 use Rattle.pe_base.specs.declared.kind.Kind.TheVariants.{Hanging}
 use Rattle.pe_mapping.specs.Sights.{seen_vertex}
 use Rattle.pe_hang.specs.InHand.{setting_of_events}
@@ -15,8 +16,8 @@ store_as-requires-clause-fits g c =
     let spot = c.args.spot.now in
     let set = setting_of_events g.M.Effects.rules old spot.traversal in
     let desk = desk_in_hand numbers (g.DV.Depot.holds c.args.dv.now) c.args.parents.now c.args.parent.now old.list in
-    let same = store-same set c.args.dim spot.output spot.cell spot.corner (seen_vertex numbers.vertex c.args.v) desk (stack_of c.route_out-to.result) c.corner_place-at.result
-    c.requires.dim c.corner_place-at.ensures.place (λ counts. c.route_out-to.ensures (λ hangs. counts (sym c.kind.ensures ∙ hangs))) in
+    let same = store-same set old.dim spot.output spot.cell spot.corner (seen_vertex numbers.vertex c.args.v) desk (stack_of c.route_out-to.result) c.corner_place-at.result
+    refl (c.corner_place-at.ensures.place old.dim c.requires.state.grid c.requires.spot.cell c.requires.spot.corner) (λ counts. c.route_out-to.ensures old.dim c.requires.spot c.requires.state (record { inside = λ counts'. c.requires.placed.inside (λ hangs. counts' (c.kind.ensures ∙ hangs)) }) (λ hangs. counts (sym c.kind.ensures ∙ hangs))) in
     subst (λ course. Fits course) (sym same) c.requires.fits
 
 pub returns-clause-follows : goal.returns-clause-follows
@@ -28,10 +29,19 @@ returns-clause-follows g c = λ cells.
     let set = setting_of_events g.M.Effects.rules old spot.traversal in
     let holds = g.DV.Depot.holds c.args.dv.now in
     let desk = desk_in_hand numbers holds c.args.parents.now c.args.parent.now old.list in
-    let same = store-same set c.args.dim spot.output spot.cell spot.corner (seen_vertex numbers.vertex c.args.v) desk (stack_of c.route_out-to.result) c.corner_place-at.result
-    c.requires.dim c.corner_place-at.ensures.place (λ counts. c.route_out-to.ensures (λ hangs. counts (sym c.kind.ensures ∙ hangs))) in
+    let same = store-same set old.dim spot.output spot.cell spot.corner (seen_vertex numbers.vertex c.args.v) desk (stack_of c.route_out-to.result) c.corner_place-at.result
+    refl (c.corner_place-at.ensures.place old.dim c.requires.state.grid c.requires.spot.cell c.requires.spot.corner) (λ counts. c.route_out-to.ensures old.dim c.requires.spot c.requires.state (record { inside = λ counts'. c.requires.placed.inside (λ hangs. counts' (c.kind.ensures ∙ hangs)) }) (λ hangs. counts (sym c.kind.ensures ∙ hangs))) in
     subst
     (λ course. Follows course
     (λ done. desk_in_hand numbers (g.DV.Depot.holds c.store_as.new.dv) c.store_as.new.parents c.store_as.new.parent new.list)
     (read_by failure_of c.store_as.result) (found_of old (held_by holds (g.DV.Depot.room c.args.dv.now)) cells) new.told)
     same (c.store_as.ensures.follows cells)
+
+pub corner_place-at-requires-clause-pos : goal.corner_place-at-requires-clause-pos
+corner_place-at-requires-clause-pos g c = λ axis.
+    let cell = c.args.spot.now.cell in
+    let is = c.requires.spot.cell in
+    omega (arith, cell_below (g.M.Mapping.held c.args.m.now).dim cell is axis, level_below cell.level is.level)
+
+pub store_as-requires-clause-place : goal.store_as-requires-clause-place
+store_as-requires-clause-place g c = c.corner_place-at.ensures.below (g.M.Mapping.held c.args.m.now).dim c.requires.spot.cell

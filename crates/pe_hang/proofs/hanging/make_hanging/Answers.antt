@@ -1,7 +1,4 @@
 use Rattle.std.proofs.Common.{◌≡◌, true, false, sym, ◌∙◌}
-use Rattle.pe_hang.proofs.Moving.{push-is}
-use Rattle.pe_hang.proofs.Leading.{follows-map}
-use Rattle.pe_hang.proofs.Firing.{vertex_event-follows}
 use Rattle.pe_mapping.proofs.Texts.{part-nothing}
 use Rattle.pe_hang.proofs.hanging.make_hanging.Goals as goal
 
