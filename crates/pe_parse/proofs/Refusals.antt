@@ -1,5 +1,5 @@
 -- Where a token is refused, no body begins with the tokens up to and including it.
-use Rattle.std.proofs.Common.{slice_get, subst, zero, ◌≡◌, ℕ, ◌+◌, ◌<◌, ◌≤◌, suc, List, [], ◌∷◌, ◌++◌, length, take, Option, Some, None, Bool, true, false, cond, refl, sym, ◌∙◌, ap, arith}
+use Rattle.std.proofs.Common.{slice_get, subst, zero, ◌≡◌, ℕ, ◌<◌, ◌≤◌, suc, List, [], ◌∷◌, ◌++◌, length, take, Option, Some, None, Bool, true, false, cond, refl, sym, ◌∙◌, ap, arith}
 use Rattle.std.specs.Prelude.{nat_le}
 use Rattle.pe_parse.specs.declared.fault.ParseFault.{ParseFault}
 use Rattle.pe_parse.specs.declared.fault.ParseFault.TheVariants.{Syntax, TooDeep, TooMany, Literal, Memory}
@@ -7,7 +7,7 @@ use Rattle.pe_parse.specs.Lexemes.{Lexeme, offset_at}
 use Rattle.pe_parse.specs.Places.{Frame, Sequence, step, ends, nesting, are_counted}
 use Rattle.pe_parse.specs.Faults.{is_too_large, passed_limit, or_fault, at_token, fault_from}
 use Rattle.pe_parse.specs.Reading.{IsFault}
-use Rattle.pe_parse.specs.Bodies.{Begins, NoBody, Passed, Refused, WithinLimits, open_next, open_after}
+use Rattle.pe_parse.specs.Bodies.{NoBody, Passed, Refused, WithinLimits, open_next, open_after}
 use Rattle.pe_parse.proofs.Completes.{begins_body}
 use Rattle.pe_parse.proofs.Accepts.{accepts, on_step, body_accepted}
 
