@@ -1,5 +1,5 @@
 -- A body that fits an event fits where there is more.
-use Rattle.std.proofs.Common.{◌≡◌, ◌∙◌, sym, subst, ℕ, ◌<◌, ◌≤◌, ◌^◌, List, [], ◌∷◌, map, refl, ap, arith, Bool, true, false, ◌&&◌, nat_lt, IsTrue}
+use Rattle.std.proofs.Common.{◌∙◌, sym, subst, ℕ, ◌≤◌, ◌^◌, List, [], ◌∷◌, map, refl, arith, Bool, true, false, ◌&&◌, nat_lt, IsTrue}
 use Rattle.std.specs.List.{list_all}
 use Rattle.std.proofs.lemmas.Bool.Decides.{nat_tests}
 use Rattle.pe_base.specs.declared.event.Sort.{Sort}

@@ -6,5 +6,4 @@ ghost use Rattle.pe_check.specs.Wider.{FitsWiden};
 /// So a body that was checked for the names of a scenario may run where eight numbers of each kind are lent.
 pub fn fits_widen()
     ensures { FitsWiden }
-{
-}
+{}

@@ -10,5 +10,5 @@ mod resolve;
 
 pub use bodies::check;
 pub use cause::CheckFault;
-pub use laws::fits_widen;
 pub use checked::{Checked, Expr, Name, Slot, Stmt, Values, VertexName};
+pub use laws::fits_widen;
