@@ -1,3 +1,4 @@
 pub mod Resolved
 pub mod Gathering
 pub mod Trees
+pub mod Widening

@@ -6,6 +6,8 @@ pub mod Table
 pub mod Resolving
 -- when a body whose names are resolved fits an event
 pub mod Fits
+-- where a body that fits an event fits too
+pub mod Wider
 -- where the code resolves names
 pub mod Scopes
 -- what the check answers
