@@ -1,5 +1,5 @@
 -- When a body whose names are resolved fits an event.
-use Rattle.std.specs.Prelude.{ℕ, Bool, true, false, ◌&&◌, not, ◌||◌, ◌^◌, nat_lt, List, map}
+use Rattle.std.specs.Prelude.{ℕ, Bool, true, false, ◌&&◌, ◌^◌, nat_lt, List}
 use Rattle.std.specs.List.{list_all}
 use Rattle.pe_base.specs.declared.event.Sort.{Sort}
 use Rattle.pe_base.specs.declared.event.Sort.TheVariants as sort
@@ -75,7 +75,7 @@ expr_fits reach = fold-Expr Bool (expr_fits_step reach)
 abbrev pub stmt_fits_step : Reach → Stmt-F Bool → Bool
 stmt_fits_step reach (Stmt-F.Assign slot expr) = slot_fits reach slot && expr_fits reach expr
 stmt_fits_step reach (Stmt-F.Mark trigger vertex) = vertex_fits reach vertex
-stmt_fits_step reach (Stmt-F.Print values) = list_all (expr_fits reach) values.items
+stmt_fits_step reach (Stmt-F.Print values) = list_all (expr_fits reach) values
 stmt_fits_step reach (Stmt-F.If test body) = expr_fits reach test && list_all (λ fits. fits) body
 stmt_fits_step reach (Stmt-F.IfElse test body other) = expr_fits reach test && list_all (λ fits. fits) body && list_all (λ fits. fits) other
 

@@ -1,10 +1,8 @@
 -- The table of names: which first words there are, which events see what they speak of, and what may stand behind them.
-use Rattle.std.specs.Prelude.{ℕ, ◌+◌, ◌-◌, ◌*◌, Bool, true, false, not, ◌&&◌, ◌==◌, nat_lt, List, [], ◌∷◌, codes, find, Option, Some, None, option_map, if◌then◌else◌}
+use Rattle.std.specs.Prelude.{ℕ, ◌+◌, ◌-◌, ◌*◌, Bool, true, not, ◌&&◌, ◌==◌, nat_lt, List, [], ◌∷◌, codes, find, Option, Some, None, if◌then◌else◌}
 use Rattle.std.specs.Char.{is_ascii_digit}
 use Rattle.std.specs.Str.{bytes_eq}
-use Rattle.std.specs.List.{position_from}
 use Rattle.pe_base.specs.declared.event.Sort.{Sort}
-use Rattle.pe_check.specs.declared.checked.VertexName.{VertexName}
 use Rattle.pe_check.specs.declared.checked.VertexName.TheVariants.{Own, Corner, ParentCorner}
 use Rattle.pe_check.specs.declared.head.Head.{Head}
 use Rattle.pe_check.specs.declared.head.Head.TheVariants.{Traversal, Global, Level, Axis, Vertex, Cell, Parent}
@@ -42,6 +40,16 @@ found_head (Some row) other = Some row.1
 -- what a first word speaks of
 abbrev pub head_of : ℕ → List ℕ → Option Head
 head_of axes word = found_head (find (λ row. bytes_eq row.0 word) words) (numbered_head axes word)
+
+-- an axis of which a word speaks is one of the dimension
+abbrev pub is_within : ℕ → Head → Bool
+is_within axes (Axis axis) = nat_lt axis axes
+is_within axes Traversal = true
+is_within axes Global = true
+is_within axes Level = true
+is_within axes (Vertex vertex) = true
+is_within axes Cell = true
+is_within axes Parent = true
 
 -- which events see it
 abbrev pub is_here : Sort → Head → Bool

@@ -1,7 +1,8 @@
-ghost use Rattle.std.specs.Prelude.{◌≤◌, length};
+ghost use Rattle.std.specs.Prelude.{◌≡◌, ◌≤◌, length};
 
 use pe_base::{Boxed, List};
 use pe_parse::{Choice, Prefix, Sign, Trigger};
+use std::marker::Model;
 
 /// The statements of a body whose names are resolved, in order.
 pub type Checked = List<Stmt>;
@@ -61,12 +62,45 @@ pub enum Expr {
     Abs(Boxed<Expr>),
 }
 
-/// The values of a print, of which there are one to eight.
+/// The values of a print, of which there are one to eight. Contracts see them as a list.
 #[derive(Debug, Drop)]
 pub struct Values {
-    pub items: List<Expr>,
-    ghost some: { 1 ≤ length items },
-    ghost few: { length items ≤ 8 },
+    items: Vec<Expr>,
+}
+
+impl Model for Values {
+    ghost use Rattle.std.specs.Prelude.{List, length, ◌≤◌};
+    ghost use Rattle.std.specs.Coded.{codes};
+    ghost use Rattle.pe_check.specs.declared.checked.Expr.{Expr};
+    ghost use Rattle.pe_check.specs.contracts.checked.Expr as e;
+
+    ghost Value = { List Expr };
+
+    ghost coded = { Prim.hlevel (codes, e.the_row.coded) };
+
+    ghost view = { λ values. values.items.items };
+
+    ghost invariant = { λ values. (1 ≤ length values.items.items) × (length values.items.items ≤ 8) };
+}
+
+impl Values {
+    /// The values of a vector, which are kept as they are.
+    pub fn new(items: Vec<Expr>) -> Values
+        requires some { 1 ≤ length items.items }
+        requires few { length items.items ≤ 8 }
+        ensures { result ≡ items.items }
+    {
+        Values { items }
+    }
+
+    /// The values, from left to right.
+    pub fn as_slice(&self) -> &[Expr]
+        ensures value { result.now ≡ self.now }
+        ensures some { 1 ≤ length result.now }
+        ensures few { length result.now ≤ 8 }
+    {
+        self.items.as_slice()
+    }
 }
 
 /// A statement.

@@ -1,4 +1,4 @@
-ghost use Rattle.std.specs.Prelude.{◌≡◌};
+ghost use Rattle.std.specs.Prelude.{◌≡◌, IfSome, IsTrue};
 ghost use Rattle.pe_check.specs.Table as table;
 
 use crate::checked::VertexName;
@@ -25,7 +25,8 @@ pub enum Head {
 
 /// What a word speaks of, if it is one of the first words of names.
 pub(crate) fn head_of(word: &str, axes: u8) -> Option<Head>
-    ensures { result ≡ table.head_of axes word.now }
+    ensures value { result ≡ table.head_of axes word.now }
+    ensures axis { IfSome result (λ head. IsTrue (table.is_within axes head)) }
 {
     if word == "t" {
         return Some(Head::Traversal);
@@ -50,7 +51,8 @@ pub(crate) fn head_of(word: &str, axes: u8) -> Option<Head>
 
 /// What a letter with a number behind it speaks of.
 fn numbered_head(word: &[u8], axes: u8) -> Option<Head>
-    ensures { result ≡ table.numbered_head axes word.now }
+    ensures value { result ≡ table.numbered_head axes word.now }
+    ensures axis { IfSome result (λ head. IsTrue (table.is_within axes head)) }
 {
     match word {
         [letter, digits @ ..] => match number_of(digits) {
@@ -63,7 +65,8 @@ fn numbered_head(word: &[u8], axes: u8) -> Option<Head>
 
 /// What a letter and a number speak of.
 fn family(letter: u8, number: u8, axes: u8) -> Option<Head>
-    ensures { result ≡ table.family axes letter number }
+    ensures value { result ≡ table.family axes letter number }
+    ensures axis { IfSome result (λ head. IsTrue (table.is_within axes head)) }
 {
     match letter {
         b'x' if number < axes => Some(Head::Axis(number)),

@@ -1,7 +1,7 @@
 -- The values of chains, link by link.
 use Rattle.std.proofs.Common.{◌≡◌, ◌∙◌, sym, subst, ℕ, zero, suc, ◌+◌, ◌<◌, ℤ, List, [], ◌∷◌, length, map, drop, refl, ap, Ok, Err, IsTrue, arith, add-one, drop-cons, slice_index_or, Bool, true, false, ◌&&◌, cond, not}
 use Rattle.std.specs.List.{list_all}
-use Rattle.std.proofs.lemmas.List.Folds.{list_all-map}
+use Rattle.pe_check.proofs.Trees.{expr_fits-Chain}
 use Rattle.pe_parse.specs.declared.tree.Sign.{Sign}
 use Rattle.pe_parse.specs.declared.tree.Choice.{Choice}
 use Rattle.pe_check.specs.declared.checked.Expr.{Expr, Chain, Extreme}
@@ -43,10 +43,7 @@ list_all-at test (x ∷ xs) (suc i) d all lt = list_all-at test xs i d (second_o
 pub value_of-Chain : (first : Expr) (links : List (Sign × Expr)) (scene : Scene) → value_of (Chain first links) scene ≡ value_behind (value_of first scene) links scene
 value_of-Chain first links scene = ap (λ expr. value_of expr scene) (sym (rolls-Chain first links)) ∙ ap (λ f. f scene) (fold-roll-Expr (Scene → Value) expr_step (Expr-F.Chain first links))
 
--- a chain fits where its parts do
-pub expr_fits-Chain : (reach : Reach) (first : Expr) (links : List (Sign × Expr)) → expr_fits reach (Chain first links) ≡ (expr_fits reach first && list_all (λ link. expr_fits reach link.1) links)
-expr_fits-Chain reach first links = ap (expr_fits reach) (sym (rolls-Chain first links)) ∙ fold-roll-Expr Bool (expr_fits_step reach) (Expr-F.Chain first links) ∙ ap (λ b. expr_fits reach first && b) (list_all-map (λ link. link.1) (λ (link : Sign × Expr). (link.0, expr_fits reach link.1)) links)
-
+-- two values fit where both do
 pub expr_fits-Extreme : (reach : Reach) (choice : Choice) (left right : Expr) → expr_fits reach (Extreme choice left right) ≡ (expr_fits reach left && expr_fits reach right)
 expr_fits-Extreme reach choice left right = ap (expr_fits reach) (sym (rolls-Extreme choice left right)) ∙ fold-roll-Expr Bool (expr_fits_step reach) (Expr-F.Extreme choice left right)
 

@@ -1,11 +1,11 @@
 -- Corners of which all are there: what is seen of them when one is read or changed.
-use Rattle.std.proofs.Common.{◌≡◌, ◌∙◌, ℕ, List, map, refl, ap, sym, subst, slice_get, slice_set, Some}
+use Rattle.std.proofs.Common.{◌≡◌, ◌∙◌, ℕ, map, ap, sym, subst, slice_get, slice_set, Some}
 use Rattle.std.specs.Prelude.{option_map}
 use Rattle.std.specs.Option.{option_map_or}
 use Rattle.std.proofs.lemmas.List.{map-set}
 use Rattle.std.proofs.lemmas.Option.{slice_get-map}
 use Rattle.pe_stacks.specs.Corners.{CornerList, vertices_of, vertex_at, with_vertex, IsFull}
-use Rattle.pe_stacks.proofs.FullCorners.{vertices_of-full, with_vertex-full, vertices_of-with_vertex}
+use Rattle.pe_stacks.proofs.FullCorners.{vertices_of-full, vertices_of-with_vertex}
 use Rattle.pe_eval.specs.Meaning.{changed_at}
 
 module _ {X : Type 0} where

@@ -1,5 +1,5 @@
 -- What a body may leave: numbers and triggers alone.
-use Rattle.std.proofs.Common.{◌≡◌, ◌∙◌, sym, subst, ℕ, zero, suc, ◌-◌, ◌⊎◌, inl, inr, List, [], ◌∷◌, ◌&&◌, refl, ap, Option, Some, None, Bool, true, false, cond, nat_lt, ℤ, slice_get, slice_set}
+use Rattle.std.proofs.Common.{◌≡◌, ◌∙◌, sym, subst, ℕ, zero, suc, ◌-◌, inl, inr, List, [], ◌∷◌, ◌&&◌, refl, ap, Option, Some, None, Bool, true, false, cond, nat_lt, ℤ, slice_get, slice_set}
 use Rattle.std.specs.Prelude.{option_map}
 use Rattle.std.specs.Option.{option_map_or}
 use Rattle.pe_base.specs.declared.state.State.{State}

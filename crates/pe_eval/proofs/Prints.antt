@@ -1,5 +1,5 @@
 -- The lines of prints, value by value.
-use Rattle.std.proofs.Common.{◌≡◌, ◌∙◌, sym, ℕ, suc, ◌+◌, ◌<◌, ℤ, List, [], ◌∷◌, ◌++◌, length, drop, refl, ap, Ok, Err, Result, append_assoc, add-one, drop-cons, slice_index_or}
+use Rattle.std.proofs.Common.{◌≡◌, ◌∙◌, sym, ℕ, suc, ◌+◌, ◌<◌, ℤ, List, ◌∷◌, ◌++◌, length, drop, refl, ap, Ok, Err, Result, append_assoc, add-one, drop-cons, slice_index_or}
 use Rattle.std.specs.Fmt.{signed_decimal}
 use Rattle.pe_check.specs.declared.checked.Expr.{Expr}
 use Rattle.pe_eval.specs.declared.fault.Fault.{Fault}

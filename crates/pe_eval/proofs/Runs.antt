@@ -1,11 +1,11 @@
 -- Statements in turn: what has been done so far, and what each further statement adds.
-use Rattle.std.proofs.Common.{◌≡◌, ◌∙◌, sym, subst, ℤ, ℕ, suc, ◌+◌, ◌<◌, ◌≤◌, ◌-◌, ◌^◌, List, [], ◌∷◌, ◌++◌, length, map, drop, take, refl, ap, inl, inr, Option, Some, None, arith, add-one, append_assoc, append-nil, drop-cons, slice_index_or, ◌⊎◌, le_refl, Bool, ◌&&◌, IsTrue, Result, Ok, Err}
+use Rattle.std.proofs.Common.{◌≡◌, ◌∙◌, sym, subst, ℤ, ℕ, suc, ◌+◌, ◌<◌, ◌≤◌, List, [], ◌∷◌, ◌++◌, length, drop, take, refl, ap, inl, inr, Option, Some, None, arith, append_assoc, append-nil, drop-cons, slice_index_or, le_refl, Bool, ◌&&◌, IsTrue, Result, Ok, Err}
 use Rattle.std.proofs.lemmas.List.{take-append-drop, drop_all}
 use Rattle.pe_base.specs.declared.stop.Stop.{Stop}
 use Rattle.pe_base.specs.declared.stop.Stop.TheVariants.{Overflow, Division, Sink, Memory}
 use Rattle.pe_base.specs.Acts.Effects.{Seen, Outcome, MayLeave}
 use Rattle.pe_base.specs.Acts.Effects as effects
-use Rattle.pe_io.specs.Counts.{Rises, last_count}
+use Rattle.pe_io.specs.Counts.{Rises}
 use Rattle.pe_io.specs.Sink.{Appends, AppendsPrefix}
 use Rattle.pe_check.specs.declared.checked.Stmt.{Stmt, If, IfElse}
 use Rattle.pe_eval.specs.declared.view.View.{View}
@@ -13,14 +13,10 @@ use Rattle.pe_check.specs.declared.checked.Expr.{Expr}
 use Rattle.pe_eval.specs.declared.fault.Fault.{Fault}
 use Rattle.pe_eval.specs.Names.{Scene}
 use Rattle.pe_eval.specs.Values.{values_of, with_values}
-use Rattle.pe_eval.specs.Meaning.{fine, with_value, printed, print_start, print_line, Act, Setting, in_turn, act_of, meaning, behind, and_then, unless_stopped}
+use Rattle.pe_eval.specs.Meaning.{fine, with_value, printed, print_start, print_line, act_of, meaning, behind, and_then, unless_stopped}
 use Rattle.pe_eval.specs.Sights.{Frame, sight, globals_of, frame}
-use Rattle.pe_check.specs.declared.checked.Stmt.TheVariants.{rolls-If, rolls-IfElse}
-use Rattle.pe_check.specs.declared.checked.Stmt.TheOpen.{Stmt-F}
-use Rattle.pe_check.specs.declared.checked.Stmt.TheFolds.{fold-roll-Stmt}
-use Rattle.pe_check.specs.Fits.{Reach, fits, stmt_fits, stmt_fits_step, expr_fits}
-use Rattle.std.specs.List.{list_all}
-use Rattle.std.proofs.lemmas.List.Folds.{list_all-map}
+use Rattle.pe_check.proofs.Trees.{stmt_fits-If, stmt_fits-IfElse}
+use Rattle.pe_check.specs.Fits.{Reach, fits, stmt_fits, expr_fits}
 use Rattle.pe_eval.specs.Sights.{reach_of}
 use Rattle.pe_eval.proofs.Chains.{list_all-at, first_of_both, second_of_both}
 use Rattle.pe_eval.specs.Answers.{Told, IsOutcome, IsSinkFault, Answers}
@@ -108,6 +104,7 @@ module _ (body : List Stmt) (begun : View) (old : Told) (i : ℕ) (view : View) 
     where
       fine_then : (outcome : Outcome) (rest : Seen → List ℤ → Outcome) → outcome.fault ≡ None → and_then outcome rest ≡ behind outcome.text (rest outcome.seen outcome.list)
       fine_then outcome rest none = ap (λ fault. unless_stopped fault outcome rest) none
+
       twice_behind : (x y : List ℕ) (outcome : Outcome) → behind x (behind y outcome) ≡ behind (x ++ y) outcome
       twice_behind x y outcome = ap (λ text. record outcome { text = text }) (sym (append_assoc x y outcome.text))
 
@@ -135,6 +132,7 @@ module _ (body : List Stmt) (begun : View) (old : Told) (i : ℕ) (view : View) 
     where
       rest : Seen → List ℤ → Outcome
       rest = meaning (drop (i + 1) body) (frame begun).setting
+
       longer : (fault : Option effects.Fault) → IsSinkFault (unless_stopped fault here rest) now next
       longer None = sink_fault-more here (rest here.seen here.list).text (behind here.text (rest here.seen here.list)) now next refl cut
       longer (Some fault) = cut
@@ -201,15 +199,6 @@ stmt_fits-at begun view body i stmt all same lt is =
     subst Q reach (subst P (sym is) (list_all-at (stmt_fits (reach_of begun)) body i stmt all lt))
 
 -- the bodies of a statement fit where it does
-pub stmt_fits-If : (reach : Reach) (test : Expr) (body : List Stmt) → stmt_fits reach (If test body) ≡ (expr_fits reach test && fits reach body)
-stmt_fits-If reach test body = ap (stmt_fits reach) (sym (rolls-If test body)) ∙ fold-roll-Stmt Bool (stmt_fits_step reach) (Stmt-F.If test body) ∙ ap (λ b. expr_fits reach test && b) (list_all-map (λ b. b) (stmt_fits reach) body)
-
-pub stmt_fits-IfElse : (reach : Reach) (test : Expr) (body other : List Stmt) → stmt_fits reach (IfElse test body other) ≡ (expr_fits reach test && fits reach body && fits reach other)
-stmt_fits-IfElse reach test body other =
-    ap (stmt_fits reach) (sym (rolls-IfElse test body other)) ∙ fold-roll-Stmt Bool (stmt_fits_step reach) (Stmt-F.IfElse test body other)
-    ∙ ap (λ b. expr_fits reach test && b && list_all (λ b. b) (map (stmt_fits reach) other)) (list_all-map (λ b. b) (stmt_fits reach) body)
-    ∙ ap (λ b. expr_fits reach test && fits reach body && b) (list_all-map (λ b. b) (stmt_fits reach) other)
-
 module _ (reach : Reach) (stmt : Stmt) (test : Expr) (body other : List Stmt) where
   pub fits-if : stmt ≡ If test body → IsTrue (stmt_fits reach stmt) → IsTrue (fits reach body)
   fits-if is all = let P : Bool → Type 0 = λ b. IsTrue b in second_of_both (expr_fits reach test) (fits reach body) (subst P (ap (stmt_fits reach) is ∙ stmt_fits-If reach test body) all)

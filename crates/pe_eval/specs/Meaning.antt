@@ -1,5 +1,5 @@
 -- What a body does at an event: its statements run in order, and a fault stops it.
-use Rattle.std.specs.Prelude.{ℕ, ℤ, pos, ◌-◌, List, [], ◌∷◌, ◌++◌, map, codes, slice_get, slice_set, Option, Some, None, option_map, Result, Ok, Err, if◌then◌else◌}
+use Rattle.std.specs.Prelude.{ℕ, ℤ, ◌-◌, List, [], ◌∷◌, ◌++◌, map, codes, slice_get, slice_set, Option, Some, None, option_map, Result, Ok, Err, if◌then◌else◌}
 use Rattle.std.specs.Option.{option_map_or}
 use Rattle.std.specs.List.{flat_map}
 use Rattle.std.specs.Fmt.{signed_decimal}
@@ -20,7 +20,7 @@ use Rattle.pe_check.specs.declared.checked.Stmt.{Stmt}
 use Rattle.pe_check.specs.declared.checked.Stmt.TheOpen.{Stmt-F}
 use Rattle.pe_check.specs.declared.checked.Stmt.TheFolds.{fold-Stmt}
 use Rattle.pe_eval.specs.declared.fault.Fault.{Fault}
-use Rattle.pe_eval.specs.Arithmetic.{Value, is_zero}
+use Rattle.pe_eval.specs.Arithmetic.{is_zero}
 use Rattle.pe_eval.specs.Names.{Scene}
 use Rattle.pe_eval.specs.Values.{value_of, values_of}
 use Rattle.pe_eval.specs.Stops.{fault_of}
@@ -134,7 +134,7 @@ abbrev pub stmt_step : Stmt-F Act → Act
 stmt_step (Stmt-F.Assign slot expr) setting seen list =
     with_value seen list (value_of expr (scene_of setting seen list)) (λ n. fine (with_number slot n seen) (with_global slot n list))
 stmt_step (Stmt-F.Mark trigger vertex) setting seen list = fine (marked trigger setting.max_level vertex seen) list
-stmt_step (Stmt-F.Print values) setting seen list = printed values.items (scene_of setting seen list)
+stmt_step (Stmt-F.Print values) setting seen list = printed values (scene_of setting seen list)
 stmt_step (Stmt-F.If test body) setting seen list =
     with_value seen list (value_of test (scene_of setting seen list)) (λ n. if is_zero n then fine seen list else in_turn body setting seen list)
 stmt_step (Stmt-F.IfElse test body other) setting seen list =

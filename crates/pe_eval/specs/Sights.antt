@@ -1,5 +1,5 @@
 -- What a view shows: what the event sees, the numbers of the whole grid, and what stays while a body runs.
-use Rattle.std.specs.Prelude.{ℕ, ℤ, ◌≤◌, ◌^◌, List, [], ◌∷◌, map, All, Option, Some, None}
+use Rattle.std.specs.Prelude.{ℕ, ℤ, ◌≤◌, ◌^◌, List, [], ◌∷◌, map, All, Some, None}
 use Rattle.pe_base.specs.declared.fields.Fields.{Fields}
 use Rattle.pe_base.specs.declared.place.Place.{Place}
 use Rattle.pe_base.specs.declared.event.Sort.{Sort}

@@ -91,13 +91,13 @@ fn step<K: Sink>(stmt: &Stmt, view: &mut View, sink: &mut K) -> Result<(), Stop>
 
 /// Writes the line of a print by one call, once all its values are known.
 fn print<K: Sink>(values: &Values, view: &View, sink: &mut K) -> Result<(), Stop>
-    requires fits { IsTrue (list_all (expr_fits (reach_of view.now)) values.now.items) }
+    requires fits { IsTrue (list_all (expr_fits (reach_of view.now)) values.now) }
     requires ready { IsReady view.now }
-    ensures { Answers (printed values.now.items (scene view.now))
+    ensures { Answers (printed values.now (scene view.now))
         (record { text = K.text sink.old; faults = K.faults sink.old })
         (record { text = K.text sink.new; faults = K.faults sink.new }) view.now result }
 {
-    let line = match print_line(values.items.as_slice(), view) {
+    let line = match print_line(values.as_slice(), view) {
         Ok(line) => line,
         Err(fault) => return Err(fault.stop()),
     };

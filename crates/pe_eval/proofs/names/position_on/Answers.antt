@@ -1,4 +1,4 @@
-use Rattle.std.proofs.Common.{◌≤◌, ◌<◌, ◌^◌, ℕ, arith, length, slice_index_or, sym}
+use Rattle.std.proofs.Common.{◌≤◌, ◌<◌, ◌^◌, ℕ, arith, length, slice_index_or}
 use borrow.Author.Tests.{ltb-true}
 use Rattle.std.proofs.Math.Nat.{pow-le-pow_right}
 use Rattle.pe_base.specs.declared.place.Place.{Place}

@@ -1,6 +1,4 @@
-use Rattle.pe_parse.specs.declared.tree.Sign.{Sign}
-use Rattle.std.proofs.Common.{drop, ◌+◌, List, ◌≡◌, IsTrue, Ok, rules, ap, ◌∙◌, ◌&&◌, subst, sym, w64, FitsSigned, length, ◌<◌, false, ℤ}
-use Rattle.std.specs.List.{list_all}
+use Rattle.std.proofs.Common.{drop, ◌+◌, IsTrue, Ok, rules, ap, ◌∙◌, subst, sym, w64}
 use Rattle.std.proofs.lemmas.Int.{to_z-of_z}
 use Rattle.pe_check.specs.declared.checked.Expr.{Expr, Chain}
 use Rattle.pe_check.specs.declared.checked.Expr.TheViews.{the_lemmas}

@@ -1,4 +1,3 @@
-use Rattle.std.proofs.Common.{rules, ◌∙◌, ap}
 use Rattle.pe_eval.specs.Sights.{seen_vertex}
 use Rattle.pe_eval.proofs.FullCorners.{seen_there}
 use Rattle.pe_eval.proofs.view.View.vertex.Goals as goal
