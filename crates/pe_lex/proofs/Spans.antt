@@ -68,7 +68,7 @@ from_tokens text [] k at tokens here h = let e : [] ≡ tokens = cc in subst (Ar
 from_tokens text (c ∷ cs) (suc k) at tokens here h = from_tokens text cs k (at + 1) tokens (next_suffix text at c cs here) h
 from_tokens text (c ∷ cs) zero at tokens here h =
     begun text at (c ∷ cs) tokens (is_white c) (longest (c ∷ cs)) (λ passed. tokens_from (passed - 1) (at + 1) cs) here refl
-      (λ n more read. from_tokens text cs (n - 1) (at + 1) more (next_suffix text at c cs here) read) h
+    (λ n more read. from_tokens text cs (n - 1) (at + 1) more (next_suffix text at c cs here) read) h
 
 -- the tokens of a text are tokens of it
 pub tokens_are : (text : List ℕ) (tokens : List Token) → tokens_of text ≡ Ok tokens → AreTokensOf text tokens
@@ -114,4 +114,4 @@ pub word_form : (piece : List ℕ) → kind_of piece ≡ Some Word → has_form 
 unfolding kind_of
 word_form piece h =
     word_here piece (has_form piece AnyWord) (has_form piece AnyNumber) refl (λ none_. let wrong : None ≡ Some Word = word_past piece signs None refl none_ in absurd (cc))
-      (word_past piece keywords (kind_by patterns (kind_by signs None piece) piece) refl h)
+    (word_past piece keywords (kind_by patterns (kind_by signs None piece) piece) refl h)
