@@ -193,7 +193,7 @@ pub number_longest : (text : List ℕ) → 0 < length text → is_digit (get_or 
 number_longest [] some digit = absurd (omega arith)
 number_longest (c ∷ cs) some digit =
     longest_is (c ∷ cs) (suc (prefix_len is_digit cs)) Number (omega arith) (omega (arith, prefix_len-le-length is_digit cs))
-      (number_kind c (take (prefix_len is_digit cs) cs) digit (all_of_run is_digit cs)) (past_number c cs digit)
+    (number_kind c (take (prefix_len is_digit cs) cs) digit (all_of_run is_digit cs)) (past_number c cs digit)
     ∙ ap (λ (n : ℕ). Some (Number, n)) (sym (run_of is_digit c cs digit))
 
 past_sign : (c d : ℕ) (cs : List ℕ) → is_letter c ≡ false → is_digit c ≡ false → (m : ℕ) → 2 < m → m ≤ suc (suc (length cs)) → kind_of (take m (c ∷ d ∷ cs)) ≡ None

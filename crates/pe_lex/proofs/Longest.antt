@@ -12,9 +12,10 @@ within_is : (text : List ℕ) (n : ℕ) (kind : TokenKind) (most : ℕ) → 0 < 
     → ((m : ℕ) → n < m → m ≤ most → kind_of (take m text) ≡ None) → longest_within most text ≡ Some (kind, n)
 within_is text n kind zero some fits is longer = absurd (omega arith)
 within_is text n kind (suc most) some fits is longer = elim (last_or_below n most fits) [
-    inl same ↦ ap (λ (k : ℕ). or_shorter (kind_of (take k text)) k (longest_within most text)) (sym same) ∙ ap (λ (o : Option TokenKind). or_shorter o n (longest_within most text)) is
+  | inl same ↦ ap (λ (k : ℕ). or_shorter (kind_of (take k text)) k (longest_within most text)) (sym same) ∙ ap (λ (o : Option TokenKind). or_shorter o n (longest_within most text)) is
   | inr below ↦ ap (λ (o : Option TokenKind). or_shorter o (suc most) (longest_within most text)) (longer (suc most) (omega arith) (omega arith))
-      ∙ within_is text n kind most some below is (λ m above at. longer m above (omega arith)) ]
+      ∙ within_is text n kind most some below is (λ m above at. longer m above (omega arith))
+]
 
 pub longest_is : (text : List ℕ) (n : ℕ) (kind : TokenKind) → 0 < n → n ≤ length text → kind_of (take n text) ≡ Some kind
     → ((m : ℕ) → n < m → m ≤ length text → kind_of (take m text) ≡ None) → longest text ≡ Some (kind, n)

@@ -41,7 +41,7 @@ token_step at c cs kind n white is fits =
     ap (λ (b : Bool). begin_at b (longest (c ∷ cs)) at (λ passed. tokens_from (passed - 1) (at + 1) cs)) white
     ∙ ap (λ (o : Option (TokenKind × ℕ)). begin_at false o at (λ passed. tokens_from (passed - 1) (at + 1) cs)) is
     ∙ ap (λ (r : Result (List Token) ℕ). with_token (record { kind = kind; start = at; end = at + suc n }) r)
-        (ap (λ (k : ℕ). tokens_from k (at + 1) cs) one_less ∙ skipped n (at + 1) cs fits ∙ ap (λ (k : ℕ). tokens_from 0 k (drop n cs)) moved)
+    (ap (λ (k : ℕ). tokens_from k (at + 1) cs) one_less ∙ skipped n (at + 1) cs fits ∙ ap (λ (k : ℕ). tokens_from 0 k (drop n cs)) moved)
 
 -- the same, of a text from an offset on
 

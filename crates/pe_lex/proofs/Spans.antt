@@ -6,7 +6,7 @@ use Rattle.pe_lex.specs.declared.token.TokenKind.TheVariants.{Word, Number}
 use Rattle.pe_lex.specs.declared.token.Token.{Token}
 use Rattle.pe_lex.specs.Forms.{is_white, Form, AnyWord, AnyNumber, has_form, keywords, patterns, signs, kind_by, kind_of}
 use Rattle.pe_lex.specs.Tokens.{longest, longest_within, or_shorter, with_token, begin_at, tokens_from, tokens_of}
-use Rattle.pe_lex.specs.Spans.{IsTokenOf}
+use Rattle.pe_lex.specs.Spans.{IsTokenOf, AreTokensOf}
 use Rattle.pe_lex.proofs.Longest.{longest_fits}
 
 found_step : (text : List ℕ) (kind : TokenKind) (n most : ℕ) (here : Option TokenKind) → kind_of (take (suc most) text) ≡ here
@@ -25,11 +25,6 @@ found_within text kind n (suc most) h = found_step text kind n most (kind_of (ta
 -- the longest token is of its kind
 pub longest_kind : (text : List ℕ) (kind : TokenKind) (n : ℕ) → longest text ≡ Some (kind, n) → kind_of (take n text) ≡ Some kind
 longest_kind text kind n h = found_within text kind n (length text) h
-
--- each token of a list
-abbrev pub AreTokensOf : List ℕ → List Token → Type 0
-AreTokensOf text [] = Unit {0}
-AreTokensOf text (token ∷ tokens) = IsTokenOf text token × AreTokensOf text tokens
 
 -- what stands from an offset on, where it is known
 record Suffix (text rest : List ℕ) (at : ℕ) : Type 0 where
@@ -73,7 +68,7 @@ from_tokens text [] k at tokens here h = let e : [] ≡ tokens = cc in subst (Ar
 from_tokens text (c ∷ cs) (suc k) at tokens here h = from_tokens text cs k (at + 1) tokens (next_suffix text at c cs here) h
 from_tokens text (c ∷ cs) zero at tokens here h =
     begun text at (c ∷ cs) tokens (is_white c) (longest (c ∷ cs)) (λ passed. tokens_from (passed - 1) (at + 1) cs) here refl
-      (λ n more read. from_tokens text cs (n - 1) (at + 1) more (next_suffix text at c cs here) read) h
+    (λ n more read. from_tokens text cs (n - 1) (at + 1) more (next_suffix text at c cs here) read) h
 
 -- the tokens of a text are tokens of it
 pub tokens_are : (text : List ℕ) (tokens : List Token) → tokens_of text ≡ Ok tokens → AreTokensOf text tokens
@@ -119,4 +114,4 @@ pub word_form : (piece : List ℕ) → kind_of piece ≡ Some Word → has_form 
 unfolding kind_of
 word_form piece h =
     word_here piece (has_form piece AnyWord) (has_form piece AnyNumber) refl (λ none_. let wrong : None ≡ Some Word = word_past piece signs None refl none_ in absurd (cc))
-      (word_past piece keywords (kind_by patterns (kind_by signs None piece) piece) refl h)
+    (word_past piece keywords (kind_by patterns (kind_by signs None piece) piece) refl h)

@@ -22,7 +22,11 @@ pub fn lex(alloc: Global, text: &str) -> Result<Vec<Token>, LexFault>
             return Err(LexFault::Character { at: at as u64 });
         };
         let end = at + length;
-        let token = Token { kind, start: at as u64, end: end as u64 };
+        let token = Token {
+            kind,
+            start: at as u64,
+            end: end as u64,
+        };
         if tokens.push(token).is_err() {
             return Err(LexFault::Memory);
         }

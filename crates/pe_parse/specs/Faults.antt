@@ -1,11 +1,12 @@
 -- The first fault of a list of tokens.
-use Rattle.std.specs.Prelude.{ℕ, ◌≡◌, ◌==◌, nat_le, Bool, true, false, ◌&&◌, List, [], ◌∷◌, Option, Some, None, if◌then◌else◌}
+use Rattle.std.specs.Prelude.{ℕ, nat_le, Bool, true, false, List, [], ◌∷◌, length, Option, Some, None, if◌then◌else◌}
 use Rattle.pe_lex.specs.declared.token.TokenKind.{TokenKind}
+use Rattle.pe_lex.specs.declared.token.Token.{Token}
 use Rattle.pe_lex.specs.declared.token.TokenKind.TheVariants as kind
 use Rattle.pe_parse.specs.declared.fault.ParseFault.{ParseFault}
-use Rattle.pe_parse.specs.declared.fault.ParseFault.TheVariants.{Syntax, TooDeep, TooMany, Literal, Memory}
-use Rattle.pe_parse.specs.Lexemes.{Lexeme, value_of}
-use Rattle.pe_parse.specs.Places.{Frame, step, ends, nesting, are_counted}
+use Rattle.pe_parse.specs.declared.fault.ParseFault.TheVariants.{Syntax, TooDeep, TooMany, Literal}
+use Rattle.pe_parse.specs.Lexemes.{Lexeme, lexemes_of, value_of}
+use Rattle.pe_parse.specs.Places.{Frame, Sequence, step, ends, nesting, are_counted}
 
 -- a number that is no i64
 abbrev pub is_too_large : TokenKind → List ℕ → Bool
@@ -31,3 +32,7 @@ at_token (Some fs) x later = or_fault (passed_limit fs x) (later fs)
 abbrev pub fault_from : ℕ → List Frame → List Lexeme → Option ParseFault
 fault_from size fs [] = if ends fs then None else Some (Syntax size)
 fault_from size fs (x ∷ xs) = at_token (step fs x.kind) x (λ gs. fault_from size gs xs)
+
+-- the first fault of a text and its tokens, or None where they are a body within the limits
+abbrev pub fault_of : List ℕ → List Token → Option ParseFault
+fault_of text tokens = fault_from (length text) (Sequence ∷ []) (lexemes_of text tokens)

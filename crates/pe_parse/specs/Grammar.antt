@@ -1,5 +1,5 @@
 -- The grammar: which tokens spell which tree, with a case for each rule.
-use Rattle.std.specs.Prelude.{ℕ, ◌≡◌, pos, List, [], ◌∷◌, ◌++◌, Option, Some, None}
+use Rattle.std.specs.Prelude.{◌≡◌, pos, List, [], ◌∷◌, ◌++◌, Option, Some, None}
 use Rattle.pe_lex.specs.declared.token.TokenKind.{TokenKind}
 use Rattle.pe_lex.specs.declared.token.TokenKind.TheVariants as kind
 use Rattle.pe_parse.specs.declared.tree.Sign.{Sign}
@@ -15,7 +15,6 @@ use Rattle.pe_parse.specs.declared.tree.Trigger.TheVariants as trigger
 use Rattle.pe_parse.specs.declared.tree.Expr.{Expr}
 use Rattle.pe_parse.specs.declared.tree.Expr.TheVariants as expr
 use Rattle.pe_parse.specs.declared.tree.Name.{Name}
-use Rattle.pe_parse.specs.declared.tree.Word.{Word}
 use Rattle.pe_parse.specs.Lexemes.{Lexeme, value_of}
 use Rattle.pe_parse.specs.Statements.{Statement, Statements, Assigns, Marks, Prints, Chooses, ChoosesElse, Nothing, Then}
 

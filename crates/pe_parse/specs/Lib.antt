@@ -12,3 +12,5 @@ pub mod Places
 pub mod Faults
 -- how a part of the tokens is read
 pub mod Reading
+-- what it means that a body begins with tokens
+pub mod Bodies

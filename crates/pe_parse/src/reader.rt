@@ -1,6 +1,4 @@
 ghost use Rattle.std.specs.Prelude.{◌≡◌, ◌≢◌, ◌<◌, ◌≤◌, ℕ, pos, Some, None, length, MatchOption};
-ghost use Rattle.pe_lex.specs.Tokens.{tokens_of};
-ghost use Rattle.pe_lex.proofs.Spans.{AreTokensOf};
 ghost use Rattle.pe_parse.specs.Lexemes.{kind_at, offset_at, value_of, value_from};
 ghost use Rattle.pe_parse.specs.Grammar.{sign_of, rank_of};
 ghost use Rattle.pe_parse.specs.Places.{sign_if};
@@ -13,6 +11,7 @@ use pe_lex::{Token, TokenKind};
 use std::alloc::Global;
 
 /// A text and its tokens, from which a body is read.
+#[derive(Clone, Copy)]
 pub(crate) struct Reader<'a> {
     pub(crate) alloc: Global,
     pub(crate) text: &'a [u8],

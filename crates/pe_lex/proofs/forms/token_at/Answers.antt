@@ -28,13 +28,13 @@ word_kind-requires c = word_as c.args.bytes.now c.word_length-length.result c.wo
 pub returns-then-is_lower_letter-clause-longest : goal.returns-then-is_lower_letter-clause-longest
 returns-then-is_lower_letter-clause-longest c =
     longest_word_as c.args.bytes.now c.word_length-length.result c.word_kind.result c.word_length-length.ensures c.requires
-      (sym c.is_lower_letter.ensures ∙ c.if-is_lower_letter.true) c.word_kind.ensures
+    (sym c.is_lower_letter.ensures ∙ c.if-is_lower_letter.true) c.word_kind.ensures
 
 pub returns-then-is_lower_letter-clause-within : goal.returns-then-is_lower_letter-clause-within
 returns-then-is_lower_letter-clause-within c =
     fits_as c.args.bytes.now (Some (c.word_kind.result, c.word_length-length.result))
-      (longest_word_as c.args.bytes.now c.word_length-length.result c.word_kind.result c.word_length-length.ensures c.requires
-        (sym c.is_lower_letter.ensures ∙ c.if-is_lower_letter.true) c.word_kind.ensures)
+    (longest_word_as c.args.bytes.now c.word_length-length.result c.word_kind.result c.word_length-length.ensures c.requires
+    (sym c.is_lower_letter.ensures ∙ c.if-is_lower_letter.true) c.word_kind.ensures)
 
 pub returns-then-is_decimal-clause-longest : goal.returns-then-is_decimal-clause-longest
 returns-then-is_decimal-clause-longest c =
@@ -43,7 +43,7 @@ returns-then-is_decimal-clause-longest c =
 pub returns-then-is_decimal-clause-within : goal.returns-then-is_decimal-clause-within
 returns-then-is_decimal-clause-within c =
     fits_as c.args.bytes.now (Some (Number, c.number_length.result))
-      (longest_number_as c.args.bytes.now c.number_length.result c.number_length.ensures c.requires (sym c.is_decimal.ensures ∙ c.if-is_decimal.true))
+    (longest_number_as c.args.bytes.now c.number_length.result c.number_length.ensures c.requires (sym c.is_decimal.ensures ∙ c.if-is_decimal.true))
 
 pub returns-else-is_decimal-clause-within : goal.returns-else-is_decimal-clause-within
 returns-else-is_decimal-clause-within c = fits_as c.args.bytes.now c.sign_at.result c.sign_at.ensures

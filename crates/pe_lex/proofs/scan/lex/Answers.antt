@@ -21,6 +21,6 @@ loop-at-preserved c =
     record {
       within = omega (arith, length-drop at text);
       told = ap (λ (ts : List Token). after ts read) pushed ∙ sym (after_one c.loop-at.tokens.items token read)
-        ∙ ap (after c.loop-at.tokens.items) (sym (token_on text at c.in-Some.kind n c.loop-at-test.true white found size fits))
-        ∙ c.loop-at.invariant.told;
+          ∙ ap (after c.loop-at.tokens.items) (sym (token_on text at c.in-Some.kind n c.loop-at-test.true white found size fits))
+          ∙ c.loop-at.invariant.told;
     }
