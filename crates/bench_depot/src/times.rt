@@ -7,7 +7,7 @@ use std::io;
 use std::io::Print;
 use std::time::{Clock, Instant};
 
-/// How many seconds the steps took: a copy of the records, their pushes, pops and pushes from one stack to
+/// How many seconds the parts took: a copy of the records, their pushes, pops and pushes from one stack to
 /// the other, and their pops.
 #[derive(Clone, Copy)]
 pub struct Times {
@@ -38,7 +38,7 @@ impl Times {
         self.sum ^= other.sum;
     }
 
-    /// Prints the time of each step as a ratio to the copy.
+    /// Prints the time of each part as a ratio to the copy.
     pub fn print(&self, rt: &impl Print) -> io::Result<()> {
         println!(rt; "copy          {:.3} s", self.copied)?;
         println!(rt; "push          {:.2} copies", self.pushed / self.copied)?;

@@ -13,7 +13,7 @@ touch-lawful : (greatest : ℕ) (list : List ℤ) (seen : Seen) (vertex : Option
 touch-lawful greatest list seen None is = leaves_same greatest seen
 touch-lawful greatest list seen (Some vertex) is =
     elim (is_at_end vertex.numbers) as (λ b. MayLeave greatest seen (if b then nothing_done list seen (Some Overflow) else nothing_done list (record seen { vertex = Some (touched greatest seen.place.level vertex) }) None).seen) [
-      true ↦ leaves_same greatest seen
+      | true ↦ leaves_same greatest seen
       | false ↦ record {
         place = refl;
         vertex = rw is (record { kind = refl; state = inr (inl refl) });

@@ -46,6 +46,7 @@ impl Effects for Ledger {
 
 impl Mapping for Ledger {
     type V = Number;
+
     type C = Number;
 
     ghost use Rattle.std.specs.Prelude.{pos, [], ◌∷◌, Some, false};

@@ -161,9 +161,20 @@ fn events_see_boxes(rt: HostRuntime) -> Result<(), Fail> {
     let mut corners = square(dim, below);
     assert!(rt; begin(&mut ledger, 1).is_ok());
     assert!(rt; welcome(&mut ledger, 1, &at, &mut vertex, &mut parents, &mut parent).is_ok());
-    let kind = enter(&mut ledger, 1, &at, &mut cell, &mut corners, &mut parents, &mut parent);
+    let kind = enter(
+        &mut ledger,
+        1,
+        &at,
+        &mut cell,
+        &mut corners,
+        &mut parents,
+        &mut parent,
+    );
     let states = (opened(corners), opened(parents));
-    assert_eq!(rt; (*vertex.payload().0, vertex.state()), (1, State::RefinementTriggered));
+    assert_eq!(rt;
+        (*vertex.payload().0, vertex.state()),
+        (1, State::RefinementTriggered)
+    );
     assert_eq!(rt; (kind, *cell.payload().0), (Some(Kind::Kept), 9));
     assert_eq!(rt; states, (State::EraseTriggered, State::Refined));
     Ok(())

@@ -14,8 +14,10 @@ use std::test::Fail;
 // The vertex (1, 1) of level 1 and the cells around it; then those of (3, 1) on level 2, whose plane of axis 0 is
 // that of (1, _) on level 1.
 fn cells_around()
-    ensures corner { around 2 Forward (at 1 (1 ∷ 1 ∷ [])) ≡ map (at 1) ((0 ∷ 0 ∷ []) ∷ (0 ∷ 1 ∷ []) ∷ (1 ∷ 1 ∷ []) ∷ (1 ∷ 0 ∷ []) ∷ []) }
-    ensures inverted { around 2 Inverted (at 1 (1 ∷ 1 ∷ [])) ≡ map (at 1) ((1 ∷ 0 ∷ []) ∷ (1 ∷ 1 ∷ []) ∷ (0 ∷ 1 ∷ []) ∷ (0 ∷ 0 ∷ []) ∷ []) }
+    ensures corner { around 2 Forward (at 1 (1 ∷ 1 ∷ [])) ≡
+        map (at 1) ((0 ∷ 0 ∷ []) ∷ (0 ∷ 1 ∷ []) ∷ (1 ∷ 1 ∷ []) ∷ (1 ∷ 0 ∷ []) ∷ []) }
+    ensures inverted { around 2 Inverted (at 1 (1 ∷ 1 ∷ [])) ≡
+        map (at 1) ((1 ∷ 0 ∷ []) ∷ (1 ∷ 1 ∷ []) ∷ (0 ∷ 1 ∷ []) ∷ (0 ∷ 0 ∷ []) ∷ []) }
     ensures slower { crossings 2 (at 2 (3 ∷ 1 ∷ [])) 1 ≡ 2 }
     ensures slowest { crossings 2 (at 2 (3 ∷ 1 ∷ [])) 0 ≡ 1 }
     ensures stack_in { stack_in 2 Forward (at 1 (1 ∷ 1 ∷ [])) (at 1 (1 ∷ 1 ∷ [])) ≡ Some 1 }
@@ -44,6 +46,21 @@ fn the_middle_cell_of_the_plane(rt: HostRuntime) -> Result<(), Fail> {
         assert_eq!(rt; middle.route_in(corner), route_in);
         assert_eq!(rt; middle.route_out(corner), route_out);
     }
+    Ok(())
+}
+
+#[test]
+fn a_row_of_children(rt: HostRuntime) -> Result<(), Fail> {
+    let dim = Dim::new(2).ok_or("a dimension")?;
+    let root = CellState::root(dim, Way::Forward);
+    let mut child = root.descend(Digits { k: [1, 0, 0, 0] });
+    let row = child.row();
+    root.step(&mut child, Digits { k: [1, 1, 0, 0] });
+    // The middle cell takes corner 3 from the stack of axis 1 and hands it to that of axis 0.
+    assert_eq!(rt; child.coming_in(&row, 3), 8 + 2);
+    assert_eq!(rt; child.going_in(&row, 3), 8);
+    assert_eq!(rt; child.coming(3), 8 + 2);
+    assert_eq!(rt; child.going(3), 8);
     Ok(())
 }
 

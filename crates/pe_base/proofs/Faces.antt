@@ -12,3 +12,7 @@ pub mod Blocks
 pub mod Waits
 -- what the walk of a cell does on one stack
 pub mod Composition
+-- the lists of a face are those of the other way
+pub mod TurnedLists
+-- a corner of a cell comes across one face, and by its stack
+pub mod Bridge

@@ -4,6 +4,8 @@
 pub mod Lists
 -- the event of a spelling
 pub mod EventNames
+-- the walk by address
+pub mod Walk
 -- places, children, corners, and the order along the curve
 pub mod Tree
 -- the order around a vertex

@@ -22,3 +22,5 @@ pub mod CrossingLaws
 pub mod SlowerLaws
 -- the loads and stores of one vertex, and its steps
 pub mod Counts
+-- the cells around a vertex, turned round
+pub mod Turned

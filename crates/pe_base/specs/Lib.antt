@@ -8,8 +8,10 @@ pub mod Steps
 pub mod Life
 -- what happens at the moments of a walk
 pub mod Acts
--- the printed lines
+-- all that is printed: trace lines, the tally, the last line, refusals
 pub mod Lines
+-- the walk by address
+pub mod Walk
 -- the walk of level 1 alone
 pub mod LevelOne
 -- how a list and a box lie in a type that holds itself through them

@@ -4,3 +4,9 @@
 pub mod States
 -- the four kinds
 pub mod Kinds
+-- the state table
+pub mod Table
+-- the vertices on whose account a vertex is stored, and its kind by them
+pub mod Carriers
+-- the numbers of states and kinds
+pub mod Numbers

@@ -4,6 +4,9 @@ use Rattle.std.specs.List.{flat_map}
 use Rattle.std.specs.Char.{is_ascii_alphanumeric}
 use Rattle.pe_base.specs.declared.place.Place.{Place}
 use Rattle.pe_base.specs.declared.event.Event.{Event}
+use Rattle.pe_base.specs.declared.tally.Tally.{Tally}
+use Rattle.pe_base.specs.declared.way.Way.{Way}
+use Rattle.pe_base.specs.declared.way.Way.TheVariants.{Forward, Inverted}
 use Rattle.pe_base.specs.Acts.Events.{name_of}
 
 -- a word, each further part behind one space, and a line feed
@@ -12,7 +15,7 @@ line word parts = word ++ flat_map (λ part. 32 ∷ part) parts ++ 10 ∷ []
 
 -- a place: its level and its position on each axis
 abbrev pub place_parts : ℕ → Place → List (List ℕ)
-place_parts axes place = decimal place.level ∷ map decimal (take axes place.pos)
+place_parts dim place = decimal place.level ∷ map decimal (take dim place.pos)
 
 -- the trace line of a plain event, with the traversal's number
 abbrev pub plain_line : Event → ℕ → List ℕ
@@ -20,7 +23,22 @@ plain_line event traversal = line (name_of event) (decimal traversal ∷ [])
 
 -- the trace line of an event at a place
 abbrev pub place_line : ℕ → Event → Place → List ℕ
-place_line axes event place = line (name_of event) (place_parts axes place)
+place_line dim event place = line (name_of event) (place_parts dim place)
+
+-- the name of a way
+abbrev pub way_name : Way → List ℕ
+way_name Forward = codes "forward"
+way_name Inverted = codes "inverted"
+
+-- the line of a tally, after the trace lines of its traversal
+abbrev pub tally_line : Tally → List ℕ
+tally_line tally = line (codes "traversal") (decimal tally.traversal ∷ way_name tally.way
+    ∷ codes "cells" ∷ decimal tally.cells ∷ codes "in" ∷ decimal tally.read ∷ codes "out" ∷ decimal tally.written
+    ∷ codes "created" ∷ decimal tally.created ∷ codes "destroyed" ∷ decimal tally.destroyed ∷ codes "hanging" ∷ decimal tally.hanging ∷ [])
+
+-- the last line of a run that has done all
+abbrev pub done_line : List ℕ
+done_line = line (codes "done") []
 
 -- a byte of a key as it is shown: letters, digits, `_` (95), `-` (45) and `.` (46) as they are, every other as `?` (63)
 abbrev pub shown_byte : ℕ → ℕ
@@ -33,3 +51,21 @@ shown_key key = map shown_byte (take 64 key)
 -- the line of a refusal: what is refused, and why
 abbrev pub fault_line : List (List ℕ) → List ℕ
 fault_line parts = line (codes "fault") parts
+
+-- the words name no job
+abbrev pub fault_words : List ℕ
+fault_words = fault_line (codes "words" ∷ [])
+
+-- the shelf gives no scenario
+abbrev pub fault_shelf_scenario : List ℕ
+fault_shelf_scenario = fault_line (codes "shelf" ∷ codes "scenario" ∷ [])
+
+-- the scenario has more bytes than it may have, is no TOML document, or asks for what is not built
+abbrev pub fault_scenario_too_long : List ℕ
+fault_scenario_too_long = fault_line (codes "scenario" ∷ codes "too-long" ∷ [])
+
+abbrev pub fault_scenario_not_toml : List ℕ
+fault_scenario_not_toml = fault_line (codes "scenario" ∷ codes "not-toml" ∷ [])
+
+abbrev pub fault_scenario_unbuilt : List ℕ → List ℕ
+fault_scenario_unbuilt key = fault_line (codes "scenario" ∷ codes "unbuilt" ∷ shown_key key ∷ [])

@@ -8,3 +8,5 @@ pub mod Routes
 pub mod Neighbours
 -- faces of cells, loads and stores, what arrives in a cell at a face and what it leaves there
 pub mod Faces
+-- the corners of a cell by the stacks on which they come and go
+pub mod Stacks

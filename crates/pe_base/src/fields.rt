@@ -16,7 +16,7 @@ impl Fields {
         Fields { a: [0; 8] }
     }
 
-    /// The number in a place below 8.
+    /// The number at an index below 8.
     pub fn get(&self, i: u8) -> i64
         requires { i < 8 }
         ensures { slice_get self.now.a i ≡ Some result }
@@ -24,7 +24,7 @@ impl Fields {
         self.a[i as usize]
     }
 
-    /// Sets the number in a place below 8.
+    /// Sets the number at an index below 8.
     pub fn set(&mut self, i: u8, x: i64)
         requires { i < 8 }
         ensures { self.new.a ≡ slice_set self.old.a i x }

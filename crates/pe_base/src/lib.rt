@@ -8,7 +8,9 @@ mod effects;
 mod event;
 mod fields;
 mod kind;
+pub mod laws;
 mod list;
+mod order;
 mod place;
 #[cfg(test)]
 mod rows;
@@ -17,6 +19,8 @@ mod state;
 mod stop;
 mod tally;
 mod text;
+#[cfg(test)]
+mod walk_rows;
 mod way;
 
 pub use boxed::Boxed;
@@ -26,6 +30,7 @@ pub use event::{Event, Sort};
 pub use fields::Fields;
 pub use kind::Kind;
 pub use list::List;
+pub use order::order_of_places;
 pub use place::{Digits, Place};
 pub use setup::{Names, Setup};
 pub use state::State;

@@ -1,11 +1,11 @@
 //! Worked rows of the definitions and of the calls. A function without a body computes the definitions
 //! that its contract names; the test that calls it has it checked.
-ghost use Rattle.std.specs.Prelude.{◌≡◌, [], ◌∷◌, map, codes, length, List, Some};
+ghost use Rattle.std.specs.Prelude.{◌≡◌, [], ◌∷◌, ◌++◌, map, codes, length, List, Some};
 ghost use Rattle.pe_base.specs.declared.way.Way.TheVariants.{Forward, Inverted};
 ghost use Rattle.pe_base.specs.declared.event.Event.TheVariants.{EnterCell, BeginIteration, CreateHangingVertex};
 ghost use Rattle.pe_base.specs.Tree.Places.{root, at};
 ghost use Rattle.pe_base.specs.Tree.Curve.{children, order};
-ghost use Rattle.pe_base.specs.Lines.{place_line, plain_line};
+ghost use Rattle.pe_base.specs.Lines.{place_line, plain_line, done_line, fault_shelf_scenario, fault_scenario_unbuilt};
 ghost use Rattle.pe_base.specs.Acts.Events.{is_among};
 ghost use Rattle.pe_base.specs.LevelOne.Traces.{traversals_text};
 ghost use Rattle.std.specs.Prelude.{take, drop};
@@ -15,29 +15,43 @@ use std::test::Fail;
 
 fn children_of_the_root()
     ensures plane { children 2 Forward root ≡ map (at 1)
-        ((0 ∷ 0 ∷ []) ∷ (0 ∷ 1 ∷ []) ∷ (0 ∷ 2 ∷ []) ∷ (1 ∷ 2 ∷ []) ∷ (1 ∷ 1 ∷ []) ∷ (1 ∷ 0 ∷ []) ∷ (2 ∷ 0 ∷ []) ∷ (2 ∷ 1 ∷ []) ∷ (2 ∷ 2 ∷ []) ∷ []) }
+        ((0 ∷ 0 ∷ []) ∷ (0 ∷ 1 ∷ []) ∷ (0 ∷ 2 ∷ [])
+        ∷ (1 ∷ 2 ∷ []) ∷ (1 ∷ 1 ∷ []) ∷ (1 ∷ 0 ∷ [])
+        ∷ (2 ∷ 0 ∷ []) ∷ (2 ∷ 1 ∷ []) ∷ (2 ∷ 2 ∷ []) ∷ []) }
     ensures inverted { children 2 Inverted root ≡ map (at 1)
-        ((2 ∷ 2 ∷ []) ∷ (2 ∷ 1 ∷ []) ∷ (2 ∷ 0 ∷ []) ∷ (1 ∷ 0 ∷ []) ∷ (1 ∷ 1 ∷ []) ∷ (1 ∷ 2 ∷ []) ∷ (0 ∷ 2 ∷ []) ∷ (0 ∷ 1 ∷ []) ∷ (0 ∷ 0 ∷ []) ∷ []) }
+        ((2 ∷ 2 ∷ []) ∷ (2 ∷ 1 ∷ []) ∷ (2 ∷ 0 ∷ [])
+        ∷ (1 ∷ 0 ∷ []) ∷ (1 ∷ 1 ∷ []) ∷ (1 ∷ 2 ∷ [])
+        ∷ (0 ∷ 2 ∷ []) ∷ (0 ∷ 1 ∷ []) ∷ (0 ∷ 0 ∷ []) ∷ []) }
     ensures all_axes { length (children 4 Forward root) ≡ 81 }
 {}
 
 // The tenth cell of level 2 is the first child of (0, 1), a face neighbour of the ninth.
 fn turn_between_parents()
     ensures forward { children 2 Forward (at 1 (0 ∷ 0 ∷ [])) ≡ map (at 2)
-        ((0 ∷ 0 ∷ []) ∷ (0 ∷ 1 ∷ []) ∷ (0 ∷ 2 ∷ []) ∷ (1 ∷ 2 ∷ []) ∷ (1 ∷ 1 ∷ []) ∷ (1 ∷ 0 ∷ []) ∷ (2 ∷ 0 ∷ []) ∷ (2 ∷ 1 ∷ []) ∷ (2 ∷ 2 ∷ []) ∷ []) }
+        ((0 ∷ 0 ∷ []) ∷ (0 ∷ 1 ∷ []) ∷ (0 ∷ 2 ∷ [])
+        ∷ (1 ∷ 2 ∷ []) ∷ (1 ∷ 1 ∷ []) ∷ (1 ∷ 0 ∷ [])
+        ∷ (2 ∷ 0 ∷ []) ∷ (2 ∷ 1 ∷ []) ∷ (2 ∷ 2 ∷ []) ∷ []) }
     ensures next { children 2 Forward (at 1 (0 ∷ 1 ∷ [])) ≡ map (at 2)
-        ((2 ∷ 3 ∷ []) ∷ (2 ∷ 4 ∷ []) ∷ (2 ∷ 5 ∷ []) ∷ (1 ∷ 5 ∷ []) ∷ (1 ∷ 4 ∷ []) ∷ (1 ∷ 3 ∷ []) ∷ (0 ∷ 3 ∷ []) ∷ (0 ∷ 4 ∷ []) ∷ (0 ∷ 5 ∷ []) ∷ []) }
+        ((2 ∷ 3 ∷ []) ∷ (2 ∷ 4 ∷ []) ∷ (2 ∷ 5 ∷ [])
+        ∷ (1 ∷ 5 ∷ []) ∷ (1 ∷ 4 ∷ []) ∷ (1 ∷ 3 ∷ [])
+        ∷ (0 ∷ 3 ∷ []) ∷ (0 ∷ 4 ∷ []) ∷ (0 ∷ 5 ∷ []) ∷ []) }
     ensures level { order 2 Forward 1 ≡ children 2 Forward root }
 {}
 
 fn lines()
     ensures cell { place_line 2 EnterCell (at 1 (1 ∷ 2 ∷ [])) ≡ codes "enter_cell 1 1 2\n" }
     ensures plain { plain_line BeginIteration 12 ≡ codes "begin_iteration 12\n" }
+    ensures done { done_line ≡ codes "done\n" }
+    ensures refusal { fault_shelf_scenario ≡ codes "fault shelf scenario\n" }
+    ensures shown { fault_scenario_unbuilt (codes "max cells") ≡ codes "fault scenario unbuilt max?cells\n" }
 {}
 
 fn walks_of_level_one()
     ensures cells { traversals_text (is_among (EnterCell ∷ [])) 2 1 ≡
-        codes "enter_cell 1 0 0\nenter_cell 1 0 1\nenter_cell 1 0 2\nenter_cell 1 1 2\nenter_cell 1 1 1\nenter_cell 1 1 0\nenter_cell 1 2 0\nenter_cell 1 2 1\nenter_cell 1 2 2\ntraversal 1 forward cells 9 in 0 out 4 created 4 destroyed 0 hanging 20\n" }
+        codes "enter_cell 1 0 0\nenter_cell 1 0 1\nenter_cell 1 0 2\n"
+        ++ codes "enter_cell 1 1 2\nenter_cell 1 1 1\nenter_cell 1 1 0\n"
+        ++ codes "enter_cell 1 2 0\nenter_cell 1 2 1\nenter_cell 1 2 2\n"
+        ++ codes "traversal 1 forward cells 9 in 0 out 4 created 4 destroyed 0 hanging 20\n" }
     ensures inverted { drop (length (traversals_text (is_among []) 2 1)) (traversals_text (is_among []) 2 2) ≡
         codes "traversal 2 inverted cells 9 in 4 out 4 created 0 destroyed 0 hanging 20\n" }
     ensures three_axes { traversals_text (is_among []) 3 1 ≡

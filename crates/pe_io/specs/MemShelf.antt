@@ -1,12 +1,13 @@
 -- What contracts see of a shelf in memory.
-use Rattle.std.specs.Prelude.{ℕ, List, Option, option_map}
-use Rattle.std.specs.BTreeMap.{get_by_text}
+use Rattle.std.specs.Prelude.{ℕ, List}
 use Rattle.pe_io.specs.declared.mem_shelf.MemShelf.{MemShelf}
+use Rattle.pe_io.specs.Shelf.{Contents}
+use Rattle.pe_io.specs.NamedBytes.{bytes_in}
 use Rattle.pe_io.specs.CallLog.{Calls}
 
 -- the bytes under a name, or none
-abbrev pub bytes_under : MemShelf → List ℕ → Option (List ℕ)
-bytes_under shelf name = option_map (λ bytes. bytes.items) (get_by_text shelf.files name)
+abbrev pub bytes_under : MemShelf → Contents
+bytes_under shelf = bytes_in shelf.held
 
 -- what it remembers of its calls
 abbrev pub calls_of : MemShelf → Calls

@@ -34,6 +34,14 @@ IsWithinLimit limit Absent = Unit {0}
 IsWithinLimit limit Failed = Unit {0}
 IsWithinLimit limit Memory = Unit {0}
 
+-- the answer of a call that has read: it is neither absent nor a failure
+abbrev pub IsRead : Got → Type 0
+IsRead (Whole bytes) = Unit {0}
+IsRead Longer = Unit {0}
+IsRead Absent = ⊥
+IsRead Failed = ⊥
+IsRead Memory = Unit {0}
+
 -- a call that failed: which, and the first 4,096 bytes of its name
 pub record FailedCall : Type 0 where
   pub call : ShelfCall

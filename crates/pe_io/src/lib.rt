@@ -1,4 +1,4 @@
-//! Where scenarios come from and where text goes: the shelf and the sink, over real files and standard
+//! Where scenarios and streams lie and where text goes: the shelf and the sink, over real files and standard
 //! output, and twins in memory that tell what they hold.
 #![tactic(auto)]
 
@@ -7,10 +7,13 @@ mod file_shelf;
 mod line;
 mod mem_shelf;
 mod mem_sink;
+mod named_bytes;
 mod numbers;
 mod shelf;
 mod sink;
 mod std_sink;
+mod sure_shelf;
+mod sure_sink;
 #[cfg(test)]
 mod tests;
 mod whole;
@@ -19,6 +22,8 @@ pub use file_shelf::FileShelf;
 pub use line::Line;
 pub use mem_shelf::MemShelf;
 pub use mem_sink::MemSink;
-pub use shelf::{Got, Shelf, ShelfCall};
+pub use shelf::{Got, PutFault, Shelf, ShelfCall};
 pub use sink::{Sink, SinkFailed};
 pub use std_sink::StdSink;
+pub use sure_shelf::SureShelf;
+pub use sure_sink::SureSink;

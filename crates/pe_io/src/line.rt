@@ -1,7 +1,7 @@
 ghost use Rattle.std.specs.Prelude.{◌≡◌, ◌+◌, ◌≤◌, [], ◌∷◌, ◌++◌, map, length, decimal, OnOk, OnErr};
 ghost use Rattle.std.specs.Fmt.{signed_decimal};
 ghost use Rattle.pe_base.specs.Lines.{shown_byte, shown_key};
-ghost use Rattle.pe_io.specs.Counts.{Rises};
+ghost use Rattle.pe_io.specs.Counts.{CountsOne, Rises};
 ghost use Rattle.pe_io.specs.Sink.{Appends, AppendsPrefix};
 ghost use Rattle.pe_io.specs.Line.{HasRoom};
 
@@ -92,6 +92,7 @@ impl Line {
         ensures err { OnErr result (AppendsPrefix (K.text sink.old) (self ++ 10 ∷ []) (K.text sink.new)) }
         ensures faults { K.faults sink.old ≤ K.faults sink.new }
         ensures failed { OnErr result (Rises (K.faults sink.old) (K.faults sink.new)) }
+        ensures piece { CountsOne (K.writes sink.old) (K.writes sink.new) }
     {
         let mut bytes = self.bytes;
         bytes.push(b'\n');

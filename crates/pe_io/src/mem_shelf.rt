@@ -1,4 +1,4 @@
-ghost use Rattle.std.specs.Prelude.{◌≡◌, ◌≢◌, ℕ, ◌≤◌, ◌↔◌, List, None, Some, Contains, IfOk, OnOk, OnErr};
+ghost use Rattle.std.specs.Prelude.{◌≡◌, ◌≢◌, ℕ, ◌≤◌, ◌↔◌, List, None, Some, Err, Contains, IfOk, OnOk, OnErr};
 ghost use Rattle.std.specs.Option.{option_copied};
 ghost use Rattle.pe_io.specs.Shelf.{IsGot, IsWithinLimit};
 ghost use Rattle.pe_io.specs.Numbers.{IsNextListed};
@@ -6,16 +6,16 @@ ghost use Rattle.pe_io.specs.CallLog.{no_calls, counted, failed};
 ghost use Rattle.pe_io.specs.Puts.{Puts, SameContents};
 
 use crate::call_log::CallLog;
+use crate::named_bytes::NamedBytes;
 use crate::numbers::{has_next, set_of};
-use crate::shelf::{Got, Shelf, ShelfCall};
+use crate::shelf::{Got, PutFault, Shelf, ShelfCall};
 use std::alloc::{AllocError, Global};
-use std::collections::{BTreeMap, BTreeSet};
+use std::collections::BTreeSet;
 
 /// A shelf in memory. It tells its contents, and fails exactly at the calls that it is told to fail.
 #[derive(Drop)]
 pub struct MemShelf {
-    alloc: Global,
-    files: BTreeMap<String, Vec<u8>>,
+    held: NamedBytes,
     failing: BTreeSet<u64>,
     calls: CallLog,
 }
@@ -30,8 +30,7 @@ impl MemShelf {
         ensures failing { IfOk result (λ shelf. (n : ℕ) → Contains (failing_of shelf) n ↔ Contains fails.now n) }
     {
         Ok(MemShelf {
-            alloc,
-            files: BTreeMap::new(alloc),
+            held: NamedBytes::new(alloc),
             failing: set_of(alloc, fails)?,
             calls: CallLog::new(),
         })
@@ -45,20 +44,14 @@ impl MemShelf {
         ensures calls { calls_of self.new ≡ calls_of self.old }
         ensures failing { failing_of self.new ≡ failing_of self.old }
     {
-        let bytes = bytes.to_vec(alloc)?;
-        let name = String::from_str(alloc, name)?;
-        self.files.insert(name, bytes)?;
-        Ok(())
+        self.held.add(alloc, name, bytes)
     }
 
     /// The bytes under a name, if it is held. Takes no memory, and is no call of the shelf.
     pub fn held(&self, name: &str) -> Option<&[u8]>
         ensures { option_copied result ≡ bytes_under self.now name.now }
     {
-        match self.files.get(name) {
-            Some(bytes) => Some(bytes.as_slice()),
-            None => None,
-        }
+        self.held.held(name)
     }
 }
 
@@ -91,24 +84,29 @@ impl Shelf for MemShelf {
             self.calls.fail(ShelfCall::Get, name);
             return Got::Failed;
         }
-        match self.files.get(name) {
-            Some(bytes) => copy_of(self.alloc, bytes, limit),
-            None => Got::Absent,
-        }
+        self.held.copy(name, limit)
     }
-}
 
-/// A copy of the bytes, if there are no more than `limit`.
-fn copy_of(alloc: Global, bytes: &[u8], limit: u64) -> Got
-    ensures got { IsGot (Some bytes.now) limit result }
-    ensures held { result ≢ Got.Absent }
-    ensures sure { result ≢ Got.Failed }
-{
-    if bytes.len() as u64 > limit {
-        return Got::Longer;
-    }
-    match bytes.to_vec(alloc) {
-        Ok(copy) => Got::Whole(copy),
-        Err(_) => Got::Memory,
+    fn put(&mut self, name: &str, bytes: Vec<u8>) -> Result<(), PutFault>
+        ensures ok { OnOk result (Puts (bytes_under self.old) name.now bytes.items (bytes_under self.new)) }
+        ensures err { OnErr result (SameContents (bytes_under self.old) (bytes_under self.new)) }
+        ensures failing { failing_of self.new ≡ failing_of self.old }
+
+        // It fails exactly at the calls whose numbers are listed.
+        ensures cause { (result ≡ Err PutFault.Failed) ↔ IsNextListed (failing_of self.old) (calls_of self.old).made }
+        ensures failed { result ≡ Err PutFault.Failed → calls_of self.new ≡ failed ShelfCall.Put name.now (counted (calls_of self.old)) }
+        ensures sound { result ≢ Err PutFault.Failed → calls_of self.new ≡ counted (calls_of self.old) }
+        ensures faults { (calls_of self.old).faults ≤ (calls_of self.new).faults }
+    {
+        let fails = has_next(&self.failing, self.calls.made());
+        self.calls.count();
+        if fails {
+            self.calls.fail(ShelfCall::Put, name);
+            return Err(PutFault::Failed);
+        }
+        match self.held.put(name, bytes) {
+            Ok(()) => Ok(()),
+            Err(_) => Err(PutFault::Memory),
+        }
     }
 }

@@ -71,6 +71,8 @@ impl MemSink {
 impl Sink for MemSink {
     ghost text = { λ sink. Some sink.text };
 
+    ghost writes = { λ sink. sink.writes };
+
     ghost faults = { λ sink. sink.faults };
 
     fn write(&mut self, bytes: &[u8]) -> Result<(), SinkFailed>

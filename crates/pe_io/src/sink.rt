@@ -1,5 +1,5 @@
-ghost use Rattle.std.specs.Prelude.{◌≡◌, ℕ, ◌≤◌, List, [], Option, OnOk, OnErr, IsOk};
-ghost use Rattle.pe_io.specs.Counts.{Rises};
+ghost use Rattle.std.specs.Prelude.{◌≡◌, ℕ, ◌<◌, ◌≤◌, List, [], length, Option, OnOk, OnErr, IsOk};
+ghost use Rattle.pe_io.specs.Counts.{CountsOne, Rises};
 ghost use Rattle.pe_io.specs.Sink.{Appends, AppendsPrefix};
 
 /// A sink failed: it took only a part of what it was given, or nothing.
@@ -9,10 +9,14 @@ pub struct SinkFailed;
 /// Where text goes, piece after piece.
 ///
 /// A sink may tell its text to contracts, and else promises only when it fails. Whether it tells it never
-/// changes. It counts its faults; the count stays at its last value, `2^64 - 1`.
+/// changes. It counts the pieces that it was given and its faults; each count stays at its last value,
+/// `2^64 - 1`.
 pub trait Sink {
     /// All that was taken so far, where the sink tells it.
     ghost text: { Self → Option (List ℕ) };
+
+    /// How many pieces the sink was given, those of no bytes aside.
+    ghost writes: { Self → ℕ };
 
     /// How often the sink failed.
     ghost faults: { Self → ℕ };
@@ -25,5 +29,9 @@ pub trait Sink {
         ensures err { OnErr result (AppendsPrefix (text self.old) bytes.now (text self.new)) }
         ensures faults { faults self.old ≤ faults self.new }
         ensures failed { OnErr result (Rises (faults self.old) (faults self.new)) }
-        ensures nothing { bytes.now ≡ [] → IsOk result };
+        ensures nothing { bytes.now ≡ [] → IsOk result }
+
+        // A write of no bytes has no number.
+        ensures uncounted { bytes.now ≡ [] → writes self.new ≡ writes self.old }
+        ensures counted { 0 < length bytes.now → CountsOne (writes self.old) (writes self.new) };
 }

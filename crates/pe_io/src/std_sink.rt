@@ -1,55 +1,73 @@
-ghost use Rattle.std.specs.Prelude.{◌≡◌, ◌≤◌, [], None, IsOk, OnOk, OnErr};
+ghost use Rattle.std.specs.Prelude.{◌≡◌, ◌<◌, ◌≤◌, [], length, None, IsOk, OnOk, OnErr};
+ghost use Rattle.std.specs.Io.KnownBytes.{Appends};
 ghost use Rattle.pe_io.specs.Counts.{CountsOne};
+ghost use Rattle.pe_io.specs.StdSink.{AppendsPart};
 
 use crate::sink::{Sink, SinkFailed};
 use crate::whole::write_whole;
-use std::io;
+use std::io::Write;
 use std::marker::Model;
 
-/// The standard output. It tells no text, and keeps nothing back: what was taken is out. Contracts see how
-/// often it failed.
+/// A sink over a writer, such as that of the standard output. It tells no text, and keeps nothing back: what
+/// was taken was given to the writer. Contracts see the writer, how many pieces it was given, and how often
+/// it failed.
 #[derive(Drop)]
-pub struct StdSink<'a, R> {
-    rt: &'a R,
+pub struct StdSink<W> {
+    writer: W,
+    writes: u64,
     faults: u64,
 }
 
-impl<'a, R> Model for StdSink<'a, R> {
-    ghost use Rattle.std.specs.Prelude.{ℕ};
+impl<W> Model for StdSink<W> {
+    ghost use Rattle.pe_io.specs.StdSink.{Output};
 
-    ghost Value = { ℕ };
+    ghost Value = { Output W };
 
-    ghost view = { λ sink. sink.faults };
+    ghost view = { λ sink. record { writer = sink.writer; writes = sink.writes; faults = sink.faults } };
 }
 
-impl<'a, R: Print> StdSink<'a, R> {
-    /// The standard output of a runtime.
-    pub fn new(rt: &'a R) -> StdSink<'a, R>
-        ensures { result ≡ 0 }
+impl<W: Write> StdSink<W> {
+    /// A sink over a writer, which was given nothing yet.
+    pub fn new(writer: W) -> StdSink<W>
+        ensures { result ≡ record { writer = writer; writes = 0; faults = 0 } }
     {
-        StdSink { rt, faults: 0 }
+        StdSink {
+            writer,
+            writes: 0,
+            faults: 0,
+        }
     }
 }
 
-impl<R: Print> Sink for StdSink<'_, R> {
+impl<W: Write> Sink for StdSink<W> {
     ghost text = { λ _. None };
 
-    ghost faults = { λ faults. faults };
+    ghost writes = { λ sink. sink.writes };
+
+    ghost faults = { λ sink. sink.faults };
 
     fn write(&mut self, bytes: &[u8]) -> Result<(), SinkFailed>
-        ensures faults { self.old ≤ self.new }
-        ensures failed { OnErr result (CountsOne self.old self.new) }
-        ensures sound { OnOk result (self.new ≡ self.old) }
+        ensures ok { OnOk result (Appends (W.contents self.old.writer) (W.contents self.new.writer) bytes.now) }
+        ensures err { OnErr result (AppendsPart (W.contents self.old.writer) (W.contents self.new.writer) bytes.now) }
+        ensures faults { self.old.faults ≤ self.new.faults }
+        ensures failed { OnErr result (CountsOne self.old.faults self.new.faults) }
+        ensures sound { OnOk result (self.new.faults ≡ self.old.faults) }
         ensures nothing { bytes.now ≡ [] → IsOk result }
+
+        // A write of no bytes has no number.
+        ensures uncounted { bytes.now ≡ [] → self.new ≡ self.old }
+        ensures counted { 0 < length bytes.now → CountsOne self.old.writes self.new.writes }
     {
         if bytes.is_empty() {
             return Ok(());
         }
-        let mut output = io::writer(self.rt);
-        if write_whole(&mut output, bytes) {
-            return Ok(());
+        self.writes = self.writes.saturating_add(1);
+        match write_whole(&mut self.writer, bytes) {
+            Ok(()) => Ok(()),
+            Err(_) => {
+                self.faults = self.faults.saturating_add(1);
+                Err(SinkFailed)
+            }
         }
-        self.faults = self.faults.saturating_add(1);
-        Err(SinkFailed)
     }
 }

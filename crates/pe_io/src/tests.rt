@@ -5,7 +5,10 @@ ghost use Rattle.pe_base.specs.Lines.{line};
 ghost use Rattle.pe_io.specs.Sink.{Appends};
 
 use crate::whole::{read_whole, write_whole};
-use crate::{FileShelf, Got, Line, MemShelf, MemSink, Shelf, Sink, SinkFailed, StdSink};
+use crate::{
+    FileShelf, Got, Line, MemShelf, MemSink, PutFault, Shelf, Sink, SinkFailed, StdSink, SureShelf,
+    SureSink,
+};
 use std::io::{Error, ErrorKind, Read, Write};
 use std::test::Fail;
 use std::{fs, io, process};
@@ -29,6 +32,13 @@ fn is_whole(got: &Got, bytes: &[u8]) -> bool {
     }
 }
 
+fn is_held<const N: usize>(bytes: Option<&[u8]>, wanted: &[u8; N]) -> bool {
+    match bytes {
+        Some(bytes) => bytes == wanted.as_slice(),
+        None => false,
+    }
+}
+
 #[test]
 fn a_shelf_in_memory(rt: HostRuntime) -> Result<(), Fail> {
     let alloc = rt.alloc();
@@ -43,6 +53,39 @@ fn a_shelf_in_memory(rt: HostRuntime) -> Result<(), Fail> {
     assert!(rt; matches!(&shelf.get("c", 5), Got::Absent));
     assert!(rt; shelf.held("c").is_none());
     assert_eq!(rt; shelf.held("a").ok_or("held")?.len(), 5);
+    Ok(())
+}
+
+#[test]
+fn puts_in_memory(rt: HostRuntime) -> Result<(), Fail> {
+    let alloc = rt.alloc();
+    let mut shelf = MemShelf::new(alloc, &[2, 4])?;
+    shelf.add(alloc, "b", b"stays")?;
+    assert_eq!(rt; shelf.put("a", b"first".to_vec(alloc)?), Ok(()));
+    assert_eq!(rt;
+        shelf.put("a", b"second".to_vec(alloc)?),
+        Err(PutFault::Failed)
+    );
+    assert!(rt; is_held(shelf.held("a"), b"first"));
+    assert_eq!(rt; shelf.put("a", b"third".to_vec(alloc)?), Ok(()));
+    assert!(rt; matches!(&shelf.get("a", 9), Got::Failed));
+    assert!(rt; is_whole(&shelf.get("a", 9), b"third"));
+    assert!(rt; is_held(shelf.held("b"), b"stays"));
+    Ok(())
+}
+
+#[test]
+fn sure_twins(rt: HostRuntime) -> Result<(), Fail> {
+    let alloc = rt.alloc();
+    let mut shelf = SureShelf::new(alloc)?;
+    shelf.add(alloc, "a", b"first")?;
+    assert!(rt; matches!(&shelf.get("a", 4), Got::Longer));
+    assert_eq!(rt; shelf.put("b", b"second".to_vec(alloc)?), Ok(()));
+    assert!(rt; is_whole(&shelf.get("b", 6), b"second"));
+    assert!(rt; is_held(shelf.held("a"), b"first"));
+    assert!(rt; matches!(&shelf.get("c", 4), Got::Absent));
+    let mut sink = SureSink::new();
+    print_cells(&mut sink, 81, 4)?;
     Ok(())
 }
 
@@ -65,13 +108,21 @@ fn a_sink_in_memory(rt: HostRuntime) -> Result<(), Fail> {
 fn the_edges(rt: HostRuntime) -> Result<(), Fail> {
     let alloc = rt.alloc();
     let path = format!(in alloc; "/tmp/pe_io_{}", process::id(rt.process()))?;
-    fs::write(&rt, path.as_str(), "three")?;
     let mut shelf = FileShelf::new(alloc, &rt);
+    assert_eq!(rt;
+        shelf.put(path.as_str(), b"longer than three".to_vec(alloc)?),
+        Ok(())
+    );
+    assert_eq!(rt; shelf.put(path.as_str(), b"three".to_vec(alloc)?), Ok(()));
     assert!(rt; is_whole(&shelf.get(path.as_str(), 5), b"three"));
     assert!(rt; matches!(&shelf.get(path.as_str(), 4), Got::Longer));
     fs::remove_file(&rt, path.as_str())?;
     assert!(rt; matches!(&shelf.get(path.as_str(), 5), Got::Failed));
-    let mut sink = StdSink::new(&rt);
+    assert_eq!(rt;
+        shelf.put("/", b"three".to_vec(alloc)?),
+        Err(PutFault::Failed)
+    );
+    let mut sink = StdSink::new(io::writer(&rt));
     print_cells(&mut sink, 81, 4)?;
     Ok(())
 }
@@ -125,14 +176,34 @@ impl Write for Slow {
     }
 }
 
+/// The kind of an error, if there is one.
+fn kind_of<T>(answer: &io::Result<T>) -> Option<ErrorKind> {
+    match answer {
+        Ok(_) => None,
+        Err(e) => Some(e.kind()),
+    }
+}
+
 #[test]
-fn a_call_that_stops(rt: HostRuntime) -> Result<(), Fail> {
+fn a_read_that_stops(rt: HostRuntime) -> Result<(), Fail> {
     let alloc = rt.alloc();
-    assert!(rt; is_whole(&read_whole(alloc, &mut Slow::new(9, 3), 3), &[0, 0, 0]));
-    assert!(rt; matches!(&read_whole(alloc, &mut Slow::new(9, 3), 2), Got::Longer));
-    assert!(rt; matches!(&read_whole(alloc, &mut Slow::new(4, 3), 3), Got::Failed));
-    assert!(rt; write_whole(&mut Slow::new(9, 3), b"abc"));
-    assert!(rt; !write_whole(&mut Slow::new(9, 2), b"abc"));
-    assert!(rt; !write_whole(&mut Slow::new(4, 3), b"abc"));
+    assert!(rt; is_whole(&read_whole(alloc, &mut Slow::new(9, 3), 3)?, &[0, 0, 0]));
+    assert!(rt; is_whole(&read_whole(alloc, &mut Slow::new(9, 0), 3)?, &[]));
+    assert!(rt; matches!(&read_whole(alloc, &mut Slow::new(9, 3), 2)?, Got::Longer));
+    let stopped = read_whole(alloc, &mut Slow::new(4, 3), 3);
+    assert_eq!(rt; kind_of(&stopped), Some(ErrorKind::BrokenPipe));
     Ok(())
+}
+
+#[test]
+fn a_write_that_stops(rt: HostRuntime) {
+    assert_eq!(rt; kind_of(&write_whole(&mut Slow::new(9, 3), b"abc")), None);
+    let full = write_whole(&mut Slow::new(9, 2), b"abc");
+    assert_eq!(rt; kind_of(&full), Some(ErrorKind::WriteZero));
+    let stopped = write_whole(&mut Slow::new(4, 3), b"abc");
+    assert_eq!(rt; kind_of(&stopped), Some(ErrorKind::BrokenPipe));
+    let mut sink = StdSink::new(Slow::new(9, 3));
+    assert_eq!(rt; sink.write(b"abc"), Ok(()));
+    assert_eq!(rt; sink.write(b"d"), Err(SinkFailed));
+    assert_eq!(rt; sink.write(b""), Ok(()));
 }

@@ -1,45 +1,57 @@
 //! Reading all and writing all, by calls that may do less.
-ghost use Rattle.std.specs.Prelude.{◌≡◌, ◌≢◌, ℕ, ◌+◌, ◌≤◌, ◌++◌, length, take, Some, OnOk, OnErr};
-ghost use Rattle.std.specs.Bool.{OnTrue, OnFalse};
+ghost use Rattle.std.specs.Prelude.{◌≡◌, ◌≢◌, ◌+◌, ◌≤◌, ◌++◌, length, Some, IfOk, IfErr, OnOk, OnErr};
+ghost use Rattle.std.specs.IoError.{error_kind};
 ghost use Rattle.std.specs.Io.KnownBytes.{Appends};
-ghost use Rattle.pe_io.specs.Shelf.{IsGot, IsWithinLimit, WhereTold};
+ghost use Rattle.pe_io.specs.Shelf.{IsGot, IsRead, IsWithinLimit, WhereTold};
+ghost use Rattle.pe_io.specs.StdSink.{AppendsPart};
 
 use crate::shelf::Got;
 use std::alloc::{AllocError, Global};
-use std::io::{ErrorKind, Read, Write};
+use std::io;
+use std::io::{Error, ErrorKind, Read, Write};
 
 /// How many bytes are read at once.
 const BUFFER: usize = 65536;
 
-/// What a reader has left, where that is no more than `limit`. A read that is interrupted is asked again.
-pub(crate) fn read_whole<F: Read>(alloc: Global, file: &mut F, limit: u64) -> Got
-    ensures limit { IsWithinLimit limit result }
-    ensures present { result ≢ Got.Absent }
+/// Passes an error on, unless it is that of a call which was interrupted and is to be made again.
+fn again(e: Error) -> io::Result<()>
+    ensures interrupted { OnOk result (error_kind e ≡ ErrorKind.Interrupted) }
+    ensures failed { IfErr result (λ cause. (cause ≡ e) × (error_kind e ≢ ErrorKind.Interrupted)) }
+{
+    if e.kind() == ErrorKind::Interrupted {
+        Ok(())
+    } else {
+        Err(e)
+    }
+}
+
+/// What a reader has left, where that is no more than `limit`. A read that is interrupted is asked again; an
+/// `Err` is the reader's, or that of an endless row of interruptions.
+pub(crate) fn read_whole<F: Read>(alloc: Global, file: &mut F, limit: u64) -> io::Result<Got>
+    ensures limit { IfOk result (IsWithinLimit limit) }
+    ensures read { IfOk result IsRead }
 
     // Where the reader tells what it has left, that is what is got.
-    ensures bytes { WhereTold (F.remaining file.old) (λ left. IsGot (Some left) limit result) }
+    ensures bytes { IfOk result (λ got. WhereTold (F.remaining file.old) (λ left. IsGot (Some left) limit got)) }
+    ensures retried { IfErr result (λ e. error_kind e ≢ ErrorKind.Interrupted) }
 {
     let mut bytes = Vec::new(alloc);
     let mut buffer = [0u8; BUFFER];
     for _ in 0..u64::MAX {
         match file.read(&mut buffer) {
-            Ok(0) => return Got::Whole(bytes),
+            Ok(0) => return Ok(Got::Whole(bytes)),
             Ok(n) => {
                 if n as u64 > limit - bytes.len() as u64 {
-                    return Got::Longer;
+                    return Ok(Got::Longer);
                 }
                 if append(&mut bytes, &buffer[..n], limit).is_err() {
-                    return Got::Memory;
+                    return Ok(Got::Memory);
                 }
             }
-            Err(e) => {
-                if e.kind() != ErrorKind::Interrupted {
-                    return Got::Failed;
-                }
-            }
+            Err(e) => again(e)?,
         }
     }
-    Got::Failed
+    Err(Error::from(ErrorKind::TimedOut))
 }
 
 /// Appends bytes for which the limit has room. Where they need memory, the vector grows to twice its length,
@@ -57,25 +69,24 @@ fn append(bytes: &mut Vec<u8>, more: &[u8], limit: u64) -> Result<(), AllocError
     bytes.extend_from_slice(more)
 }
 
-/// Writes all bytes, and says whether all were taken. A write that is interrupted is asked again.
-pub(crate) fn write_whole<W: Write>(writer: &mut W, bytes: &[u8]) -> bool
-    ensures all { OnTrue result (Appends (W.contents writer.old) (W.contents writer.new) bytes.now) }
-    ensures front { OnFalse result ((n : ℕ) × Appends (W.contents writer.old) (W.contents writer.new) (take n bytes.now)) }
+/// Writes all bytes. A write that is interrupted is asked again, and one that takes nothing has failed; any
+/// other `Err` is the writer's, or that of an endless row of interruptions. After an `Err` a part of the
+/// bytes was written.
+pub(crate) fn write_whole<W: Write>(writer: &mut W, bytes: &[u8]) -> io::Result<()>
+    ensures ok { OnOk result (Appends (W.contents writer.old) (W.contents writer.new) bytes.now) }
+    ensures err { OnErr result (AppendsPart (W.contents writer.old) (W.contents writer.new) bytes.now) }
+    ensures retried { IfErr result (λ e. error_kind e ≢ ErrorKind.Interrupted) }
 {
     let mut done = 0;
     for _ in 0..u64::MAX {
         if done >= bytes.len() {
-            return true;
+            return Ok(());
         }
         match writer.write(&bytes[done..]) {
-            Ok(0) => return false,
+            Ok(0) => return Err(Error::from(ErrorKind::WriteZero)),
             Ok(n) => done += n,
-            Err(e) => {
-                if e.kind() != ErrorKind::Interrupted {
-                    return false;
-                }
-            }
+            Err(e) => again(e)?,
         }
     }
-    false
+    Err(Error::from(ErrorKind::TimedOut))
 }

@@ -40,6 +40,6 @@ corner_below_root axes cell k is deep = record {
   deep = deep;
   level = is.level;
   pos = all_moved (3 ^ cell.level) cell.pos (bits axes k) (small_bits axes k)
-    (λ axis below. is.pos.inside axis (omega (arith, below, length-map-range_with_len (λ j. k / 2 ^ j % 2) 0 axes)))
-    (λ axis. position_within axes (3 ^ cell.level) cell.pos axis is.pos);
+      (λ axis below. is.pos.inside axis (omega (arith, below, length-map-range_with_len (λ j. k / 2 ^ j % 2) 0 axes)))
+      (λ axis. position_within axes (3 ^ cell.level) cell.pos axis is.pos);
 }

@@ -128,26 +128,26 @@ sign_inside : (r : Rank) (s : Sign) (k : TokenKind) → sign_of k ≡ Some s →
 sign_inside Product s k is rank = record { second = sign_second k s is }
 sign_inside Sum s k is rank = record { inside = record { second = sign_second k s is }; links = λ n. other_rank Product s k n is (differ Product Sum s rank refl) }
 sign_inside Comparison s k is rank = record {
-    inside = record { inside = record { second = sign_second k s is }; links = λ n. other_rank Product s k n is (differ Product Comparison s rank refl) };
-    links = λ n. other_rank Sum s k n is (differ Sum Comparison s rank refl);
-  }
+  inside = record { inside = record { second = sign_second k s is }; links = λ n. other_rank Product s k n is (differ Product Comparison s rank refl) };
+  links = λ n. other_rank Sum s k n is (differ Sum Comparison s rank refl);
+}
 sign_inside Conjunction s k is rank = record {
-    inside = record {
-      inside = record { inside = record { second = sign_second k s is }; links = λ n. other_rank Product s k n is (differ Product Conjunction s rank refl) };
-      links = λ n. other_rank Sum s k n is (differ Sum Conjunction s rank refl);
-      };
-    links = λ n. other_rank Comparison s k n is (differ Comparison Conjunction s rank refl);
-  }
+  inside = record {
+    inside = record { inside = record { second = sign_second k s is }; links = λ n. other_rank Product s k n is (differ Product Conjunction s rank refl) };
+    links = λ n. other_rank Sum s k n is (differ Sum Conjunction s rank refl);
+  };
+  links = λ n. other_rank Comparison s k n is (differ Comparison Conjunction s rank refl);
+}
 sign_inside Disjunction s k is rank = record {
+  inside = record {
     inside = record {
-      inside = record {
-        inside = record { inside = record { second = sign_second k s is }; links = λ n. other_rank Product s k n is (differ Product Disjunction s rank refl) };
-        links = λ n. other_rank Sum s k n is (differ Sum Disjunction s rank refl);
-        };
-      links = λ n. other_rank Comparison s k n is (differ Comparison Disjunction s rank refl);
-      };
-    links = λ n. other_rank Conjunction s k n is (differ Conjunction Disjunction s rank refl);
-  }
+      inside = record { inside = record { second = sign_second k s is }; links = λ n. other_rank Product s k n is (differ Product Disjunction s rank refl) };
+      links = λ n. other_rank Sum s k n is (differ Sum Disjunction s rank refl);
+    };
+    links = λ n. other_rank Comparison s k n is (differ Comparison Disjunction s rank refl);
+  };
+  links = λ n. other_rank Conjunction s k n is (differ Conjunction Disjunction s rank refl);
+}
 
 -- What is spelled is taken, from the frames for it, and what follows comes next.
 abbrev Taken : Phrase → List Lexeme → Type 0

@@ -49,13 +49,13 @@ module _ (size : ℕ) (xs : List Lexeme) (depth at : ℕ) (limited : depth ≤ 6
   block_stop_in : (inside : ℕ) (fault : ParseFault) → depth < 64 → Needed size xs kind.OpenCurly at (Ok inside) → Stopped size xs (Sequence ∷ Needs kind.CloseCurly ∷ []) depth inside fault → Stopped size xs (Block ∷ []) depth at fault
   block_stop_in inside fault room open_ stop =
       took_stop size xs Block (Sequence ∷ Needs kind.CloseCurly ∷ []) kind.OpenCurly depth at fault (stands xs at kind.OpenCurly open_.1) refl (omega arith) refl refl
-        (subst (λ (n : ℕ). Stopped size xs (Sequence ∷ Needs kind.CloseCurly ∷ []) depth n fault) open_.0 stop)
+      (subst (λ (n : ℕ). Stopped size xs (Sequence ∷ Needs kind.CloseCurly ∷ []) depth n fault) open_.0 stop)
 
   pub block_stop : (inside : ℕ) (fault : ParseFault) → depth < 64 → Needed size xs kind.OpenCurly at (Ok inside) → Stopped size xs (Sequence ∷ []) (depth + 1) inside fault → Stopped size xs (Block ∷ []) depth at fault
   block_stop inside fault room open_ stop =
       let deeper : depth + 1 ≡ 1 + depth = omega arith in
       block_stop_in inside fault room open_
-        (stop_frame size xs (Sequence ∷ []) (Needs kind.CloseCurly ∷ []) depth inside fault (omega arith) refl (subst (λ (d : ℕ). Stopped size xs (Sequence ∷ []) d inside fault) deeper stop))
+      (stop_frame size xs (Sequence ∷ []) (Needs kind.CloseCurly ∷ []) depth inside fault (omega arith) refl (subst (λ (d : ℕ). Stopped size xs (Sequence ∷ []) d inside fault) deeper stop))
 
   pub block_open : (inside behind : ℕ) (body : List Stmt) (fault : ParseFault) → depth < 64 → Needed size xs kind.OpenCurly at (Ok inside)
       → ReadsAs (λ body. All (statements_of body)) size xs (Sequence ∷ []) (depth + 1) inside (Ok (body, behind)) → Needed size xs kind.CloseCurly behind (Err fault) → Stopped size xs (Block ∷ []) depth at fault
@@ -65,12 +65,13 @@ module _ (size : ℕ) (xs : List Lexeme) (depth at : ℕ) (limited : depth ≤ 6
   pub block_read : (inside behind next : ℕ) (body : List Stmt) → depth < 64 → Needed size xs kind.OpenCurly at (Ok inside)
       → ReadsAs (λ body. All (statements_of body)) size xs (Sequence ∷ []) (depth + 1) inside (Ok (body, behind)) → Needed size xs kind.CloseCurly behind (Ok next) → ReadsBlock size xs depth at (Ok (body, next))
   block_read inside behind next body room open_ read close =
-      let forward = read.0.forward in let inside_is = open_.0 in
-      (took size xs Block (Sequence ∷ Needs kind.CloseCurly ∷ []) [] kind.OpenCurly depth at next (stands xs at kind.OpenCurly open_.1) refl (omega arith) refl refl
-        (subst (λ (n : ℕ). Went size xs (Sequence ∷ Needs kind.CloseCurly ∷ []) [] depth n next) inside_is
-          (went_trans size xs (Sequence ∷ Needs kind.CloseCurly ∷ []) (Needs kind.CloseCurly ∷ []) [] depth inside behind next (block_body inside behind body room read)
+      let forward = read.0.forward in let inside_is = open_.0 in (
+        took size xs Block (Sequence ∷ Needs kind.CloseCurly ∷ []) [] kind.OpenCurly depth at next (stands xs at kind.OpenCurly open_.1) refl (omega arith) refl refl
+            (subst (λ (n : ℕ). Went size xs (Sequence ∷ Needs kind.CloseCurly ∷ []) [] depth n next) inside_is
+            (went_trans size xs (Sequence ∷ Needs kind.CloseCurly ∷ []) (Needs kind.CloseCurly ∷ []) [] depth inside behind next (block_body inside behind body room read)
             (needed size xs kind.CloseCurly depth behind next (λ _. refl) limited close))),
-       record { opened = open_.1; mid = behind; forward = omega arith; behind = close.0; spelled = subst (λ (n : ℕ). Spells (All (statements_of body)) (piece xs n behind)) inside_is read.1; closed = close.1 })
+        record { opened = open_.1; mid = behind; forward = omega arith; behind = close.0; spelled = subst (λ (n : ℕ). Spells (All (statements_of body)) (piece xs n behind)) inside_is read.1; closed = close.1 },
+      )
 
   -- a condition
   choose_stop_in : (fault : ParseFault) → kind_at xs at ≡ Some kind.If → Stopped size xs (expression ++ Block ∷ Otherwise ∷ Sequence ∷ []) depth (at + 1) fault → Stopped size xs (Sequence ∷ []) depth at fault
@@ -86,13 +87,13 @@ module _ (size : ℕ) (xs : List Lexeme) (depth at : ℕ) (limited : depth ≤ 6
       → Stopped size xs (Sequence ∷ []) depth at fault
   choose_first behind e fault is read stop = choose_stop_in fault is
       (stop_after size xs (expression ++ Block ∷ Otherwise ∷ Sequence ∷ []) (Block ∷ Otherwise ∷ Sequence ∷ []) depth (at + 1) behind fault (choose_condition behind e read)
-        (stop_beside size xs (Block ∷ []) (Otherwise ∷ Sequence ∷ []) depth behind fault refl limited refl stop))
+      (stop_beside size xs (Block ∷ []) (Otherwise ∷ Sequence ∷ []) depth behind fault refl limited refl stop))
 
   choose_body : (behind after : ℕ) (e : Expr) (body : List Stmt) → ReadsAs (Chained Disjunction) size xs expression depth (at + 1) (Ok (e, behind)) → ReadsBlock size xs depth behind (Ok (body, after))
       → Went size xs (expression ++ Block ∷ Otherwise ∷ Sequence ∷ []) (Otherwise ∷ Sequence ∷ []) depth (at + 1) after
   choose_body behind after e body read block_ =
       went_trans size xs (expression ++ Block ∷ Otherwise ∷ Sequence ∷ []) (Block ∷ Otherwise ∷ Sequence ∷ []) (Otherwise ∷ Sequence ∷ []) depth (at + 1) behind after (choose_condition behind e read)
-        (went_beside size xs (Block ∷ []) [] (Otherwise ∷ Sequence ∷ []) depth behind after refl limited refl block_.0)
+      (went_beside size xs (Block ∷ []) [] (Otherwise ∷ Sequence ∷ []) depth behind after refl limited refl block_.0)
 
   else_skips : (o : Option TokenKind) → (o ≡ Some kind.Else → ⊥) → skips Otherwise o ≡ true
   else_skips None h = refl
@@ -105,8 +106,8 @@ module _ (size : ℕ) (xs : List Lexeme) (depth at : ℕ) (limited : depth ≤ 6
   first_half behind after x o y mid x_is o_is y_is a b after_is =
       ap (piece xs at) after_is ∙ piece_snoc xs at mid y y_is (omega arith)
       ∙ ap (λ (ys : List Lexeme). ys ++ y ∷ []) (sym (piece_join xs at behind mid (omega arith) (omega arith))
-        ∙ ap (λ (ys : List Lexeme). ys ++ piece xs behind mid) (piece_cons xs at behind x x_is (omega arith))
-        ∙ ap (λ (ys : List Lexeme). (x ∷ piece xs (at + 1) behind) ++ ys) (piece_cons xs behind mid o o_is (omega arith)))
+      ∙ ap (λ (ys : List Lexeme). ys ++ piece xs behind mid) (piece_cons xs at behind x x_is (omega arith))
+      ∙ ap (λ (ys : List Lexeme). (x ∷ piece xs (at + 1) behind) ++ ys) (piece_cons xs behind mid o o_is (omega arith)))
 
   pub choose_read : (behind after : ℕ) (e : Expr) (body : List Stmt) (fault : ParseFault) → kind_at xs at ≡ Some kind.If → ReadsAs (Chained Disjunction) size xs expression depth (at + 1) (Ok (e, behind))
       → ReadsBlock size xs depth behind (Ok (body, after)) → Needed size xs kind.Else after (Err fault) → ReadStatement size xs depth at (stmt.If e body, after)
@@ -115,22 +116,23 @@ module _ (size : ℕ) (xs : List Lexeme) (depth at : ℕ) (limited : depth ≤ 6
       let b = block_.1 in
       let o = stands xs behind kind.OpenCurly b.opened in
       let y = stands xs b.mid kind.CloseCurly b.closed in
-      let forward = read.0.forward in let b_forward = b.forward in let after_is = b.behind in
-      (took size xs Sequence (expression ++ Block ∷ Otherwise ∷ Sequence ∷ []) (Sequence ∷ []) kind.If depth at after x refl (omega arith) refl refl
-        (went_trans size xs (expression ++ Block ∷ Otherwise ∷ Sequence ∷ []) (Otherwise ∷ Sequence ∷ []) (Sequence ∷ []) depth (at + 1) after after (choose_body behind after e body read block_)
-          (went_beside size xs (Otherwise ∷ []) [] (Sequence ∷ []) depth after after refl limited refl (skipped size xs Otherwise depth after block_.0.within (else_skips (kind_at xs after) none_.1)))),
-       omega arith,
-       subst (λ (s : Statement). Spells (One s) (piece xs at after)) (sym (of_if e body))
-         (subst (λ (ys : List Lexeme). Spells (One (Chooses e (statements_of body))) ys) (sym (first_half behind after x.token o.token y.token b.mid x.is o.is y.is forward b_forward after_is))
-           (chooses x.token o.token y.token x.kind read.1 o.kind b.spelled y.kind)))
+      let forward = read.0.forward in let b_forward = b.forward in let after_is = b.behind in (
+        took size xs Sequence (expression ++ Block ∷ Otherwise ∷ Sequence ∷ []) (Sequence ∷ []) kind.If depth at after x refl (omega arith) refl refl
+            (went_trans size xs (expression ++ Block ∷ Otherwise ∷ Sequence ∷ []) (Otherwise ∷ Sequence ∷ []) (Sequence ∷ []) depth (at + 1) after after (choose_body behind after e body read block_)
+            (went_beside size xs (Otherwise ∷ []) [] (Sequence ∷ []) depth after after refl limited refl (skipped size xs Otherwise depth after block_.0.within (else_skips (kind_at xs after) none_.1)))),
+        omega arith,
+        subst (λ (s : Statement). Spells (One s) (piece xs at after)) (sym (of_if e body))
+            (subst (λ (ys : List Lexeme). Spells (One (Chooses e (statements_of body))) ys) (sym (first_half behind after x.token o.token y.token b.mid x.is o.is y.is forward b_forward after_is))
+            (chooses x.token o.token y.token x.kind read.1 o.kind b.spelled y.kind)),
+      )
 
   pub choose_second : (behind after other : ℕ) (e : Expr) (body : List Stmt) (fault : ParseFault) → kind_at xs at ≡ Some kind.If → ReadsAs (Chained Disjunction) size xs expression depth (at + 1) (Ok (e, behind))
       → ReadsBlock size xs depth behind (Ok (body, after)) → Needed size xs kind.Else after (Ok other) → ReadsBlock size xs depth other (Err fault) → Stopped size xs (Sequence ∷ []) depth at fault
   choose_second behind after other e body fault is read block_ else_ stop = choose_stop_in fault is
       (stop_after size xs (expression ++ Block ∷ Otherwise ∷ Sequence ∷ []) (Otherwise ∷ Sequence ∷ []) depth (at + 1) after fault (choose_body behind after e body read block_)
-        (stop_beside size xs (Otherwise ∷ []) (Sequence ∷ []) depth after fault refl limited refl
-          (took_stop size xs Otherwise (Block ∷ []) kind.Else depth after fault (stands xs after kind.Else else_.1) refl (omega arith) refl refl
-            (subst (λ (n : ℕ). Stopped size xs (Block ∷ []) depth n fault) else_.0 stop))))
+      (stop_beside size xs (Otherwise ∷ []) (Sequence ∷ []) depth after fault refl limited refl
+      (took_stop size xs Otherwise (Block ∷ []) kind.Else depth after fault (stands xs after kind.Else else_.1) refl (omega arith) refl refl
+      (subst (λ (n : ℕ). Stopped size xs (Block ∷ []) depth n fault) else_.0 stop))))
 
   pub choose_both : (behind after other next : ℕ) (e : Expr) (body otherwise : List Stmt) → kind_at xs at ≡ Some kind.If → ReadsAs (Chained Disjunction) size xs expression depth (at + 1) (Ok (e, behind))
       → ReadsBlock size xs depth behind (Ok (body, after)) → Needed size xs kind.Else after (Ok other) → ReadsBlock size xs depth other (Ok (otherwise, next)) → ReadStatement size xs depth at (stmt.IfElse e body otherwise, next)
@@ -146,20 +148,21 @@ module _ (size : ℕ) (xs : List Lexeme) (depth at : ℕ) (limited : depth ≤ 6
       let forward = read.0.forward in let b_forward = b.forward in let after_is = b.behind in let other_is = else_.0 in let c_forward = c.forward in let next_is = c.behind in
       let half = first_half behind after x.token o.token y.token b.mid x.is o.is y.is forward b_forward after_is in
       let tail : piece xs after c.mid ≡ w.token ∷ p.token ∷ piece xs (other + 1) c.mid =
-        piece_cons xs after c.mid w.token w.is (omega arith) ∙ ap (λ (n : ℕ). w.token ∷ piece xs n c.mid) (sym other_is) ∙ ap (λ (ys : List Lexeme). w.token ∷ ys) (piece_cons xs other c.mid p.token p.is (omega arith)) in
+      piece_cons xs after c.mid w.token w.is (omega arith) ∙ ap (λ (n : ℕ). w.token ∷ piece xs n c.mid) (sym other_is) ∙ ap (λ (ys : List Lexeme). w.token ∷ ys) (piece_cons xs other c.mid p.token p.is (omega arith)) in
       let front : List Lexeme = x.token ∷ piece xs (at + 1) behind ++ o.token ∷ piece xs (behind + 1) b.mid in
       let whole : piece xs at next ≡ front ++ y.token ∷ w.token ∷ p.token ∷ piece xs (other + 1) c.mid ++ z.token ∷ [] =
-        ap (piece xs at) next_is ∙ piece_snoc xs at c.mid z.token z.is (omega arith)
-        ∙ ap (λ (ys : List Lexeme). ys ++ z.token ∷ []) (sym (piece_join xs at after c.mid (omega arith) (omega arith)) ∙ ap (λ (ys : List Lexeme). ys ++ piece xs after c.mid) half
-          ∙ ap (λ (ys : List Lexeme). (front ++ y.token ∷ []) ++ ys) tail ∙ append_assoc front (y.token ∷ []) (w.token ∷ p.token ∷ piece xs (other + 1) c.mid)) in
-      (took size xs Sequence (expression ++ Block ∷ Otherwise ∷ Sequence ∷ []) (Sequence ∷ []) kind.If depth at next x refl (omega arith) refl refl
-        (went_trans size xs (expression ++ Block ∷ Otherwise ∷ Sequence ∷ []) (Otherwise ∷ Sequence ∷ []) (Sequence ∷ []) depth (at + 1) after next (choose_body behind after e body read block_)
-          (went_beside size xs (Otherwise ∷ []) [] (Sequence ∷ []) depth after next refl limited refl
+      ap (piece xs at) next_is ∙ piece_snoc xs at c.mid z.token z.is (omega arith)
+      ∙ ap (λ (ys : List Lexeme). ys ++ z.token ∷ []) (sym (piece_join xs at after c.mid (omega arith) (omega arith)) ∙ ap (λ (ys : List Lexeme). ys ++ piece xs after c.mid) half
+      ∙ ap (λ (ys : List Lexeme). (front ++ y.token ∷ []) ++ ys) tail ∙ append_assoc front (y.token ∷ []) (w.token ∷ p.token ∷ piece xs (other + 1) c.mid)) in (
+        took size xs Sequence (expression ++ Block ∷ Otherwise ∷ Sequence ∷ []) (Sequence ∷ []) kind.If depth at next x refl (omega arith) refl refl
+            (went_trans size xs (expression ++ Block ∷ Otherwise ∷ Sequence ∷ []) (Otherwise ∷ Sequence ∷ []) (Sequence ∷ []) depth (at + 1) after next (choose_body behind after e body read block_)
+            (went_beside size xs (Otherwise ∷ []) [] (Sequence ∷ []) depth after next refl limited refl
             (took size xs Otherwise (Block ∷ []) [] kind.Else depth after next w refl (omega arith) refl refl (subst (λ (n : ℕ). Went size xs (Block ∷ []) [] depth n next) other_is second.0)))),
-       omega arith,
-       subst (λ (s : Statement). Spells (One s) (piece xs at next)) (sym (of_if_else e body otherwise))
-         (subst (λ (ys : List Lexeme). Spells (One (ChoosesElse e (statements_of body) (statements_of otherwise))) ys) (sym whole)
-           (chooses_else x.token o.token y.token w.token p.token z.token x.kind read.1 o.kind b.spelled y.kind w.kind p.kind c.spelled z.kind)))
+        omega arith,
+        subst (λ (s : Statement). Spells (One s) (piece xs at next)) (sym (of_if_else e body otherwise))
+            (subst (λ (ys : List Lexeme). Spells (One (ChoosesElse e (statements_of body) (statements_of otherwise))) ys) (sym whole)
+            (chooses_else x.token o.token y.token w.token p.token z.token x.kind read.1 o.kind b.spelled y.kind w.kind p.kind c.spelled z.kind)),
+      )
 
   -- where no statement begins
   pub no_statement : skips Sequence (kind_at xs at) ≡ true → at ≤ length xs → Went size xs (Sequence ∷ []) [] depth at at
@@ -183,7 +186,7 @@ module _ (size : ℕ) (xs : List Lexeme) (depth at : ℕ) (limited : depth ≤ 6
         record {
           went = went_trans size xs (Sequence ∷ []) (Sequence ∷ []) (Sequence ∷ []) depth at next behind running.went read.0;
           spelled = subst (λ (ys : List Lexeme). Spells (All (statements_of (body ++ s ∷ []))) ys) (piece_join xs at next behind forward (omega arith))
-            (statement_behind body s (piece xs at next) (piece xs next behind) read.2 running.spelled);
+              (statement_behind body s (piece xs at next) (piece xs next behind) read.2 running.spelled);
         }
 
     pub run_end : (next ≤ length xs → Went size xs (Sequence ∷ []) [] depth next next) → ReadsAs (λ body. All (statements_of body)) size xs (Sequence ∷ []) depth at (Ok (body, next))

@@ -111,7 +111,7 @@ link_behind r [] ys x s e zs many is rank operand (linked_none r2) =
     subst (λ (ws : List Lexeme). Spells (Linked r ((s, e) ∷ [])) (x ∷ ws)) (append-nil zs) (linked r x s is rank (may_follow r [] many) operand (linked_none r))
 link_behind r (l ∷ links) ys x s e zs many is rank operand (linked r2 y t {xs = us} {ys = vs} is' rank' may first rest) =
     subst (λ (ws : List Lexeme). Spells (Linked r (l ∷ (links ++ (s, e) ∷ []))) (y ∷ ws)) (sym (append_assoc us vs (x ∷ zs)))
-      (linked r y t is' rank' (may_follow r (links ++ (s, e) ∷ []) many) first (link_behind r links vs x s e zs many is rank operand rest))
+    (linked r y t is' rank' (may_follow r (links ++ (s, e) ∷ []) many) first (link_behind r links vs x s e zs many is rank operand rest))
 
 -- What a chain has come to: its first operand and so many links, and its next sign may come.
 pub record Linking (size : ℕ) (xs : List Lexeme) (r : Rank) (depth at next : ℕ) (first : Expr) (links : List (Sign × Expr)) : Type 0 where
@@ -126,14 +126,14 @@ pub record Linking (size : ℕ) (xs : List Lexeme) (r : Rank) (depth at next : �
 module _ (size : ℕ) (xs : List Lexeme) (r : Rank) (depth at : ℕ) (limited : depth ≤ 64) where
   pub first_read : (next : ℕ) (first : Expr) → ReadsAs (operand_of r) size xs (operand_frames r) depth at (Ok (first, next)) → Linking size xs r depth at next first []
   first_read next first read = record {
-      went = went_beside size xs (operand_frames r) [] (Links r 1 ∷ []) depth at next refl limited refl read.0;
-      mid = next;
-      forward = read.0.forward;
-      behind = omega arith;
-      spelled_first = read.1;
-      spelled = subst (λ (ys : List Lexeme). Spells (Linked r []) ys) (sym (piece_empty xs next)) (linked_none r);
-      few = omega arith;
-    }
+    went = went_beside size xs (operand_frames r) [] (Links r 1 ∷ []) depth at next refl limited refl read.0;
+    mid = next;
+    forward = read.0.forward;
+    behind = omega arith;
+    spelled_first = read.1;
+    spelled = subst (λ (ys : List Lexeme). Spells (Linked r []) ys) (sym (piece_empty xs next)) (linked_none r);
+    few = omega arith;
+  }
 
   pub first_stop : (fault : ParseFault) → Stopped size xs (operand_frames r) depth at fault → Stopped size xs (chain_frames r) depth at fault
   first_stop fault stop = stop_beside size xs (operand_frames r) (Links r 1 ∷ []) depth at fault refl limited refl stop
@@ -149,24 +149,24 @@ module _ (size : ℕ) (xs : List Lexeme) (r : Rank) (depth at : ℕ) (limited : 
         let forward = read.0.forward in let there = linking.behind in let start = linking.forward in
         let count : length links + 1 + 1 ≡ length (links ++ (s, e) ∷ []) + 1 = omega arith in
         let takes_g : move (Links r (length links + 1)) here.kind ≡ Takes (operand_frames r ++ Links r (length links + 1 + 1) ∷ []) =
-          link_takes xs next r s (length links + 1) here ∙ ap (λ (fs : List Frame). Takes (operand_frames r ++ fs)) (more_is r (length links + 1) many) in
+        link_takes xs next r s (length links + 1) here ∙ ap (λ (fs : List Frame). Takes (operand_frames r ++ fs)) (more_is r (length links + 1) many) in
         let on_link : Went size xs (Links r (length links + 1) ∷ []) (Links r (length links + 1 + 1) ∷ []) depth next behind =
-          took size xs (Links r (length links + 1)) (operand_frames r ++ Links r (length links + 1 + 1) ∷ []) (Links r (length links + 1 + 1) ∷ []) here.kind depth next behind st takes_g
-            (omega (arith, links_flat r (length links + 1 + 1) depth))
-            (counted_links (operand_frames r) r (length links + 1 + 1) (operand_counted r) ∙ within_links (length links + 1 + 1) (omega arith))
-            (sign_small here.kind s st.token.bytes here.is)
-            (went_beside size xs (operand_frames r) [] (Links r (length links + 1 + 1) ∷ []) depth (next + 1) behind refl limited
-              (counted_links [] r (length links + 1 + 1) refl ∙ within_links (length links + 1 + 1) (omega arith)) read.0) in
+        took size xs (Links r (length links + 1)) (operand_frames r ++ Links r (length links + 1 + 1) ∷ []) (Links r (length links + 1 + 1) ∷ []) here.kind depth next behind st takes_g
+        (omega (arith, links_flat r (length links + 1 + 1) depth))
+        (counted_links (operand_frames r) r (length links + 1 + 1) (operand_counted r) ∙ within_links (length links + 1 + 1) (omega arith))
+        (sign_small here.kind s st.token.bytes here.is)
+        (went_beside size xs (operand_frames r) [] (Links r (length links + 1 + 1) ∷ []) depth (next + 1) behind refl limited
+        (counted_links [] r (length links + 1 + 1) refl ∙ within_links (length links + 1 + 1) (omega arith)) read.0) in
         record {
           went = went_trans size xs (chain_frames r) (Links r (length links + 1) ∷ []) (Links r (length (links ++ (s, e) ∷ []) + 1) ∷ []) depth at next behind linking.went
-            (subst (λ (n : ℕ). Went size xs (Links r (length links + 1) ∷ []) (Links r n ∷ []) depth next behind) count on_link);
+              (subst (λ (n : ℕ). Went size xs (Links r (length links + 1) ∷ []) (Links r n ∷ []) depth next behind) count on_link);
           mid = linking.mid;
           forward = linking.forward;
           behind = omega arith;
           spelled_first = linking.spelled_first;
           spelled = subst (λ (ys : List Lexeme). Spells (Linked r (links ++ (s, e) ∷ [])) ys)
-            (ap (λ (ys : List Lexeme). piece xs linking.mid next ++ ys) (sym (piece_cons xs next behind st.token st.is (omega arith))) ∙ piece_join xs linking.mid next behind (omega arith) (omega arith))
-            (link_behind r links (piece xs linking.mid next) st.token s e (piece xs (next + 1) behind) many (ap sign_of st.kind ∙ here.is) here.rank read.1 linking.spelled);
+              (ap (λ (ys : List Lexeme). piece xs linking.mid next ++ ys) (sym (piece_cons xs next behind st.token st.is (omega arith))) ∙ piece_join xs linking.mid next behind (omega arith) (omega arith))
+              (link_behind r links (piece xs linking.mid next) st.token s e (piece xs (next + 1) behind) many (ap sign_of st.kind ∙ here.is) here.rank read.1 linking.spelled);
           few = omega arith;
         }
 
@@ -175,14 +175,14 @@ module _ (size : ℕ) (xs : List Lexeme) (r : Rank) (depth at : ℕ) (limited : 
         let here = sign_here xs next r s is in
         let st = stands xs next here.kind here.stands in
         let takes_g : move (Links r (length links + 1)) here.kind ≡ Takes (operand_frames r ++ Links r (length links + 1 + 1) ∷ []) =
-          link_takes xs next r s (length links + 1) here ∙ ap (λ (fs : List Frame). Takes (operand_frames r ++ fs)) (more_is r (length links + 1) many) in
+        link_takes xs next r s (length links + 1) here ∙ ap (λ (fs : List Frame). Takes (operand_frames r ++ fs)) (more_is r (length links + 1) many) in
         stop_after size xs (chain_frames r) (Links r (length links + 1) ∷ []) depth at next fault linking.went
-          (took_stop size xs (Links r (length links + 1)) (operand_frames r ++ Links r (length links + 1 + 1) ∷ []) here.kind depth next fault st takes_g
-            (omega (arith, links_flat r (length links + 1 + 1) depth))
-            (counted_links (operand_frames r) r (length links + 1 + 1) (operand_counted r) ∙ within_links (length links + 1 + 1) (omega arith))
-            (sign_small here.kind s st.token.bytes here.is)
-            (stop_beside size xs (operand_frames r) (Links r (length links + 1 + 1) ∷ []) depth (next + 1) fault refl limited
-              (counted_links [] r (length links + 1 + 1) refl ∙ within_links (length links + 1 + 1) (omega arith)) stop))
+        (took_stop size xs (Links r (length links + 1)) (operand_frames r ++ Links r (length links + 1 + 1) ∷ []) here.kind depth next fault st takes_g
+        (omega (arith, links_flat r (length links + 1 + 1) depth))
+        (counted_links (operand_frames r) r (length links + 1 + 1) (operand_counted r) ∙ within_links (length links + 1 + 1) (omega arith))
+        (sign_small here.kind s st.token.bytes here.is)
+        (stop_beside size xs (operand_frames r) (Links r (length links + 1 + 1) ∷ []) depth (next + 1) fault refl limited
+        (counted_links [] r (length links + 1 + 1) refl ∙ within_links (length links + 1 + 1) (omega arith)) stop))
 
     -- a sign too many
     pub link_many : (s : Sign) → 63 ≤ length links → sign_at r xs next ≡ Some s → Stopped size xs (chain_frames r) depth at (TooMany (offset_at size xs next))
@@ -190,24 +190,24 @@ module _ (size : ℕ) (xs : List Lexeme) (r : Rank) (depth at : ℕ) (limited : 
         let here = sign_here xs next r s is in
         let st = stands xs next here.kind here.stands in
         let takes_g : move (Links r (length links + 1)) here.kind ≡ Takes (operand_frames r ++ Links r (length links + 1 + 1) ∷ []) =
-          link_takes xs next r s (length links + 1) here ∙ ap (λ (fs : List Frame). Takes (operand_frames r ++ fs)) (more_is r (length links + 1) many) in
+        link_takes xs next r s (length links + 1) here ∙ ap (λ (fs : List Frame). Takes (operand_frames r ++ fs)) (more_is r (length links + 1) many) in
         stop_after size xs (chain_frames r) (Links r (length links + 1) ∷ []) depth at next (TooMany (offset_at size xs next)) linking.went
-          (too_many size xs (Links r (length links + 1)) (operand_frames r ++ Links r (length links + 1 + 1) ∷ []) here.kind depth next st takes_g
-            (omega (arith, links_flat r (length links + 1 + 1) depth))
-            (counted_links (operand_frames r) r (length links + 1 + 1) (operand_counted r) ∙ past_links (length links + 1 + 1) (omega arith)))
+        (too_many size xs (Links r (length links + 1)) (operand_frames r ++ Links r (length links + 1 + 1) ∷ []) here.kind depth next st takes_g
+        (omega (arith, links_flat r (length links + 1 + 1) depth))
+        (counted_links (operand_frames r) r (length links + 1 + 1) (operand_counted r) ∙ past_links (length links + 1 + 1) (omega arith)))
 
     ended : sign_at r xs next ≡ None → Went size xs (chain_frames r) [] depth at next
     ended none_ =
         went_trans size xs (chain_frames r) (Links r (length links + 1) ∷ []) [] depth at next next linking.went
-          (skipped size xs (Links r (length links + 1)) depth next linking.went.within (sign_none r (length links + 1) (kind_at xs next) none_))
+        (skipped size xs (Links r (length links + 1)) depth next linking.went.within (sign_none r (length links + 1) (kind_at xs next) none_))
 
     -- no sign follows the first operand
     pub single_read : links ≡ [] → sign_at r xs next ≡ None → ReadsAs (Chained r) size xs (chain_frames r) depth at (Ok (first, next))
     single_read alone none_ =
         let bare = subst (λ (ls : List (Sign × Expr)). Spells (Linked r ls) (piece xs linking.mid next)) alone linking.spelled in
         let whole : piece xs at linking.mid ≡ piece xs at next =
-          sym (append-nil (piece xs at linking.mid)) ∙ ap (λ (ys : List Lexeme). piece xs at linking.mid ++ ys) (sym (linked_empty r (piece xs linking.mid next) bare))
-          ∙ piece_join xs at linking.mid next linking.forward linking.behind in
+        sym (append-nil (piece xs at linking.mid)) ∙ ap (λ (ys : List Lexeme). piece xs at linking.mid ++ ys) (sym (linked_empty r (piece xs linking.mid next) bare))
+        ∙ piece_join xs at linking.mid next linking.forward linking.behind in
         (ended none_, single r (subst (λ (ys : List Lexeme). Spells (operand_of r first) ys) whole linking.spelled_first))
 
     -- no sign follows the last operand
@@ -224,10 +224,11 @@ module _ (size : ℕ) (xs : List Lexeme) (depth at behind : ℕ) (first : Expr) 
   to_sign = went_beside size xs (chain_frames Sum) [] (Links Comparison 1 ∷ []) depth at behind refl limited refl read.0
 
   pub comparison_bare : sign_at Comparison xs behind ≡ None → ReadsAs (Chained Comparison) size xs (chain_frames Comparison) depth at (Ok (first, behind))
-  comparison_bare none_ =
-      (went_trans size xs (chain_frames Comparison) (Links Comparison 1 ∷ []) [] depth at behind behind to_sign
+  comparison_bare none_ = (
+    went_trans size xs (chain_frames Comparison) (Links Comparison 1 ∷ []) [] depth at behind behind to_sign
         (skipped size xs (Links Comparison 1) depth behind read.0.within (sign_none Comparison 1 (kind_at xs behind) none_)),
-       single Comparison read.1)
+    single Comparison read.1,
+  )
 
   module _ (s : Sign) (is : sign_at Comparison xs behind ≡ Some s) where
     pub comparison_stop : (fault : ParseFault) → Stopped size xs (chain_frames Sum) depth (behind + 1) fault → Stopped size xs (chain_frames Comparison) depth at fault
@@ -235,7 +236,7 @@ module _ (size : ℕ) (xs : List Lexeme) (depth at behind : ℕ) (first : Expr) 
         let here = sign_here xs behind Comparison s is in
         let st = stands xs behind here.kind here.stands in
         stop_after size xs (chain_frames Comparison) (Links Comparison 1 ∷ []) depth at behind fault to_sign
-          (took_stop size xs (Links Comparison 1) (chain_frames Sum) here.kind depth behind fault st (link_takes xs behind Comparison s 1 here) (omega arith) refl (sign_small here.kind s st.token.bytes here.is) stop)
+        (took_stop size xs (Links Comparison 1) (chain_frames Sum) here.kind depth behind fault st (link_takes xs behind Comparison s 1 here) (omega arith) refl (sign_small here.kind s st.token.bytes here.is) stop)
 
     pub comparison_read : (next : ℕ) (second : Expr) → ReadsAs (Chained Sum) size xs (chain_frames Sum) depth (behind + 1) (Ok (second, next))
         → ReadsAs (Chained Comparison) size xs (chain_frames Comparison) depth at (Ok (expr.Chain first ((s, second) ∷ []), next))
@@ -244,8 +245,9 @@ module _ (size : ℕ) (xs : List Lexeme) (depth at behind : ℕ) (first : Expr) 
         let st = stands xs behind here.kind here.stands in
         let forward = read.0.forward in let on_ = other.0.forward in
         let link : Spells (Linked Comparison ((s, second) ∷ [])) (piece xs behind next) =
-          subst (λ (ys : List Lexeme). Spells (Linked Comparison ((s, second) ∷ [])) ys) (ap (λ (ys : List Lexeme). st.token ∷ ys) (append-nil (piece xs (behind + 1) next)) ∙ sym (piece_cons xs behind next st.token st.is (omega arith)))
-            (linked Comparison st.token s (ap sign_of st.kind ∙ here.is) here.rank refl other.1 (linked_none Comparison)) in
-        (went_trans size xs (chain_frames Comparison) (Links Comparison 1 ∷ []) [] depth at behind next to_sign
-          (took size xs (Links Comparison 1) (chain_frames Sum) [] here.kind depth behind next st (link_takes xs behind Comparison s 1 here) (omega arith) refl (sign_small here.kind s st.token.bytes here.is) other.0),
-         subst (λ (ys : List Lexeme). Spells (Chained Comparison (expr.Chain first ((s, second) ∷ []))) ys) (piece_join xs at behind next forward (omega arith)) (chain Comparison first read.1 link))
+        subst (λ (ys : List Lexeme). Spells (Linked Comparison ((s, second) ∷ [])) ys) (ap (λ (ys : List Lexeme). st.token ∷ ys) (append-nil (piece xs (behind + 1) next)) ∙ sym (piece_cons xs behind next st.token st.is (omega arith)))
+        (linked Comparison st.token s (ap sign_of st.kind ∙ here.is) here.rank refl other.1 (linked_none Comparison)) in (
+          went_trans size xs (chain_frames Comparison) (Links Comparison 1 ∷ []) [] depth at behind next to_sign
+              (took size xs (Links Comparison 1) (chain_frames Sum) [] here.kind depth behind next st (link_takes xs behind Comparison s 1 here) (omega arith) refl (sign_small here.kind s st.token.bytes here.is) other.0),
+          subst (λ (ys : List Lexeme). Spells (Chained Comparison (expr.Chain first ((s, second) ∷ []))) ys) (piece_join xs at behind next forward (omega arith)) (chain Comparison first read.1 link),
+        )

@@ -1,5 +1,5 @@
 -- What is open can be completed: tokens that may come begin a body.
-use Rattle.std.proofs.Common.{◌≡◌, ℕ, ◌+◌, suc, zero, pos, List, [], ◌∷◌, ◌++◌, Option, Some, None, Bool, true, false, cond, refl, sym, ◌∙◌, ap, subst, append_assoc, append-nil, arith}
+use Rattle.std.proofs.Common.{◌≡◌, ℕ, ◌+◌, pos, List, [], ◌∷◌, ◌++◌, Option, Some, None, Bool, true, false, cond, refl, sym, ◌∙◌, ap, subst, append_assoc, append-nil, arith}
 use Rattle.std.specs.Prelude.{◌==◌}
 use Rattle.std.proofs.lemmas.Bool.Decides.{nat_tests}
 use Rattle.pe_lex.specs.declared.token.TokenKind.{TokenKind}
@@ -17,8 +17,8 @@ use Rattle.pe_parse.specs.declared.tree.Expr.{Expr}
 use Rattle.pe_parse.specs.declared.tree.Expr.TheVariants as expr
 use Rattle.pe_parse.specs.Lexemes.{Lexeme, value_of}
 use Rattle.pe_parse.specs.Statements.{Statement, Statements, Nothing, Then}
-use Rattle.pe_parse.specs.Grammar.{Phrase, Chained, Operand, Linked, Listed, One, All, Names, plain, dotted, Spells, number, name, prefixed, group, extreme, absolute, single, chain, linked_none, linked, listed_none, listed, assigns, marks, prints, chooses, chooses_else, nothing, then_more, MayFollow, operand_of, rank_of, sign_of, prefix_kind, choice_kind, trigger_kind}
-use Rattle.pe_parse.specs.Places.{Frame, Needs, Value, Links, Second, Ending, Pair, Single, Values, Block, Otherwise, Sequence, Move, Takes, Skips, Refuses, move, moved, link_move, sign_if, same_rank, step, kind_number, operand_frames, chain_frames, more_links, expression}
+use Rattle.pe_parse.specs.Grammar.{Phrase, Chained, Operand, Linked, Listed, One, All, plain, dotted, Spells, number, name, prefixed, group, extreme, absolute, single, chain, linked_none, linked, listed_none, listed, assigns, marks, prints, chooses, chooses_else, nothing, then_more, MayFollow, operand_of, rank_of, sign_of, prefix_kind, choice_kind, trigger_kind}
+use Rattle.pe_parse.specs.Places.{Frame, Needs, Value, Links, Second, Ending, Pair, Single, Values, Block, Otherwise, Sequence, Move, Takes, Skips, Refuses, move, moved, link_move, sign_if, same_rank, step, kind_number, operand_frames, more_links, expression}
 use Rattle.pe_parse.specs.Bodies.{Begins, open_next, open_after}
 use Rattle.pe_parse.proofs.Steps.{kind_same}
 
@@ -29,7 +29,7 @@ data SecondFill : List Lexeme → Type 0 where
 
 data PairFill : List Lexeme → Type 0 where
   a_pair : (o c z : Lexeme) {xs ys : List Lexeme} {a b : Expr} → o.kind ≡ kind.OpenRound → Spells (Chained Disjunction a) xs → c.kind ≡ kind.Comma → Spells (Chained Disjunction b) ys → z.kind ≡ kind.CloseRound
-    → PairFill (o ∷ xs ++ c ∷ ys ++ z ∷ [])
+      → PairFill (o ∷ xs ++ c ∷ ys ++ z ∷ [])
 
 data SingleFill : List Lexeme → Type 0 where
   a_single : (o z : Lexeme) {xs : List Lexeme} {e : Expr} → o.kind ≡ kind.OpenRound → Spells (Chained Disjunction e) xs → z.kind ≡ kind.CloseRound → SingleFill (o ∷ xs ++ z ∷ [])
@@ -198,9 +198,9 @@ pair_refilled x kind.OpenRound is = λ fs w c.
     let d = found_closed kind.Comma (expression ++ Needs kind.CloseRound ∷ fs) w c in
     let e = found_closed kind.CloseRound fs d.back d.rest in
     filled_by Pair fs (x ∷ d.front ++ d.token ∷ e.front ++ e.token ∷ []) e.back (x ∷ w)
-      (ap (λ (v : List Lexeme). x ∷ v) (d.whole ∙ ap (λ (v : List Lexeme). d.front ++ d.token ∷ v) e.whole
-        ∙ sym (append_assoc (d.front ++ d.token ∷ e.front) (e.token ∷ []) e.back ∙ append_assoc d.front (d.token ∷ e.front) (e.token ∷ e.back))))
-      (a_pair x d.token e.token is d.spelled d.is e.spelled e.is) e.rest
+    (ap (λ (v : List Lexeme). x ∷ v) (d.whole ∙ ap (λ (v : List Lexeme). d.front ++ d.token ∷ v) e.whole
+    ∙ sym (append_assoc (d.front ++ d.token ∷ e.front) (e.token ∷ []) e.back ∙ append_assoc d.front (d.token ∷ e.front) (e.token ∷ e.back))))
+    (a_pair x d.token e.token is d.spelled d.is e.spelled e.is) e.rest
 pair_refilled x _ is = tt
 
 single_refilled : (x : Lexeme) (k : TokenKind) → x.kind ≡ k → Refilled Single x (move Single k)
@@ -212,7 +212,7 @@ values_refilled : (n : ℕ) (x : Lexeme) (k : TokenKind) → x.kind ≡ k → Re
 values_refilled n x kind.Comma is = λ fs w c.
     let d = found_expression (Values (n + 1) ∷ fs) w c in let s = split (Values (n + 1)) fs d.back d.rest in
     filled_by (Values n) fs (x ∷ d.front ++ s.front) s.back (x ∷ w) (ap (λ (v : List Lexeme). x ∷ v) (d.whole ∙ ap (λ (v : List Lexeme). d.front ++ v) s.whole ∙ sym (append_assoc d.front s.front s.back)))
-      (d.tree ∷ s.filled.0, listed x is d.spelled s.filled.1) s.rest
+    (d.tree ∷ s.filled.0, listed x is d.spelled s.filled.1) s.rest
 values_refilled n x _ is = λ fs w c. fill [] ([], listed_none) c
 
 -- statements at the front, and the rest
@@ -231,7 +231,7 @@ block_refilled : (x : Lexeme) (k : TokenKind) → x.kind ≡ k → Refilled Bloc
 block_refilled x kind.OpenCurly is = λ fs w c.
     let d = found_all (Needs kind.CloseCurly ∷ fs) w c in let t = found_token kind.CloseCurly fs d.back d.rest in
     filled_by Block fs (x ∷ d.front ++ t.token ∷ []) t.back (x ∷ w) (ap (λ (v : List Lexeme). x ∷ v) (d.whole ∙ ap (λ (v : List Lexeme). d.front ++ v) t.whole ∙ sym (append_assoc d.front (t.token ∷ []) t.back)))
-      (a_block x t.token is d.spelled t.is) t.rest
+    (a_block x t.token is d.spelled t.is) t.rest
 block_refilled x _ is = tt
 
 else_refilled : (x : Lexeme) (k : TokenKind) → x.kind ≡ k → Refilled Otherwise x (move Otherwise k)
@@ -268,7 +268,7 @@ link_refilled r n x t true is same = λ fs w c.
     let here = subst (λ (g : List Frame). Completes g w) (append_assoc (operand_frames r) (more_links r n) fs) c in
     let d = found_operand r (more_links r n ++ fs) w here in let l = found_links r n fs d.back d.rest in
     filled_by (Links r n) fs (x ∷ d.front ++ l.front) l.back (x ∷ w) (ap (λ (v : List Lexeme). x ∷ v) (d.whole ∙ ap (λ (v : List Lexeme). d.front ++ v) l.whole ∙ sym (append_assoc d.front l.front l.back)))
-      ((t, d.tree) ∷ l.links, linked r x t is (same_rank_is r (rank_of t) same) l.may d.spelled l.spelled) l.rest
+    ((t, d.tree) ∷ l.links, linked r x t is (same_rank_is r (rank_of t) same) l.may d.spelled l.spelled) l.rest
 link_refilled r n x t false is same = λ fs w c. fill [] ([], linked_none r) c
 
 links_refilled : (r : Rank) (n : ℕ) (x : Lexeme) (o : Option Sign) → sign_of x.kind ≡ o → Refilled (Links r n) x (link_move r n (sign_if r o))
@@ -285,13 +285,13 @@ assign_filled : (x : Lexeme) → x.kind ≡ kind.Word → (u v : List Lexeme) (f
 assign_filled x is u v fs w whole no_second c =
     let t = found_token kind.Assign (expression ++ Needs kind.Semicolon ∷ Sequence ∷ fs) v c in let d = found_closed kind.Semicolon (Sequence ∷ fs) t.back t.rest in
     before fs _ (x ∷ t.token ∷ d.front ++ d.token ∷ []) d.back (x ∷ w)
-      (ap (λ (l : List Lexeme). x ∷ l) (whole ∙ t.whole ∙ ap (λ (l : List Lexeme). t.token ∷ l) (d.whole ∙ sym (append_assoc d.front (d.token ∷ []) d.back))))
-      (assigns t.token d.token (plain x is) t.is d.spelled d.is) d.rest
+    (ap (λ (l : List Lexeme). x ∷ l) (whole ∙ t.whole ∙ ap (λ (l : List Lexeme). t.token ∷ l) (d.whole ∙ sym (append_assoc d.front (d.token ∷ []) d.back))))
+    (assigns t.token d.token (plain x is) t.is d.spelled d.is) d.rest
 assign_filled x is u v fs w whole (a_second y z dot other) c =
     let t = found_token kind.Assign (expression ++ Needs kind.Semicolon ∷ Sequence ∷ fs) v c in let d = found_closed kind.Semicolon (Sequence ∷ fs) t.back t.rest in
     before fs _ (x ∷ y ∷ z ∷ t.token ∷ d.front ++ d.token ∷ []) d.back (x ∷ w)
-      (ap (λ (l : List Lexeme). x ∷ l) (whole ∙ ap (λ (l : List Lexeme). y ∷ z ∷ l) (t.whole ∙ ap (λ (l : List Lexeme). t.token ∷ l) (d.whole ∙ sym (append_assoc d.front (d.token ∷ []) d.back)))))
-      (assigns t.token d.token (dotted x y z is dot other) t.is d.spelled d.is) d.rest
+    (ap (λ (l : List Lexeme). x ∷ l) (whole ∙ ap (λ (l : List Lexeme). y ∷ z ∷ l) (t.whole ∙ ap (λ (l : List Lexeme). t.token ∷ l) (d.whole ∙ sym (append_assoc d.front (d.token ∷ []) d.back)))))
+    (assigns t.token d.token (dotted x y z is dot other) t.is d.spelled d.is) d.rest
 
 mark_filled : (q : Trigger) (x : Lexeme) → x.kind ≡ trigger_kind q → (fs : List Frame) (w : List Lexeme) → Completes (Needs kind.Word ∷ Needs kind.Semicolon ∷ Sequence ∷ fs) w → Completes (Sequence ∷ fs) (x ∷ w)
 mark_filled q x is fs w c =
@@ -303,26 +303,26 @@ print_filled x is fs w c =
     let d = found_expression (Values 1 ∷ Needs kind.Semicolon ∷ Sequence ∷ fs) w c in let s = split (Values 1) (Needs kind.Semicolon ∷ Sequence ∷ fs) d.back d.rest in
     let z = found_token kind.Semicolon (Sequence ∷ fs) s.back s.rest in
     before fs _ (x ∷ d.front ++ s.front ++ z.token ∷ []) z.back (x ∷ w)
-      (ap (λ (l : List Lexeme). x ∷ l) (d.whole ∙ ap (λ (l : List Lexeme). d.front ++ l) (s.whole ∙ ap (λ (l : List Lexeme). s.front ++ l) z.whole)
-        ∙ sym (append_assoc (d.front ++ s.front) (z.token ∷ []) z.back ∙ append_assoc d.front s.front (z.token ∷ z.back))))
-      (prints x z.token is d.spelled s.filled.1 z.is) z.rest
+    (ap (λ (l : List Lexeme). x ∷ l) (d.whole ∙ ap (λ (l : List Lexeme). d.front ++ l) (s.whole ∙ ap (λ (l : List Lexeme). s.front ++ l) z.whole)
+    ∙ sym (append_assoc (d.front ++ s.front) (z.token ∷ []) z.back ∙ append_assoc d.front s.front (z.token ∷ z.back))))
+    (prints x z.token is d.spelled s.filled.1 z.is) z.rest
 
 if_filled : (x : Lexeme) → x.kind ≡ kind.If → {a : Expr} (p u v r : List Lexeme) (fs : List Frame) → Spells (Chained Disjunction a) p → BlockFill u → OtherwiseFill v → Completes (Sequence ∷ fs) r → Completes (Sequence ∷ fs) (x ∷ p ++ (u ++ (v ++ r)))
 if_filled x is p u v r fs d (a_block o y {ys = ys} open_ f close) no_else c =
     before fs _ (x ∷ p ++ o ∷ ys ++ y ∷ []) r (x ∷ p ++ ((o ∷ ys ++ y ∷ []) ++ r))
-      (ap (λ (l : List Lexeme). x ∷ l) (ap (λ (l : List Lexeme). p ++ l) (append_assoc (o ∷ ys) (y ∷ []) r) ∙ sym (append_assoc (p ++ o ∷ ys) (y ∷ []) r ∙ append_assoc p (o ∷ ys) (y ∷ r))))
-      (chooses x o y is d open_ f close) c
+    (ap (λ (l : List Lexeme). x ∷ l) (ap (λ (l : List Lexeme). p ++ l) (append_assoc (o ∷ ys) (y ∷ []) r) ∙ sym (append_assoc (p ++ o ∷ ys) (y ∷ []) r ∙ append_assoc p (o ∷ ys) (y ∷ r))))
+    (chooses x o y is d open_ f close) c
 if_filled x is p u v r fs d (a_block o y {ys = ys} open_ f close) (an_else i else_ (a_block q z {ys = zs} open2 g close2)) c =
     before fs _ (x ∷ p ++ o ∷ ys ++ y ∷ i ∷ q ∷ zs ++ z ∷ []) r (x ∷ p ++ ((o ∷ ys ++ y ∷ []) ++ ((i ∷ q ∷ zs ++ z ∷ []) ++ r)))
-      (ap (λ (l : List Lexeme). x ∷ l) (ap (λ (l : List Lexeme). p ++ l) (append_assoc (o ∷ ys) (y ∷ []) ((i ∷ q ∷ zs ++ z ∷ []) ++ r) ∙ ap (λ (l : List Lexeme). (o ∷ ys) ++ (y ∷ l)) (append_assoc (i ∷ q ∷ zs) (z ∷ []) r))
-        ∙ sym (append_assoc ((p ++ o ∷ ys) ++ y ∷ i ∷ q ∷ zs) (z ∷ []) r ∙ append_assoc (p ++ o ∷ ys) (y ∷ i ∷ q ∷ zs) (z ∷ r) ∙ append_assoc p (o ∷ ys) (y ∷ i ∷ q ∷ zs ++ z ∷ r))))
-      (chooses_else x o y i q z is d open_ f close else_ open2 g close2) c
+    (ap (λ (l : List Lexeme). x ∷ l) (ap (λ (l : List Lexeme). p ++ l) (append_assoc (o ∷ ys) (y ∷ []) ((i ∷ q ∷ zs ++ z ∷ []) ++ r) ∙ ap (λ (l : List Lexeme). (o ∷ ys) ++ (y ∷ l)) (append_assoc (i ∷ q ∷ zs) (z ∷ []) r))
+    ∙ sym (append_assoc ((p ++ o ∷ ys) ++ y ∷ i ∷ q ∷ zs) (z ∷ []) r ∙ append_assoc (p ++ o ∷ ys) (y ∷ i ∷ q ∷ zs) (z ∷ r) ∙ append_assoc p (o ∷ ys) (y ∷ i ∷ q ∷ zs ++ z ∷ r))))
+    (chooses_else x o y i q z is d open_ f close else_ open2 g close2) c
 
 choose_filled : (x : Lexeme) → x.kind ≡ kind.If → (fs : List Frame) (w : List Lexeme) → Completes (expression ++ Block ∷ Otherwise ∷ Sequence ∷ fs) w → Completes (Sequence ∷ fs) (x ∷ w)
 choose_filled x is fs w c =
     let d = found_expression (Block ∷ Otherwise ∷ Sequence ∷ fs) w c in let b = split Block (Otherwise ∷ Sequence ∷ fs) d.back d.rest in let e = split Otherwise (Sequence ∷ fs) b.back b.rest in
     subst (Completes (Sequence ∷ fs)) (sym (ap (λ (l : List Lexeme). x ∷ l) (d.whole ∙ ap (λ (l : List Lexeme). d.front ++ l) (b.whole ∙ ap (λ (l : List Lexeme). b.front ++ l) e.whole))))
-      (if_filled x is d.front b.front e.front e.back fs d.spelled b.filled e.filled e.rest)
+    (if_filled x is d.front b.front e.front e.back fs d.spelled b.filled e.filled e.rest)
 
 sequence_refilled : (x : Lexeme) (k : TokenKind) → x.kind ≡ k → Refilled Sequence x (move Sequence k)
 sequence_refilled x kind.Word is = λ fs w c. let s = split Second (Needs kind.Assign ∷ expression ++ Needs kind.Semicolon ∷ Sequence ∷ fs) w c in assign_filled x is s.front s.back fs w s.whole s.filled s.rest
@@ -358,6 +358,7 @@ step_completes (f ∷ fs) gs x w h c = move_completes f fs gs x w (move f x.kind
 open_step : (fs gs : List Frame) (x : Lexeme) (xs w : List Lexeme) (o : Option (List Frame)) → step fs x.kind ≡ o → ((hs : List Frame) → open_after hs xs ≡ Some gs → Completes hs (xs ++ w)) → open_next o (λ hs. open_after hs xs) ≡ Some gs → Completes fs (x ∷ (xs ++ w))
 open_step fs gs x xs w None e later h = absurd (cc)
 open_step fs gs x xs w (Some hs) e later h = step_completes fs hs x (xs ++ w) e (later hs h)
+
 open_completes : (fs gs : List Frame) (xs w : List Lexeme) → open_after fs xs ≡ Some gs → Completes gs w → Completes fs (xs ++ w)
 open_completes fs gs [] w h c = let same : fs ≡ gs = cc in subst (λ (hs : List Frame). Completes hs w) (sym same) c
 open_completes fs gs (x ∷ xs) w h c = open_step fs gs x xs w (step fs x.kind) refl (λ hs later. open_completes hs gs xs w later c) h

@@ -36,10 +36,11 @@ module _ (size : ℕ) (xs : List Lexeme) where
       let inside = at_within xs at st.token st.is in
       let first_here : first ≡ st.token.bytes = first_is ∙ ap bytes_in st.is in
       let start_here : start ≡ st.token.at = start_is ∙ ap (offset_in size) st.is in
-      let one = piece_single xs at st.token st.is in
-      ((λ depth limited. skipped size xs Second depth (at + 1) (omega arith) (second_skips (kind_at xs (at + 1)) no_dot.1)),
-       omega arith,
-       rw (one, first_here, start_here) (plain st.token st.kind))
+      let one = piece_single xs at st.token st.is in (
+        (λ depth limited. skipped size xs Second depth (at + 1) (omega arith) (second_skips (kind_at xs (at + 1)) no_dot.1)),
+        omega arith,
+        rw (one, first_here, start_here) (plain st.token st.kind),
+      )
 
   -- a name of two words
   pub name_dotted : (at behind next : ℕ) (first second : List ℕ) (start : ℕ) → kind_at xs at ≡ Some kind.Word → first ≡ spelled_at xs at → start ≡ offset_at size xs at
@@ -55,14 +56,15 @@ module _ (size : ℕ) (xs : List Lexeme) where
       let second_here : second ≡ z.token.bytes = second_is ∙ ap bytes_in z.is in
       let start_here : start ≡ x.token.at = start_is ∙ ap (offset_in size) x.is in
       let all : piece xs at next ≡ x.token ∷ y.token ∷ z.token ∷ [] =
-        piece_cons xs at next x.token x.is (omega arith)
-        ∙ ap (λ (ys : List Lexeme). x.token ∷ ys) (piece_cons xs (at + 1) next y.token y.is (omega arith)
-          ∙ ap (λ (n : ℕ). y.token ∷ piece xs n next) (sym behind_is)
-          ∙ ap (λ (n : ℕ). y.token ∷ piece xs behind n) next_is ∙ ap (λ (ys : List Lexeme). y.token ∷ ys) (piece_single xs behind z.token z.is)) in
-      ((λ depth limited. took size xs Second (Needs kind.Word ∷ []) [] kind.Dot depth (at + 1) next y refl (omega arith) refl refl
-          (subst (λ (n : ℕ). Went size xs (Needs kind.Word ∷ []) [] depth n next) behind_is (needed size xs kind.Word depth behind next (λ _. refl) limited other))),
-       omega arith,
-       rw (all, first_here, second_here, start_here) (dotted x.token y.token z.token x.kind y.kind z.kind))
+      piece_cons xs at next x.token x.is (omega arith)
+      ∙ ap (λ (ys : List Lexeme). x.token ∷ ys) (piece_cons xs (at + 1) next y.token y.is (omega arith)
+      ∙ ap (λ (n : ℕ). y.token ∷ piece xs n next) (sym behind_is)
+      ∙ ap (λ (n : ℕ). y.token ∷ piece xs behind n) next_is ∙ ap (λ (ys : List Lexeme). y.token ∷ ys) (piece_single xs behind z.token z.is)) in (
+        (λ depth limited. took size xs Second (Needs kind.Word ∷ []) [] kind.Dot depth (at + 1) next y refl (omega arith) refl refl
+            (subst (λ (n : ℕ). Went size xs (Needs kind.Word ∷ []) [] depth n next) behind_is (needed size xs kind.Word depth behind next (λ _. refl) limited other))),
+        omega arith,
+        rw (all, first_here, second_here, start_here) (dotted x.token y.token z.token x.kind y.kind z.kind),
+      )
 
   -- no word behind the dot
   pub name_broken : (at behind : ℕ) (fault : ParseFault) → Needed size xs kind.Dot (at + 1) (Ok behind) → Needed size xs kind.Word behind (Err fault)
@@ -70,7 +72,7 @@ module _ (size : ℕ) (xs : List Lexeme) where
   name_broken at behind fault dot none_ depth limited =
       let y = stands xs (at + 1) kind.Dot dot.1 in
       took_stop size xs Second (Needs kind.Word ∷ []) kind.Dot depth (at + 1) fault y refl (omega arith) refl refl
-        (subst (λ (n : ℕ). Stopped size xs (Needs kind.Word ∷ []) depth n fault) dot.0 (missing size xs kind.Word depth behind fault none_))
+      (subst (λ (n : ℕ). Stopped size xs (Needs kind.Word ∷ []) depth n fault) dot.0 (missing size xs kind.Word depth behind fault none_))
 
   small_number : (bytes : List ℕ) → value_of bytes ≤ 9223372036854775807 → is_too_large kind.Number bytes ≡ false
   small_number bytes h = let fits : nat_le (value_of bytes) 9223372036854775807 ≡ true = grind (arith, nat_tests) in rw fits refl
@@ -86,9 +88,10 @@ module _ (size : ℕ) (xs : List Lexeme) where
       let bytes_is : spelled_at xs at ≡ st.token.bytes = ap bytes_in st.is in
       let fits_here = subst (λ (b : List ℕ). value_of b ≤ 9223372036854775807) bytes_is fits in
       let n_here : n ≡ pos (value_of st.token.bytes) = n_is ∙ ap (λ (b : List ℕ). pos (value_of b)) bytes_is in
-      let one = piece_single xs at st.token st.is in
-      (took size xs Value [] [] kind.Number depth at (at + 1) st refl (omega arith) refl (small_number st.token.bytes fits_here) (went_here size xs [] depth (at + 1) (omega arith)),
-       subst (λ (ys : List Lexeme). Spells (Operand (expr.Number n)) ys) (sym one) (subst (λ (m : ℤ). Spells (Operand (expr.Number m)) (st.token ∷ [])) (sym n_here) (number st.token st.kind)))
+      let one = piece_single xs at st.token st.is in (
+        took size xs Value [] [] kind.Number depth at (at + 1) st refl (omega arith) refl (small_number st.token.bytes fits_here) (went_here size xs [] depth (at + 1) (omega arith)),
+        subst (λ (ys : List Lexeme). Spells (Operand (expr.Number n)) ys) (sym one) (subst (λ (m : ℤ). Spells (Operand (expr.Number m)) (st.token ∷ [])) (sym n_here) (number st.token st.kind)),
+      )
 
   pub number_large : (at : ℕ) (depth : ℕ) → depth ≤ 64 → kind_at xs at ≡ Some kind.Number → 9223372036854775807 < value_of (spelled_at xs at) → Stopped size xs (Value ∷ []) depth at (Literal (offset_at size xs at))
   number_large at depth limited is over =
@@ -109,14 +112,15 @@ module _ (size : ℕ) (xs : List Lexeme) where
   pub closed_read : (k : TokenKind) (at behind next depth : ℕ) (e : Expr) → depth ≤ 64 → ((bytes : List ℕ) → is_too_large k bytes ≡ false)
       → ReadsAs (Chained Disjunction) size xs expression depth at (Ok (e, behind)) → Needed size xs k behind (Ok next) → ReadsClosed size xs k depth at (Ok (e, next))
   closed_read k at behind next depth e limited small read close =
-      let forward = read.0.forward in
-      ((λ outer deep.
-          let all : nesting (Needs k ∷ []) + outer ≡ depth = omega arith in
-          let inner = subst (λ (d : ℕ). Went size xs expression [] d at behind) (sym all) read.0 in
-          went_trans size xs (expression ++ Needs k ∷ []) (Needs k ∷ []) [] outer at behind next
+      let forward = read.0.forward in (
+        (λ outer deep.
+            let all : nesting (Needs k ∷ []) + outer ≡ depth = omega arith in
+            let inner = subst (λ (d : ℕ). Went size xs expression [] d at behind) (sym all) read.0 in
+            went_trans size xs (expression ++ Needs k ∷ []) (Needs k ∷ []) [] outer at behind next
             (went_frame size xs expression [] (Needs k ∷ []) outer at behind (omega arith) refl inner)
             (needed size xs k outer behind next small (omega arith) close)),
-       record { mid = behind; forward = forward; behind = close.0; spelled = read.1; closed = close.1 })
+        record { mid = behind; forward = forward; behind = close.0; spelled = read.1; closed = close.1 },
+      )
 
   pub closed_stop : (k : TokenKind) (at depth : ℕ) (fault : ParseFault) → depth ≤ 64 → Stopped size xs expression depth at fault → ReadsClosed size xs k depth at (Err fault)
   closed_stop k at depth fault limited stop = λ outer deep.
@@ -129,8 +133,8 @@ module _ (size : ℕ) (xs : List Lexeme) where
       let all : nesting (Needs k ∷ []) + outer ≡ depth = omega arith in
       let inner = subst (λ (d : ℕ). Went size xs expression [] d at behind) (sym all) read.0 in
       stop_after size xs (expression ++ Needs k ∷ []) (Needs k ∷ []) outer at behind fault
-        (went_frame size xs expression [] (Needs k ∷ []) outer at behind (omega arith) refl inner)
-        (missing size xs k outer behind fault none_)
+      (went_frame size xs expression [] (Needs k ∷ []) outer at behind (omega arith) refl inner)
+      (missing size xs k outer behind fault none_)
 
   pub group_read : (at next depth : ℕ) (e : Expr) → depth < 64 → kind_at xs at ≡ Some kind.OpenRound → ReadsClosed size xs kind.CloseRound (depth + 1) (at + 1) (Ok (e, next))
       → ReadsAs Operand size xs (Value ∷ []) depth at (Ok (e, next))
@@ -140,9 +144,10 @@ module _ (size : ℕ) (xs : List Lexeme) where
       let y = stands xs inside.mid kind.CloseRound inside.closed in
       let forward = inside.forward in
       let whole : piece xs at next ≡ x.token ∷ piece xs (at + 1) inside.mid ++ y.token ∷ [] =
-        ap (piece xs at) inside.behind ∙ piece_snoc xs at inside.mid y.token y.is (omega arith) ∙ ap (λ (ys : List Lexeme). ys ++ y.token ∷ []) (piece_cons xs at inside.mid x.token x.is (omega arith)) in
-      (took size xs Value (expression ++ Needs kind.CloseRound ∷ []) [] kind.OpenRound depth at next x refl (omega arith) refl refl (read.0 depth (omega arith)),
-       subst (λ (ys : List Lexeme). Spells (Operand e) ys) (sym whole) (group x.token y.token x.kind inside.spelled y.kind))
+      ap (piece xs at) inside.behind ∙ piece_snoc xs at inside.mid y.token y.is (omega arith) ∙ ap (λ (ys : List Lexeme). ys ++ y.token ∷ []) (piece_cons xs at inside.mid x.token x.is (omega arith)) in (
+        took size xs Value (expression ++ Needs kind.CloseRound ∷ []) [] kind.OpenRound depth at next x refl (omega arith) refl refl (read.0 depth (omega arith)),
+        subst (λ (ys : List Lexeme). Spells (Operand e) ys) (sym whole) (group x.token y.token x.kind inside.spelled y.kind),
+      )
 
   pub group_stop : (at depth : ℕ) (fault : ParseFault) → depth < 64 → kind_at xs at ≡ Some kind.OpenRound → ReadsClosed size xs kind.CloseRound (depth + 1) (at + 1) (Err fault) → Stopped size xs (Value ∷ []) depth at fault
   group_stop at depth fault limited is read =
@@ -175,19 +180,20 @@ module _ (size : ℕ) (xs : List Lexeme) where
       let x = stands xs at (prefix_kind p) is in
       let deeper : depth + 1 ≡ 1 + depth = omega arith in
       let forward = read.0.forward in
-      let inner = subst (λ (d : ℕ). Went size xs (Value ∷ []) [] d (at + 1) next) deeper read.0 in
-      (took size xs Value (Value ∷ Ending ∷ []) [] (prefix_kind p) depth at next x (prefix_takes p) (omega arith) refl (prefix_small p x.token.bytes)
-        (went_trans size xs (Value ∷ Ending ∷ []) (Ending ∷ []) [] depth (at + 1) next next
-          (went_frame size xs (Value ∷ []) [] (Ending ∷ []) depth (at + 1) next (omega arith) refl inner)
-          (skipped size xs Ending depth next read.0.within (ending_skips (kind_at xs next)))),
-       subst (λ (ys : List Lexeme). Spells (Operand (expr.Unary p e)) ys) (sym (piece_cons xs at next x.token x.is (omega arith))) (prefixed p x.token x.kind read.1))
+      let inner = subst (λ (d : ℕ). Went size xs (Value ∷ []) [] d (at + 1) next) deeper read.0 in (
+        took size xs Value (Value ∷ Ending ∷ []) [] (prefix_kind p) depth at next x (prefix_takes p) (omega arith) refl (prefix_small p x.token.bytes)
+            (went_trans size xs (Value ∷ Ending ∷ []) (Ending ∷ []) [] depth (at + 1) next next
+            (went_frame size xs (Value ∷ []) [] (Ending ∷ []) depth (at + 1) next (omega arith) refl inner)
+            (skipped size xs Ending depth next read.0.within (ending_skips (kind_at xs next)))),
+        subst (λ (ys : List Lexeme). Spells (Operand (expr.Unary p e)) ys) (sym (piece_cons xs at next x.token x.is (omega arith))) (prefixed p x.token x.kind read.1),
+      )
 
   pub prefixed_stop : (p : Prefix) (at depth : ℕ) (fault : ParseFault) → depth < 64 → kind_at xs at ≡ Some (prefix_kind p) → Stopped size xs (Value ∷ []) (depth + 1) (at + 1) fault → Stopped size xs (Value ∷ []) depth at fault
   prefixed_stop p at depth fault limited is stop =
       let x = stands xs at (prefix_kind p) is in
       let deeper : depth + 1 ≡ 1 + depth = omega arith in
       took_stop size xs Value (Value ∷ Ending ∷ []) (prefix_kind p) depth at fault x (prefix_takes p) (omega arith) refl (prefix_small p x.token.bytes)
-        (stop_frame size xs (Value ∷ []) (Ending ∷ []) depth (at + 1) fault (omega arith) refl (subst (λ (d : ℕ). Stopped size xs (Value ∷ []) d (at + 1) fault) deeper stop))
+      (stop_frame size xs (Value ∷ []) (Ending ∷ []) depth (at + 1) fault (omega arith) refl (subst (λ (d : ℕ). Stopped size xs (Value ∷ []) d (at + 1) fault) deeper stop))
 
   pub prefixed_deep : (p : Prefix) (at depth : ℕ) → 64 ≤ depth → kind_at xs at ≡ Some (prefix_kind p) → Stopped size xs (Value ∷ []) depth at (TooDeep (offset_at size xs at))
   prefixed_deep p at depth deep is = too_deep size xs Value (Value ∷ Ending ∷ []) (prefix_kind p) depth at (stands xs at (prefix_kind p) is) (prefix_takes p) (omega arith)
@@ -200,7 +206,6 @@ module _ (size : ℕ) (xs : List Lexeme) where
   choice_small choice.Min bytes = refl
   choice_small choice.Max bytes = refl
 
-
   pub extreme_read : (c : Choice) (at inside behind next depth : ℕ) (a b : Expr) → depth < 64 → kind_at xs at ≡ Some (choice_kind c) → Needed size xs kind.OpenRound (at + 1) (Ok inside)
       → ReadsClosed size xs kind.Comma (depth + 1) inside (Ok (a, behind)) → ReadsClosed size xs kind.CloseRound (depth + 1) behind (Ok (b, next))
       → ReadsAs Operand size xs (Value ∷ []) depth at (Ok (expr.Extreme c a b, next))
@@ -212,21 +217,22 @@ module _ (size : ℕ) (xs : List Lexeme) where
       let inside_is = open_.0 in
       let first_forward = first.1.forward in let first_behind = first.1.behind in let last_forward = last.1.forward in let last_behind = last.1.behind in
       let one : piece xs at first.1.mid ≡ x.token ∷ o.token ∷ piece xs inside first.1.mid =
-        piece_cons xs at first.1.mid x.token x.is (omega arith) ∙ ap (λ (ys : List Lexeme). x.token ∷ ys) (piece_cons xs (at + 1) first.1.mid o.token o.is (omega arith)
-          ∙ ap (λ (n : ℕ). o.token ∷ piece xs n first.1.mid) (sym inside_is)) in
+      piece_cons xs at first.1.mid x.token x.is (omega arith) ∙ ap (λ (ys : List Lexeme). x.token ∷ ys) (piece_cons xs (at + 1) first.1.mid o.token o.is (omega arith)
+      ∙ ap (λ (n : ℕ). o.token ∷ piece xs n first.1.mid) (sym inside_is)) in
       let two : piece xs first.1.mid last.1.mid ≡ y.token ∷ piece xs behind last.1.mid =
-        piece_cons xs first.1.mid last.1.mid y.token y.is (omega arith) ∙ ap (λ (n : ℕ). y.token ∷ piece xs n last.1.mid) (sym first_behind) in
+      piece_cons xs first.1.mid last.1.mid y.token y.is (omega arith) ∙ ap (λ (n : ℕ). y.token ∷ piece xs n last.1.mid) (sym first_behind) in
       let whole : piece xs at next ≡ x.token ∷ o.token ∷ piece xs inside first.1.mid ++ y.token ∷ piece xs behind last.1.mid ++ z.token ∷ [] =
-        ap (piece xs at) last_behind ∙ piece_snoc xs at last.1.mid z.token z.is (omega arith)
-        ∙ ap (λ (ys : List Lexeme). ys ++ z.token ∷ []) (sym (piece_join xs at first.1.mid last.1.mid (omega arith) (omega arith)) ∙ ap (λ (ys : List Lexeme). ys ++ piece xs first.1.mid last.1.mid) one
-          ∙ ap (λ (ys : List Lexeme). (x.token ∷ o.token ∷ piece xs inside first.1.mid) ++ ys) two) in
-      (took size xs Value (Pair ∷ []) [] (choice_kind c) depth at next x (choice_takes c) (omega arith) refl (choice_small c x.token.bytes)
-        (took size xs Pair (expression ++ Needs kind.Comma ∷ expression ++ Needs kind.CloseRound ∷ []) [] kind.OpenRound depth (at + 1) next o refl (omega arith) refl refl
-          (subst (λ (n : ℕ). Went size xs (expression ++ Needs kind.Comma ∷ expression ++ Needs kind.CloseRound ∷ []) [] depth n next) inside_is
+      ap (piece xs at) last_behind ∙ piece_snoc xs at last.1.mid z.token z.is (omega arith)
+      ∙ ap (λ (ys : List Lexeme). ys ++ z.token ∷ []) (sym (piece_join xs at first.1.mid last.1.mid (omega arith) (omega arith)) ∙ ap (λ (ys : List Lexeme). ys ++ piece xs first.1.mid last.1.mid) one
+      ∙ ap (λ (ys : List Lexeme). (x.token ∷ o.token ∷ piece xs inside first.1.mid) ++ ys) two) in (
+        took size xs Value (Pair ∷ []) [] (choice_kind c) depth at next x (choice_takes c) (omega arith) refl (choice_small c x.token.bytes)
+            (took size xs Pair (expression ++ Needs kind.Comma ∷ expression ++ Needs kind.CloseRound ∷ []) [] kind.OpenRound depth (at + 1) next o refl (omega arith) refl refl
+            (subst (λ (n : ℕ). Went size xs (expression ++ Needs kind.Comma ∷ expression ++ Needs kind.CloseRound ∷ []) [] depth n next) inside_is
             (went_trans size xs (expression ++ Needs kind.Comma ∷ expression ++ Needs kind.CloseRound ∷ []) (expression ++ Needs kind.CloseRound ∷ []) [] depth inside behind next
-              (went_frame size xs (expression ++ Needs kind.Comma ∷ []) [] (expression ++ Needs kind.CloseRound ∷ []) depth inside behind (omega arith) refl (first.0 (1 + depth) (omega arith)))
-              (last.0 depth (omega arith))))),
-       subst (λ (ys : List Lexeme). Spells (Operand (expr.Extreme c a b)) ys) (sym whole) (extreme c x.token o.token y.token z.token x.kind o.kind first.1.spelled y.kind last.1.spelled z.kind))
+            (went_frame size xs (expression ++ Needs kind.Comma ∷ []) [] (expression ++ Needs kind.CloseRound ∷ []) depth inside behind (omega arith) refl (first.0 (1 + depth) (omega arith)))
+            (last.0 depth (omega arith))))),
+        subst (λ (ys : List Lexeme). Spells (Operand (expr.Extreme c a b)) ys) (sym whole) (extreme c x.token o.token y.token z.token x.kind o.kind first.1.spelled y.kind last.1.spelled z.kind),
+      )
 
   value_refuses : (k : TokenKind) → (k ≡ kind.Number → ⊥) → (k ≡ kind.Word → ⊥) → (k ≡ kind.OpenRound → ⊥) → (k ≡ kind.Min → ⊥) → (k ≡ kind.Max → ⊥) → (k ≡ kind.Abs → ⊥) → (k ≡ kind.Minus → ⊥) → (k ≡ kind.Not → ⊥) → is_refuse (move Value k) ≡ true
   value_refuses kind.Number a b c d e f g h = absurd (a refl)
@@ -273,7 +279,7 @@ module _ (size : ℕ) (xs : List Lexeme) where
       → Stopped size xs (expression ++ Needs kind.Comma ∷ expression ++ Needs kind.CloseRound ∷ []) depth inside fault → Stopped size xs (Value ∷ []) depth at fault
   pair_stop c at inside depth fault limited is open_ stop = choice_stop c at depth fault (omega arith) is
       (took_stop size xs Pair (expression ++ Needs kind.Comma ∷ expression ++ Needs kind.CloseRound ∷ []) kind.OpenRound depth (at + 1) fault (stands xs (at + 1) kind.OpenRound open_.1) refl (omega arith) refl refl
-        (subst (λ (n : ℕ). Stopped size xs (expression ++ Needs kind.Comma ∷ expression ++ Needs kind.CloseRound ∷ []) depth n fault) open_.0 stop))
+      (subst (λ (n : ℕ). Stopped size xs (expression ++ Needs kind.Comma ∷ expression ++ Needs kind.CloseRound ∷ []) depth n fault) open_.0 stop))
 
   pub extreme_first : (c : Choice) (at inside depth : ℕ) (fault : ParseFault) → depth < 64 → kind_at xs at ≡ Some (choice_kind c) → Needed size xs kind.OpenRound (at + 1) (Ok inside)
       → ReadsClosed size xs kind.Comma (depth + 1) inside (Err fault) → Stopped size xs (Value ∷ []) depth at fault
@@ -284,8 +290,8 @@ module _ (size : ℕ) (xs : List Lexeme) where
       → ReadsClosed size xs kind.Comma (depth + 1) inside (Ok (a, behind)) → ReadsClosed size xs kind.CloseRound (depth + 1) behind (Err fault) → Stopped size xs (Value ∷ []) depth at fault
   extreme_second c at inside behind depth a fault limited is open_ first stop = pair_stop c at inside depth fault limited is open_
       (stop_after size xs (expression ++ Needs kind.Comma ∷ expression ++ Needs kind.CloseRound ∷ []) (expression ++ Needs kind.CloseRound ∷ []) depth inside behind fault
-        (went_frame size xs (expression ++ Needs kind.Comma ∷ []) [] (expression ++ Needs kind.CloseRound ∷ []) depth inside behind (omega arith) refl (first.0 (1 + depth) (omega arith)))
-        (stop depth (omega arith)))
+      (went_frame size xs (expression ++ Needs kind.Comma ∷ []) [] (expression ++ Needs kind.CloseRound ∷ []) depth inside behind (omega arith) refl (first.0 (1 + depth) (omega arith)))
+      (stop depth (omega arith)))
 
   -- a stop behind abs
   single_stop : (at depth : ℕ) (fault : ParseFault) → depth ≤ 64 → kind_at xs at ≡ Some kind.Abs → Stopped size xs (Single ∷ []) depth (at + 1) fault → Stopped size xs (Value ∷ []) depth at fault
@@ -303,7 +309,7 @@ module _ (size : ℕ) (xs : List Lexeme) where
       → ReadsClosed size xs kind.CloseRound (depth + 1) inside (Err fault) → Stopped size xs (Value ∷ []) depth at fault
   absolute_stop at inside depth fault limited is open_ stop = single_stop at depth fault (omega arith) is
       (took_stop size xs Single (expression ++ Needs kind.CloseRound ∷ []) kind.OpenRound depth (at + 1) fault (stands xs (at + 1) kind.OpenRound open_.1) refl (omega arith) refl refl
-        (subst (λ (n : ℕ). Stopped size xs (expression ++ Needs kind.CloseRound ∷ []) depth n fault) open_.0 (stop depth (omega arith))))
+      (subst (λ (n : ℕ). Stopped size xs (expression ++ Needs kind.CloseRound ∷ []) depth n fault) open_.0 (stop depth (omega arith))))
 
   pub absolute_read : (at inside next depth : ℕ) (e : Expr) → depth < 64 → kind_at xs at ≡ Some kind.Abs → Needed size xs kind.OpenRound (at + 1) (Ok inside)
       → ReadsClosed size xs kind.CloseRound (depth + 1) inside (Ok (e, next)) → ReadsAs Operand size xs (Value ∷ []) depth at (Ok (expr.Abs e, next))
@@ -313,13 +319,14 @@ module _ (size : ℕ) (xs : List Lexeme) where
       let y = stands xs read.1.mid kind.CloseRound read.1.closed in
       let inside_is = open_.0 in let forward = read.1.forward in let behind = read.1.behind in
       let whole : piece xs at next ≡ x.token ∷ o.token ∷ piece xs inside read.1.mid ++ y.token ∷ [] =
-        ap (piece xs at) behind ∙ piece_snoc xs at read.1.mid y.token y.is (omega arith)
-        ∙ ap (λ (ys : List Lexeme). ys ++ y.token ∷ []) (piece_cons xs at read.1.mid x.token x.is (omega arith) ∙ ap (λ (ys : List Lexeme). x.token ∷ ys) (piece_cons xs (at + 1) read.1.mid o.token o.is (omega arith)
-          ∙ ap (λ (n : ℕ). o.token ∷ piece xs n read.1.mid) (sym inside_is))) in
-      (took size xs Value (Single ∷ []) [] kind.Abs depth at next x refl (omega arith) refl refl
-        (took size xs Single (expression ++ Needs kind.CloseRound ∷ []) [] kind.OpenRound depth (at + 1) next o refl (omega arith) refl refl
-          (subst (λ (n : ℕ). Went size xs (expression ++ Needs kind.CloseRound ∷ []) [] depth n next) inside_is (read.0 depth (omega arith)))),
-       subst (λ (ys : List Lexeme). Spells (Operand (expr.Abs e)) ys) (sym whole) (absolute x.token o.token y.token x.kind o.kind read.1.spelled y.kind))
+      ap (piece xs at) behind ∙ piece_snoc xs at read.1.mid y.token y.is (omega arith)
+      ∙ ap (λ (ys : List Lexeme). ys ++ y.token ∷ []) (piece_cons xs at read.1.mid x.token x.is (omega arith) ∙ ap (λ (ys : List Lexeme). x.token ∷ ys) (piece_cons xs (at + 1) read.1.mid o.token o.is (omega arith)
+      ∙ ap (λ (n : ℕ). o.token ∷ piece xs n read.1.mid) (sym inside_is))) in (
+        took size xs Value (Single ∷ []) [] kind.Abs depth at next x refl (omega arith) refl refl
+            (took size xs Single (expression ++ Needs kind.CloseRound ∷ []) [] kind.OpenRound depth (at + 1) next o refl (omega arith) refl refl
+            (subst (λ (n : ℕ). Went size xs (expression ++ Needs kind.CloseRound ∷ []) [] depth n next) inside_is (read.0 depth (omega arith)))),
+        subst (λ (ys : List Lexeme). Spells (Operand (expr.Abs e)) ys) (sym whole) (absolute x.token o.token y.token x.kind o.kind read.1.spelled y.kind),
+      )
 
   pub operand_end : (at depth : ℕ) → kind_at xs at ≡ None → Stopped size xs (Value ∷ []) depth at (Syntax (offset_at size xs at))
   operand_end at depth none_ = refused size xs Value depth at (ap (refuses Value) none_)

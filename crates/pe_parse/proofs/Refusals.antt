@@ -1,5 +1,5 @@
 -- Where a token is refused, no body begins with the tokens up to and including it.
-use Rattle.std.proofs.Common.{slice_get, subst, zero, ◌≡◌, ℕ, ◌+◌, ◌<◌, ◌≤◌, suc, List, [], ◌∷◌, ◌++◌, length, take, Option, Some, None, Bool, true, false, cond, refl, sym, ◌∙◌, ap, arith}
+use Rattle.std.proofs.Common.{slice_get, subst, zero, ◌≡◌, ℕ, ◌<◌, ◌≤◌, suc, List, [], ◌∷◌, ◌++◌, length, take, Option, Some, None, Bool, true, false, cond, refl, sym, ◌∙◌, ap, arith}
 use Rattle.std.specs.Prelude.{nat_le}
 use Rattle.pe_parse.specs.declared.fault.ParseFault.{ParseFault}
 use Rattle.pe_parse.specs.declared.fault.ParseFault.TheVariants.{Syntax, TooDeep, TooMany, Literal, Memory}
@@ -7,7 +7,7 @@ use Rattle.pe_parse.specs.Lexemes.{Lexeme, offset_at}
 use Rattle.pe_parse.specs.Places.{Frame, Sequence, step, ends, nesting, are_counted}
 use Rattle.pe_parse.specs.Faults.{is_too_large, passed_limit, or_fault, at_token, fault_from}
 use Rattle.pe_parse.specs.Reading.{IsFault}
-use Rattle.pe_parse.specs.Bodies.{Begins, NoBody, Passed, Refused, WithinLimits, open_next, open_after}
+use Rattle.pe_parse.specs.Bodies.{NoBody, Passed, Refused, WithinLimits, open_next, open_after}
 use Rattle.pe_parse.proofs.Completes.{begins_body}
 use Rattle.pe_parse.proofs.Accepts.{accepts, on_step, body_accepted}
 
@@ -72,15 +72,19 @@ stuck_step : (size : ℕ) (fs : List Frame) (x : Lexeme) (xs : List Lexeme) (at 
 stuck_step size fs x xs at None opens later h =
     let same : x.at ≡ at = cc in
     record {
-      number = 0; within = omega arith; is = sym same;
+      number = 0;
+      within = omega arith;
+      is = sym same;
       refused = λ over more. ap (λ (o : Option (List Frame)). on_step o (λ hs. accepts hs more)) opens;
       whole = ap (λ (o : Option (List Frame)). on_step o (λ hs. accepts hs xs)) opens;
-      before = λ k below. absurd (omega arith); frames = fs; opens = refl;
+      before = λ k below. absurd (omega arith);
+      frames = fs;
+      opens = refl;
     }
 stuck_step size fs x xs at (Some gs) opens later h =
     let none_ = no_limit (passed_limit gs x) (fault_from size gs xs) at (no_syntax_limit gs x at (nat_le (nesting gs) 64) (are_counted gs) (is_too_large x.kind x.bytes)) h in
     more_stuck size fs gs x xs at opens none_ (later gs (later_fault (passed_limit gs x) (fault_from size gs xs) at
-      (no_syntax_limit gs x at (nat_le (nesting gs) 64) (are_counted gs) (is_too_large x.kind x.bytes)) h))
+    (no_syntax_limit gs x at (nat_le (nesting gs) 64) (are_counted gs) (is_too_large x.kind x.bytes)) h))
 
 stuck_at : (size : ℕ) (fs : List Frame) (xs : List Lexeme) (at : ℕ) → fault_from size fs xs ≡ Some (Syntax at) → Stuck size fs xs at
 stuck_at size fs [] at h = end_stuck size fs at (ends fs) refl h
@@ -125,8 +129,13 @@ here_or_later size fs gs x xs fault (Some f) opens limit later h =
 here_or_later size fs gs x xs fault None opens limit later h =
     let over = later h in
     record {
-      number = suc over.number; token = over.token; is = over.is; before = more_within fs gs x xs over.number opens limit over.before; frames = over.frames;
-      opens = ap (λ (o : Option (List Frame)). open_next o (λ gs. open_after gs (take (suc over.number) xs))) opens ∙ over.opens; passes = over.passes;
+      number = suc over.number;
+      token = over.token;
+      is = over.is;
+      before = more_within fs gs x xs over.number opens limit over.before;
+      frames = over.frames;
+      opens = ap (λ (o : Option (List Frame)). open_next o (λ gs. open_after gs (take (suc over.number) xs))) opens ∙ over.opens;
+      passes = over.passes;
     }
 
 over_step : (size : ℕ) (fs : List Frame) (x : Lexeme) (xs : List Lexeme) (fault : ParseFault) (o : Option (List Frame)) → ((at : ℕ) → fault ≡ Syntax at → ⊥) → step fs x.kind ≡ o

@@ -106,7 +106,7 @@ took_on : (size : ℕ) (xs : List Lexeme) (f : Frame) (g : List Frame) (k : Toke
 took_on size xs f g k depth at fs st takes_g fits counted small behind =
     let nested = behind.nested in
     takes size xs at st.token f g fs None st.is (ap (move f) st.kind ∙ takes_g)
-      (limit_none (g ++ fs) st.token (omega (arith, nesting-append g fs)) (counted-append g fs counted ∙ behind.counted) (ap (λ (k : TokenKind). is_too_large k st.token.bytes) st.kind ∙ small))
+    (limit_none (g ++ fs) st.token (omega (arith, nesting-append g fs)) (counted-append g fs counted ∙ behind.counted) (ap (λ (k : TokenKind). is_too_large k st.token.bytes) st.kind ∙ small))
     ∙ ap (λ (n : ℕ). fault_from size (g ++ fs) (drop n xs)) (next_is at)
 
 pub took : (size : ℕ) (xs : List Lexeme) (f : Frame) (g left : List Frame) (k : TokenKind) (depth at next : ℕ) (st : Stands xs at k) → move f k ≡ Takes g → nesting g + depth ≤ 64 → are_counted g ≡ true
@@ -142,7 +142,7 @@ pub too_many : (size : ℕ) (xs : List Lexeme) (f : Frame) (g : List Frame) (k :
 too_many size xs f g k depth at st takes_g fits counted = λ fs behind.
     let nested = behind.nested in
     takes size xs at st.token f g fs (Some (TooMany st.token.at)) st.is (ap (move f) st.kind ∙ takes_g)
-      (limit_many (g ++ fs) st.token (omega (arith, nesting-append g fs)) (uncounted-append g fs counted))
+    (limit_many (g ++ fs) st.token (omega (arith, nesting-append g fs)) (uncounted-append g fs counted))
     ∙ ap (λ (n : ℕ). Some (TooMany n)) (offset_is size xs at st.token st.is)
 
 -- a number is too large
@@ -151,7 +151,7 @@ pub too_large : (size : ℕ) (xs : List Lexeme) (f : Frame) (g : List Frame) (k 
 too_large size xs f g k depth at st takes_g fits counted large = λ fs behind.
     let nested = behind.nested in
     takes size xs at st.token f g fs (Some (Literal st.token.at)) st.is (ap (move f) st.kind ∙ takes_g)
-      (limit_literal (g ++ fs) st.token (omega (arith, nesting-append g fs)) (counted-append g fs counted ∙ behind.counted) (ap (λ (k : TokenKind). is_too_large k st.token.bytes) st.kind ∙ large))
+    (limit_literal (g ++ fs) st.token (omega (arith, nesting-append g fs)) (counted-append g fs counted ∙ behind.counted) (ap (λ (k : TokenKind). is_too_large k st.token.bytes) st.kind ∙ large))
     ∙ ap (λ (n : ℕ). Some (Literal n)) (offset_is size xs at st.token st.is)
 
 -- what a frame does with a token or the end
@@ -223,13 +223,13 @@ stop_after size xs f g depth at mid fault a stop = λ fs behind. subst (λ (o : 
 -- a part, with frames behind it that stay
 pub went_frame : (size : ℕ) (xs : List Lexeme) (f g es : List Frame) (depth at next : ℕ) → nesting es + depth ≤ 64 → are_counted es ≡ true → Went size xs f g (nesting es + depth) at next → Went size xs (f ++ es) (g ++ es) depth at next
 went_frame size xs f g es depth at next fits counted went = record {
-    forward = went.forward;
-    within = went.within;
-    on = λ fs behind.
+  forward = went.forward;
+  within = went.within;
+  on = λ fs behind.
       ap (λ (fr : List Frame). fault_from size fr (drop at xs)) (append_assoc f es fs)
       ∙ went.on (es ++ fs) (behind_more depth es fs fits counted behind)
       ∙ ap (λ (fr : List Frame). fault_from size fr (drop next xs)) (sym (append_assoc g es fs));
-  }
+}
 
 pub stop_frame : (size : ℕ) (xs : List Lexeme) (f es : List Frame) (depth at : ℕ) (fault : ParseFault) → nesting es + depth ≤ 64 → are_counted es ≡ true → Stopped size xs f (nesting es + depth) at fault → Stopped size xs (f ++ es) depth at fault
 stop_frame size xs f es depth at fault fits counted stop = λ fs behind.
@@ -278,7 +278,7 @@ needed size xs k depth at next small limited h =
     let moved_on = h.0 in
     let inside = at_within xs at st.token st.is in
     subst (λ (n : ℕ). Went size xs (Needs k ∷ []) [] depth at n) (sym moved_on)
-      (took size xs (Needs k) [] [] k depth at (at + 1) st (needs_takes k) (omega arith) refl (small st.token.bytes) (went_here size xs [] depth (at + 1) (omega arith)))
+    (took size xs (Needs k) [] [] k depth at (at + 1) st (needs_takes k) (omega arith) refl (small st.token.bytes) (went_here size xs [] depth (at + 1) (omega arith)))
 
 refuses_other : (k : TokenKind) (o : Option TokenKind) → (o ≡ Some k → ⊥) → refuses (Needs k) o ≡ true
 refuses_other k None differ = refl

@@ -1,5 +1,5 @@
 -- What it means that a body begins with tokens.
-use Rattle.std.specs.Prelude.{ℕ, ◌≡◌, ◌+◌, ◌<◌, ◌≤◌, List, [], ◌∷◌, ◌++◌, length, take, slice_get, suc, Option, Some, None}
+use Rattle.std.specs.Prelude.{ℕ, ◌≡◌, ◌<◌, ◌≤◌, List, [], ◌∷◌, ◌++◌, length, take, slice_get, suc, Option, Some, None}
 use Rattle.pe_parse.specs.Lexemes.{Lexeme, offset_at}
 use Rattle.pe_parse.specs.Statements.{Statements}
 use Rattle.pe_parse.specs.Grammar.{All, Spells}

@@ -94,7 +94,7 @@ MayFollow _ links = Unit {0}
 pub data Names : List Lexeme → Name → Type 0 where
   plain : (x : Lexeme) → x.kind ≡ kind.Word → Names (x ∷ []) (record { first = x.bytes; second = None; at = x.at })
   dotted : (x y z : Lexeme) → x.kind ≡ kind.Word → y.kind ≡ kind.Dot → z.kind ≡ kind.Word
-    → Names (x ∷ y ∷ z ∷ []) (record { first = x.bytes; second = Some z.bytes; at = x.at })
+      → Names (x ∷ y ∷ z ∷ []) (record { first = x.bytes; second = Some z.bytes; at = x.at })
 
 -- The tokens spell the phrase.
 pub data Spells : Phrase → List Lexeme → Type 0 where
@@ -103,26 +103,26 @@ pub data Spells : Phrase → List Lexeme → Type 0 where
   prefixed : (p : Prefix) (x : Lexeme) {xs : List Lexeme} {e : Expr} → x.kind ≡ prefix_kind p → Spells (Operand e) xs → Spells (Operand (expr.Unary p e)) (x ∷ xs)
   group : (x y : Lexeme) {xs : List Lexeme} {e : Expr} → x.kind ≡ kind.OpenRound → Spells (Chained Disjunction e) xs → y.kind ≡ kind.CloseRound → Spells (Operand e) (x ∷ xs ++ y ∷ [])
   extreme : (c : Choice) (x o y z : Lexeme) {xs ys : List Lexeme} {a b : Expr} → x.kind ≡ choice_kind c → o.kind ≡ kind.OpenRound → Spells (Chained Disjunction a) xs → y.kind ≡ kind.Comma
-    → Spells (Chained Disjunction b) ys → z.kind ≡ kind.CloseRound → Spells (Operand (expr.Extreme c a b)) (x ∷ o ∷ xs ++ y ∷ ys ++ z ∷ [])
+      → Spells (Chained Disjunction b) ys → z.kind ≡ kind.CloseRound → Spells (Operand (expr.Extreme c a b)) (x ∷ o ∷ xs ++ y ∷ ys ++ z ∷ [])
   absolute : (x o y : Lexeme) {xs : List Lexeme} {e : Expr} → x.kind ≡ kind.Abs → o.kind ≡ kind.OpenRound → Spells (Chained Disjunction e) xs → y.kind ≡ kind.CloseRound
-    → Spells (Operand (expr.Abs e)) (x ∷ o ∷ xs ++ y ∷ [])
+      → Spells (Operand (expr.Abs e)) (x ∷ o ∷ xs ++ y ∷ [])
   -- a chain of one operand is that operand
   single : (r : Rank) {xs : List Lexeme} {e : Expr} → Spells (operand_of r e) xs → Spells (Chained r e) xs
   chain : (r : Rank) {xs ys : List Lexeme} (e : Expr) {link : Sign × Expr} {links : List (Sign × Expr)} → Spells (operand_of r e) xs → Spells (Linked r (link ∷ links)) ys
-    → Spells (Chained r (expr.Chain e (link ∷ links))) (xs ++ ys)
+      → Spells (Chained r (expr.Chain e (link ∷ links))) (xs ++ ys)
   linked_none : (r : Rank) → Spells (Linked r []) []
   linked : (r : Rank) (x : Lexeme) (s : Sign) {xs ys : List Lexeme} {e : Expr} {links : List (Sign × Expr)} → sign_of x.kind ≡ Some s → rank_of s ≡ r → MayFollow r links
-    → Spells (operand_of r e) xs → Spells (Linked r links) ys → Spells (Linked r ((s, e) ∷ links)) (x ∷ xs ++ ys)
+      → Spells (operand_of r e) xs → Spells (Linked r links) ys → Spells (Linked r ((s, e) ∷ links)) (x ∷ xs ++ ys)
   listed_none : Spells (Listed []) []
   listed : (x : Lexeme) {xs ys : List Lexeme} {e : Expr} {es : List Expr} → x.kind ≡ kind.Comma → Spells (Chained Disjunction e) xs → Spells (Listed es) ys → Spells (Listed (e ∷ es)) (x ∷ xs ++ ys)
   assigns : (y z : Lexeme) {xs ys : List Lexeme} {n : Name} {e : Expr} → Names xs n → y.kind ≡ kind.Assign → Spells (Chained Disjunction e) ys → z.kind ≡ kind.Semicolon
-    → Spells (One (Assigns n e)) (xs ++ y ∷ ys ++ z ∷ [])
+      → Spells (One (Assigns n e)) (xs ++ y ∷ ys ++ z ∷ [])
   marks : (t : Trigger) (x y z : Lexeme) → x.kind ≡ trigger_kind t → y.kind ≡ kind.Word → z.kind ≡ kind.Semicolon → Spells (One (Marks t (record { text = y.bytes; at = y.at }))) (x ∷ y ∷ z ∷ [])
   prints : (x z : Lexeme) {xs ys : List Lexeme} {e : Expr} {es : List Expr} → x.kind ≡ kind.Print → Spells (Chained Disjunction e) xs → Spells (Listed es) ys → z.kind ≡ kind.Semicolon
-    → Spells (One (Prints (e ∷ es))) (x ∷ xs ++ ys ++ z ∷ [])
+      → Spells (One (Prints (e ∷ es))) (x ∷ xs ++ ys ++ z ∷ [])
   chooses : (x o y : Lexeme) {xs ys : List Lexeme} {e : Expr} {ss : Statements} → x.kind ≡ kind.If → Spells (Chained Disjunction e) xs → o.kind ≡ kind.OpenCurly → Spells (All ss) ys → y.kind ≡ kind.CloseCurly
-    → Spells (One (Chooses e ss)) (x ∷ xs ++ o ∷ ys ++ y ∷ [])
+      → Spells (One (Chooses e ss)) (x ∷ xs ++ o ∷ ys ++ y ∷ [])
   chooses_else : (x o y w p z : Lexeme) {xs ys zs : List Lexeme} {e : Expr} {ss ts : Statements} → x.kind ≡ kind.If → Spells (Chained Disjunction e) xs → o.kind ≡ kind.OpenCurly → Spells (All ss) ys → y.kind ≡ kind.CloseCurly
-    → w.kind ≡ kind.Else → p.kind ≡ kind.OpenCurly → Spells (All ts) zs → z.kind ≡ kind.CloseCurly → Spells (One (ChoosesElse e ss ts)) (x ∷ xs ++ o ∷ ys ++ y ∷ w ∷ p ∷ zs ++ z ∷ [])
+      → w.kind ≡ kind.Else → p.kind ≡ kind.OpenCurly → Spells (All ts) zs → z.kind ≡ kind.CloseCurly → Spells (One (ChoosesElse e ss ts)) (x ∷ xs ++ o ∷ ys ++ y ∷ w ∷ p ∷ zs ++ z ∷ [])
   nothing : Spells (All Nothing) []
   then_more : {xs ys : List Lexeme} {s : Statement} {ss : Statements} → Spells (One s) xs → Spells (All ss) ys → Spells (All (Then s ss)) (xs ++ ys)

@@ -40,14 +40,28 @@ impl<'a> Reader<'a> {
         };
         let behind = match self.needs(TokenKind::Dot, at + 1) {
             Ok(behind) => behind,
-            Err(_) => return Ok((Name { first, second: None, at: start }, at + 1)),
+            Err(_) => return Ok((
+                Name {
+                    first,
+                    second: None,
+                    at: start,
+                },
+                at + 1,
+            )),
         };
         let next = match self.needs(TokenKind::Word, behind) {
             Ok(next) => next,
             Err(fault) => return Err(fault),
         };
         match self.word(behind) {
-            Ok(text) => Ok((Name { first, second: Some(text), at: start }, next)),
+            Ok(text) => Ok((
+                Name {
+                    first,
+                    second: Some(text),
+                    at: start,
+                },
+                next,
+            )),
             Err(fault) => Err(fault),
         }
     }
@@ -68,7 +82,9 @@ impl<'a> Reader<'a> {
     {
         match self.literal(at) {
             Some(value) => Ok((Expr::Number(value), at + 1)),
-            None => Err(ParseFault::Literal { at: self.offset(at) }),
+            None => Err(ParseFault::Literal {
+                at: self.offset(at),
+            }),
         }
     }
 
@@ -110,7 +126,9 @@ impl<'a> Reader<'a> {
     {
         let inside = at + 1;
         if depth >= DEEPEST {
-            return Err(ParseFault::TooDeep { at: self.offset(at) });
+            return Err(ParseFault::TooDeep {
+                at: self.offset(at),
+            });
         }
         self.closed(TokenKind::CloseRound, inside, depth + 1)
     }
@@ -124,7 +142,9 @@ impl<'a> Reader<'a> {
     {
         let behind = at + 1;
         if depth >= DEEPEST {
-            return Err(ParseFault::TooDeep { at: self.offset(at) });
+            return Err(ParseFault::TooDeep {
+                at: self.offset(at),
+            });
         }
         let (operand, next) = match self.operand(behind, depth + 1) {
             Ok(found) => found,
@@ -148,7 +168,9 @@ impl<'a> Reader<'a> {
             Err(fault) => return Err(fault),
         };
         if depth >= DEEPEST {
-            return Err(ParseFault::TooDeep { at: self.offset(at + 1) });
+            return Err(ParseFault::TooDeep {
+                at: self.offset(at + 1),
+            });
         }
         let (first, behind) = match self.closed(TokenKind::Comma, inside, depth + 1) {
             Ok(found) => found,
@@ -176,7 +198,9 @@ impl<'a> Reader<'a> {
             Err(fault) => return Err(fault),
         };
         if depth >= DEEPEST {
-            return Err(ParseFault::TooDeep { at: self.offset(at + 1) });
+            return Err(ParseFault::TooDeep {
+                at: self.offset(at + 1),
+            });
         }
         let (value, next) = match self.closed(TokenKind::CloseRound, inside, depth + 1) {
             Ok(found) => found,
@@ -195,7 +219,9 @@ impl<'a> Reader<'a> {
         ensures { ReadsAs Operand (size_of self.now) (seen self.now) (Value ∷ []) depth at result }
     {
         let Some(kind) = self.kind(at) else {
-            return Err(ParseFault::Syntax { at: self.offset(at) });
+            return Err(ParseFault::Syntax {
+                at: self.offset(at),
+            });
         };
         match kind {
             TokenKind::Number => self.number(at),
@@ -206,7 +232,9 @@ impl<'a> Reader<'a> {
             TokenKind::Abs => self.absolute(at, depth),
             TokenKind::Minus => self.prefixed(Prefix::Minus, at, depth),
             TokenKind::Not => self.prefixed(Prefix::Not, at, depth),
-            _ => Err(ParseFault::Syntax { at: self.offset(at) }),
+            _ => Err(ParseFault::Syntax {
+                at: self.offset(at),
+            }),
         }
     }
 
@@ -268,7 +296,9 @@ impl<'a> Reader<'a> {
         let mut links = Vec::new(self.alloc);
         while let Some(sign) = self.sign(rank, next) {
             if links.len() >= MOST_LINKS {
-                return Err(ParseFault::TooMany { at: self.offset(next) });
+                return Err(ParseFault::TooMany {
+                    at: self.offset(next),
+                });
             }
             let (operand, behind) = match self.tighter(rank, next + 1, depth) {
                 Ok(found) => found,

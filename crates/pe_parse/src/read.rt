@@ -39,7 +39,9 @@ fn whole_body(alloc: Global, text: &str, tokens: &[Token]) -> Result<Body, Parse
         Err(fault) => return Err(fault),
     };
     if next < tokens.len() {
-        return Err(ParseFault::Syntax { at: reader.offset(next) });
+        return Err(ParseFault::Syntax {
+            at: reader.offset(next),
+        });
     }
     Ok(body)
 }

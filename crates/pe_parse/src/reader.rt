@@ -45,7 +45,9 @@ impl<'a> Reader<'a> {
     {
         match self.kind(at) {
             Some(found) if found == kind => Ok(at + 1),
-            _ => Err(ParseFault::Syntax { at: self.offset(at) }),
+            _ => Err(ParseFault::Syntax {
+                at: self.offset(at),
+            }),
         }
     }
 
@@ -54,7 +56,11 @@ impl<'a> Reader<'a> {
         ensures { result ≡ sign_at rank (seen self.now) at }
     {
         let sign = between(self.kind(at)?)?;
-        if sign.rank() == rank { Some(sign) } else { None }
+        if sign.rank() == rank {
+            Some(sign)
+        } else {
+            None
+        }
     }
 }
 

@@ -19,7 +19,10 @@ fn fault_of_text(alloc: Global, text: &str) -> Result<Option<ParseFault>, LexFau
 #[test]
 fn characters_that_begin_no_token(rt: HostRuntime) -> Result<(), Fail> {
     for (text, at) in [("a & b", 2), ("print é;", 6), ("Print 1;", 0), ("a | b", 2)] {
-        assert_eq!(rt; fault_of_text(rt.alloc(), text), Err(LexFault::Character { at }));
+        assert_eq!(rt;
+            fault_of_text(rt.alloc(), text),
+            Err(LexFault::Character { at })
+        );
     }
     Ok(())
 }
@@ -35,17 +38,25 @@ fn tokens_that_begin_no_body(rt: HostRuntime) -> Result<(), Fail> {
         ("print;", 5),
         ("}", 0),
     ] {
-        assert_eq!(rt; fault_of_text(rt.alloc(), text), Ok(Some(ParseFault::Syntax { at })));
+        assert_eq!(rt;
+            fault_of_text(rt.alloc(), text),
+            Ok(Some(ParseFault::Syntax { at }))
+        );
     }
     Ok(())
 }
 
 #[test]
 fn limits(rt: HostRuntime) -> Result<(), Fail> {
-    let deepest = "print ((((((((((((((((((((((((((((((((((((((((((((((((((((((((((((((((1))))))))))))))))))))))))))))))))))))))))))))))))))))))))))))))));";
-    let deeper = "print (((((((((((((((((((((((((((((((((((((((((((((((((((((((((((((((((1)))))))))))))))))))))))))))))))))))))))))))))))))))))))))))))))));";
+    let deepest =
+        "print ((((((((((((((((((((((((((((((((((((((((((((((((((((((((((((((((1))))))))))))))))))))))))))))))))))))))))))))))))))))))))))))))));";
+    let deeper =
+        "print (((((((((((((((((((((((((((((((((((((((((((((((((((((((((((((((((1)))))))))))))))))))))))))))))))))))))))))))))))))))))))))))))))));";
     assert_eq!(rt; fault_of_text(rt.alloc(), deepest), Ok(None));
-    assert_eq!(rt; fault_of_text(rt.alloc(), deeper), Ok(Some(ParseFault::TooDeep { at: 70 })));
+    assert_eq!(rt;
+        fault_of_text(rt.alloc(), deeper),
+        Ok(Some(ParseFault::TooDeep { at: 70 }))
+    );
     assert_eq!(rt;
         fault_of_text(rt.alloc(), "print 1,1,1,1,1,1,1,1,1;"),
         Ok(Some(ParseFault::TooMany { at: 21 }))
@@ -54,7 +65,10 @@ fn limits(rt: HostRuntime) -> Result<(), Fail> {
         fault_of_text(rt.alloc(), "print 9223372036854775808;"),
         Ok(Some(ParseFault::Literal { at: 6 }))
     );
-    assert_eq!(rt; fault_of_text(rt.alloc(), "print 9223372036854775807;"), Ok(None));
+    assert_eq!(rt;
+        fault_of_text(rt.alloc(), "print 9223372036854775807;"),
+        Ok(None)
+    );
     Ok(())
 }
 

@@ -35,7 +35,9 @@ impl<'a> Reader<'a> {
         }
         while let Ok(behind) = self.needs(TokenKind::Comma, next) {
             if items.len() >= MOST_VALUES {
-                return Err(ParseFault::TooMany { at: self.offset(next) });
+                return Err(ParseFault::TooMany {
+                    at: self.offset(next),
+                });
             }
             let (value, after) = match self.chain(Rank::Disjunction, behind, depth) {
                 Ok(found) => found,
@@ -46,7 +48,12 @@ impl<'a> Reader<'a> {
             }
             next = after;
         }
-        Ok((Values { items: List::new(items) }, next))
+        Ok((
+            Values {
+                items: List::new(items),
+            },
+            next,
+        ))
     }
 
     fn print(&self, at: usize, depth: usize) -> Found<Stmt>
@@ -119,7 +126,9 @@ impl<'a> Reader<'a> {
             Err(fault) => return Err(fault),
         };
         if depth >= DEEPEST {
-            return Err(ParseFault::TooDeep { at: self.offset(at) });
+            return Err(ParseFault::TooDeep {
+                at: self.offset(at),
+            });
         }
         let (statements, behind) = match self.body(inside, depth + 1) {
             Ok(found) => found,

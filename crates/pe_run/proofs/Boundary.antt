@@ -7,7 +7,7 @@ use Rattle.pe_base.specs.declared.place.Place.{Place}
 use Rattle.pe_base.specs.declared.way.Way.{Way}
 use Rattle.pe_base.specs.Tree.Places.{root, bits}
 use Rattle.pe_base.specs.Tree.Curve.{digit_lists, children}
-use Rattle.pe_base.specs.Life.Kinds.{is_inside}
+use Rattle.pe_base.specs.LevelOne.Kinds.{is_inside}
 use Rattle.pe_base.specs.Steps.Faces.{Face, Touch, Turn, TurnsApart, face_on, is_on, loads, stores, corner_touches, arriving, leaving, in_corners, out_corners, child_turns, corner_turn}
 use Rattle.pe_base.proofs.Lists.{Each, Each-weaker, Each-append, Each-map, Each-all, Each-flat_map, Each-reverse, filter_none}
 use Rattle.pe_base.proofs.Tree.Mirrors.{Digits3, digit_lists_below}

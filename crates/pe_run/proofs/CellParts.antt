@@ -7,7 +7,7 @@ use Rattle.pe_base.specs.declared.place.Place.{Place}
 use Rattle.pe_base.specs.declared.event.Event.TheVariants.{EnterCell, LeaveCell}
 use Rattle.pe_base.specs.Tree.Dim.{IsDim}
 use Rattle.pe_base.specs.LevelOne.Working.{Firing, fires}
-use Rattle.pe_stacks.proofs.CornerPlaces.{corners_range}
+use Rattle.pe_stacks.proofs.CornerSlots.{corners_range}
 use Rattle.pe_run.specs.declared.walk.traversal.Traversal.{Traversal}
 use Rattle.pe_run.specs.LevelOne.{load_firings, store_firings, birth_firings, cell_firings}
 use Rattle.pe_run.specs.Walked.{load_ops, store_ops, cell_loads, cell_stores, vertex_ops, cell_ops, cell_input_of, cell_output_of}

@@ -6,7 +6,7 @@ use Rattle.std.proofs.lemmas.List.FromFn.{length-range_with_len, get_or-range_wi
 use Rattle.std.proofs.lemmas.Option.{slice_get-get_or}
 use Rattle.pe_base.specs.Tree.Dim.{IsDim}
 use Rattle.pe_base.proofs.Tree.CurveLaws.{slice_get-reverse}
-use Rattle.pe_stacks.proofs.CornerPlaces.{corners_range}
+use Rattle.pe_stacks.proofs.CornerSlots.{corners_range}
 
 pub ascending_at : (m i : ℕ) → i < m → slice_get (range_with_len 0 m) i ≡ Some i
 ascending_at m i below =

@@ -3,7 +3,7 @@ use Rattle.std.proofs.Common.{◌≡◌, ℕ, zero, suc, ◌+◌, ◌^◌, Bool,
 use Rattle.std.specs.List.{flat_map, range_with_len}
 use Rattle.pe_base.specs.declared.place.Place.{Place}
 use Rattle.pe_base.specs.Tree.Places.{corner}
-use Rattle.pe_base.specs.Life.Kinds.{is_inside}
+use Rattle.pe_base.specs.LevelOne.Kinds.{is_inside}
 use Rattle.pe_run.specs.declared.walk.traversal.Traversal.{Traversal}
 use Rattle.pe_run.specs.LevelOne.{is_first, is_last}
 use Rattle.pe_run.specs.Traffic.{Op, lends, gives_up, pushes, pops}

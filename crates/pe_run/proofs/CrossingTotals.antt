@@ -10,7 +10,7 @@ use Rattle.pe_base.specs.declared.way.Way.TheVariants.{Forward, Inverted}
 use Rattle.pe_base.specs.Tree.Places.{root, corner}
 use Rattle.pe_base.specs.Tree.Curve.{children}
 use Rattle.pe_base.specs.Steps.Faces.{steps_to, steps_from}
-use Rattle.pe_base.specs.Life.Kinds.{is_inside}
+use Rattle.pe_base.specs.LevelOne.Kinds.{is_inside}
 use Rattle.pe_base.proofs.Lists.{Each}
 use Rattle.pe_base.proofs.Tree.Ranks.{and_left, and_right}
 use Rattle.pe_run.specs.Crossed.{crossed, comes_by, goes_by, hanging_corners}

@@ -12,7 +12,7 @@ use Rattle.pe_base.specs.Tree.Ways.{way_of}
 use Rattle.pe_base.specs.Tree.Curve.{children}
 use Rattle.pe_base.specs.Steps.Around.{around, steps}
 use Rattle.pe_base.specs.Steps.Faces.{face_on, across, is_on}
-use Rattle.pe_base.specs.Life.Kinds.{is_inside}
+use Rattle.pe_base.specs.LevelOne.Kinds.{is_inside}
 use Rattle.pe_stacks.specs.Grid.{input_stack}
 use Rattle.pe_run.specs.Crossed.{crossed, comes_by, goes_by, hanging_corners}
 use Rattle.pe_run.proofs.CrossingTotals.{passes, comes_crossed, goes_crossed, is_entry, is_exit, entries, exits, outside_hang}

@@ -5,66 +5,66 @@ use Rattle.pe_stacks.specs.Corners.{CornerList, no_vertices, vertex_at, with_ver
 use Rattle.pe_run.specs.Filled.{FullFrom}
 
 module _ {X : Type 0} where
-  abbrev places : ℕ → List X → List (Option X)
-  places k vs = replicate k None ++ map Some vs
+  abbrev slots : ℕ → List X → List (Option X)
+  slots k vs = replicate k None ++ map Some vs
 
   abbrev corners_of : ℕ → List (Option X) → CornerList X
-  corners_of dim list = record { dim = dim; places = list }
+  corners_of dim list = record { dim = dim; slots = list }
 
-  put_at : (k : ℕ) (v : X) (vs : List X) → set (places (suc k) vs) k (Some v) ≡ places k (v ∷ vs)
+  put_at : (k : ℕ) (v : X) (vs : List X) → set (slots (suc k) vs) k (Some v) ≡ slots k (v ∷ vs)
   put_at zero v vs = refl
   put_at (suc k) v vs = ap (λ rest. None ∷ rest) (put_at k v vs)
 
-  take_at : (k : ℕ) (v : X) (vs : List X) → set (places k (v ∷ vs)) k None ≡ places (suc k) vs
+  take_at : (k : ℕ) (v : X) (vs : List X) → set (slots k (v ∷ vs)) k None ≡ slots (suc k) vs
   take_at zero v vs = refl
   take_at (suc k) v vs = ap (λ rest. None ∷ rest) (take_at k v vs)
 
-  none_at : (k : ℕ) (vs : List X) → get_or (places (suc k) vs) k None ≡ None
+  none_at : (k : ℕ) (vs : List X) → get_or (slots (suc k) vs) k None ≡ None
   none_at zero vs = refl
   none_at (suc k) vs = none_at k vs
 
-  some_at : (k : ℕ) (v : X) (vs : List X) → get_or (places k (v ∷ vs)) k None ≡ Some v
+  some_at : (k : ℕ) (v : X) (vs : List X) → get_or (slots k (v ∷ vs)) k None ≡ Some v
   some_at zero v vs = refl
   some_at (suc k) v vs = some_at k v vs
 
   pub full_start : (dim : ℕ) (corners : CornerList X) → corners ≡ no_vertices dim → FullFrom dim (2 ^ dim) corners
   full_start dim corners is = record {
     vertices = [];
-    places = is ∙ ap (corners_of dim) (sym (append-nil (replicate (2 ^ dim) None)));
+    slots = is ∙ ap (corners_of dim) (sym (append-nil (replicate (2 ^ dim) None)));
     count = omega arith;
   }
 
   pub full_end : (dim k : ℕ) (corners : CornerList X) → k ≡ 2 ^ dim → FullFrom dim k corners → corners ≡ no_vertices corners.dim
-  full_end dim k corners all full = go full.vertices full.places full.count
+  full_end dim k corners all full = go full.vertices full.slots full.count
     where
-      go : (vs : List X) → corners ≡ corners_of dim (places k vs) → k + length vs ≡ 2 ^ dim → corners ≡ no_vertices corners.dim
+      go : (vs : List X) → corners ≡ corners_of dim (slots k vs) → k + length vs ≡ 2 ^ dim → corners ≡ no_vertices corners.dim
       go [] is count = is ∙ ap (corners_of dim) (append-nil (replicate k None) ∙ ap (λ n. replicate n None) all) ∙ ap no_vertices (sym (ap (λ (c : CornerList X). c.dim) is))
       go (v ∷ vs) is count = absurd (omega arith)
 
   pub full_put : (dim k : ℕ) (v : X) (corners corners' : CornerList X) → corners' ≡ with_vertex corners k (Some v) → FullFrom dim (k + 1) corners → FullFrom dim k corners'
   full_put dim k v corners corners' is full = record {
     vertices = v ∷ full.vertices;
-    places = is ∙ ap (λ (c : CornerList X). with_vertex c k (Some v)) full.places ∙ ap (corners_of dim) (ap (λ n. set (places n full.vertices) k (Some v)) (add-one k) ∙ put_at k v full.vertices);
+    slots = is ∙ ap (λ (c : CornerList X). with_vertex c k (Some v)) full.slots ∙ ap (corners_of dim) (ap (λ n. set (slots n full.vertices) k (Some v)) (add-one k) ∙ put_at k v full.vertices);
     count = omega (arith, full.count);
   }
 
   pub empty_below : (dim k : ℕ) (corners : CornerList X) → FullFrom dim (k + 1) corners → vertex_at corners k ≡ None
-  empty_below dim k corners full = ap (λ (c : CornerList X). vertex_at c k) full.places ∙ ap (λ n. get_or (places n full.vertices) k None) (add-one k) ∙ none_at k full.vertices
+  empty_below dim k corners full = ap (λ (c : CornerList X). vertex_at c k) full.slots ∙ ap (λ n. get_or (slots n full.vertices) k None) (add-one k) ∙ none_at k full.vertices
 
   pub full_take : (dim k : ℕ) (corners corners' : CornerList X) → k < 2 ^ dim → corners' ≡ with_vertex corners k None → FullFrom dim k corners → FullFrom dim (k + 1) corners'
-  full_take dim k corners corners' inside is full = go full.vertices full.places full.count
+  full_take dim k corners corners' inside is full = go full.vertices full.slots full.count
     where
-      go : (vs : List X) → corners ≡ corners_of dim (places k vs) → k + length vs ≡ 2 ^ dim → FullFrom dim (k + 1) corners'
+      go : (vs : List X) → corners ≡ corners_of dim (slots k vs) → k + length vs ≡ 2 ^ dim → FullFrom dim (k + 1) corners'
       go [] same count = absurd (omega arith)
       go (v ∷ vs) same count = record {
         vertices = vs;
-        places = is ∙ ap (λ (c : CornerList X). with_vertex c k None) same ∙ ap (corners_of dim) (take_at k v vs ∙ ap (λ n. places n vs) (sym (add-one k)));
+        slots = is ∙ ap (λ (c : CornerList X). with_vertex c k None) same ∙ ap (corners_of dim) (take_at k v vs ∙ ap (λ n. slots n vs) (sym (add-one k)));
         count = omega (arith, count);
       }
 
   pub full_here : (dim k : ℕ) (corners : CornerList X) → k < 2 ^ dim → FullFrom dim k corners → IsSome (vertex_at corners k)
-  full_here dim k corners inside full = go full.vertices full.places full.count
+  full_here dim k corners inside full = go full.vertices full.slots full.count
     where
-      go : (vs : List X) → corners ≡ corners_of dim (places k vs) → k + length vs ≡ 2 ^ dim → IsSome (vertex_at corners k)
+      go : (vs : List X) → corners ≡ corners_of dim (slots k vs) → k + length vs ≡ 2 ^ dim → IsSome (vertex_at corners k)
       go [] same count = absurd (omega arith)
       go (v ∷ vs) same count = subst IsSome (sym (ap (λ (c : CornerList X). vertex_at c k) same ∙ some_at k v vs)) (search rules)

@@ -4,12 +4,13 @@ use Rattle.std.proofs.lemmas.List.{append-nil, length-append}
 use Rattle.std.proofs.lemmas.List.Elements.{filter-append}
 use Rattle.pe_base.specs.declared.place.Place.{Place}
 use Rattle.pe_base.specs.declared.way.Way.{Way}
+use Rattle.pe_base.specs.Tree.Ways.{opposite}
 use Rattle.pe_base.specs.Steps.Around.{is_corner, around, steps}
 use Rattle.pe_base.specs.Tree.Curve.{children, order}
 use Rattle.pe_base.specs.Tree.Places.{root, is_same}
 use Rattle.pe_base.specs.Steps.Faces.{steps_to, steps_from}
 use Rattle.pe_base.proofs.Lists.{reverse-cons, filter-reverse}
-use Rattle.pe_base.proofs.Tree.Children.{opposite, reverse-children}
+use Rattle.pe_base.proofs.Tree.Children.{reverse-children}
 
 module _ {X : Type 0} where
   steps_snoc : (ws : List X) (y x : X) → steps ((ws ++ y ∷ []) ++ x ∷ []) ≡ steps (ws ++ y ∷ []) ++ (y, x) ∷ []

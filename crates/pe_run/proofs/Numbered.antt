@@ -13,7 +13,7 @@ use Rattle.pe_base.specs.Tree.Curve.{children}
 use Rattle.pe_base.specs.Tree.Ways.{way_of}
 use Rattle.pe_stacks.specs.Holdings.{Holdings, Stack, new_stack, new_holdings, stack_at, CountsWithin}
 use Rattle.pe_stacks.specs.Grid.{cell_input_stack}
-use Rattle.pe_stacks.proofs.CornerPlaces.{corners_range}
+use Rattle.pe_stacks.proofs.CornerSlots.{corners_range}
 use Rattle.pe_run.specs.declared.scenario.Scenario.{Scenario}
 use Rattle.pe_run.specs.declared.walk.traversal.Traversal.{Traversal}
 use Rattle.pe_run.specs.Ready.{after}

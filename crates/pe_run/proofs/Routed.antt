@@ -12,7 +12,7 @@ use Rattle.pe_base.specs.Tree.Dim.{IsDim}
 use Rattle.pe_base.specs.Tree.Places.{root, corner, IsCellPlace, IsInside}
 use Rattle.pe_base.specs.Tree.Curve.{children, order}
 use Rattle.pe_base.specs.Steps.Faces.{steps_to, steps_from}
-use Rattle.pe_base.specs.Life.Kinds.{is_inside}
+use Rattle.pe_base.specs.LevelOne.Kinds.{is_inside}
 use Rattle.pe_base.specs.Steps.Routes.{stack_in, stack_out}
 use Rattle.pe_base.proofs.Lists.{Each, Each-In}
 use Rattle.pe_base.proofs.Tree.Ranks.{and_left, and_right, same_list}
@@ -20,7 +20,7 @@ use Rattle.pe_base.proofs.Steps.InnerVertices.{corner_on_grid}
 use Rattle.pe_access.specs.declared.route.Route.{Route}
 use Rattle.pe_access.specs.States.{route_of}
 use Rattle.pe_walk.proofs.Unwalked.{contains_in}
-use Rattle.pe_walk.proofs.Steps.{zeros_behind}
+use Rattle.pe_base.proofs.Faces.Bridge.{zeros_behind}
 use Rattle.pe_walk.proofs.Trees.{place_is_cell, zeros_read}
 use Rattle.pe_run.specs.Crossed.{comes_by, goes_by}
 use Rattle.pe_run.specs.Walked.{stacks_of, is_stream}

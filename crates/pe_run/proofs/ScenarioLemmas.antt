@@ -14,7 +14,7 @@ use Rattle.pe_base.specs.declared.event.Event.{Event}
 use Rattle.pe_base.specs.Acts.Events.{number_of, is_among}
 use Rattle.pe_run.specs.declared.trace.Trace.{Trace}
 use Rattle.pe_run.specs.Trace.{traces}
-use Rattle.pe_run.specs.Scenario.{is_known, all_known, next_event, events_after, document_of, built_form, scenario_limit, Scene, form_or_unbuilt, scene_in, scene_of}
+use Rattle.pe_run.specs.Scenario.{is_known, all_known, next_event, events_after, document_of, built_form, scenario_limit, ScenarioView, form_or_unbuilt, scenario_in, scenario_of}
 
 -- all keys of some entries are known
 pub all_known-entries : (es : List (String Global × Value)) → list_all (λ key. is_known (string_bytes key)) (map (λ e. e.0) es) ≡ all_known (members_view es)
@@ -49,13 +49,13 @@ document_of-text bytes r read known =
     ] refl
 
 -- bytes within the limit are read by their document
-pub scene_of-document : (bytes : List ℕ) (r : Option Members) → length bytes ≤ scenario_limit → document_of bytes ≡ r → scene_of bytes ≡ scene_in r
-unfolding scene_of
-scene_of-document bytes r small is =
-    rw (le-ltb scenario_limit (length bytes) small) (ap scene_in is)
+pub scenario_of-document : (bytes : List ℕ) (r : Option Members) → length bytes ≤ scenario_limit → document_of bytes ≡ r → scenario_of bytes ≡ scenario_in r
+unfolding scenario_of
+scenario_of-document bytes r small is =
+    rw (le-ltb scenario_limit (length bytes) small) (ap scenario_in is)
 
 -- a document that has the form, and one that has not
-pub scene_of-form : (bytes : List ℕ) (members : Members) (r : Option Scene) → length bytes ≤ scenario_limit → IsUtf8 bytes → parse_document bytes ≡ Some members
-    → r ≡ built_form members → scene_of bytes ≡ form_or_unbuilt r
-scene_of-form bytes members r small text read form =
-    scene_of-document bytes (Some members) small (document_of-text bytes (Some members) (λ _. read) (inr text)) ∙ sym (ap form_or_unbuilt form)
+pub scenario_of-form : (bytes : List ℕ) (members : Members) (r : Option ScenarioView) → length bytes ≤ scenario_limit → IsUtf8 bytes → parse_document bytes ≡ Some members
+    → r ≡ built_form members → scenario_of bytes ≡ form_or_unbuilt r
+scenario_of-form bytes members r small text read form =
+    scenario_of-document bytes (Some members) small (document_of-text bytes (Some members) (λ _. read) (inr text)) ∙ sym (ap form_or_unbuilt form)

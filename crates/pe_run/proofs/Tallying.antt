@@ -6,7 +6,7 @@ use Rattle.pe_base.specs.declared.event.Event.{Event}
 use Rattle.pe_base.specs.declared.event.Event.TheVariants.{TouchVertexFirstTime, TouchVertexLastTime, CreateInnerVertex, CreateHangingVertex, DestroyHangingVertex, CreateCell, EnterCell, LeaveCell}
 use Rattle.pe_base.specs.Tree.Places.{corner, root}
 use Rattle.pe_base.specs.Acts.Events.{number_of}
-use Rattle.pe_base.specs.Life.Kinds.{is_inside}
+use Rattle.pe_base.specs.LevelOne.Kinds.{is_inside}
 use Rattle.pe_base.specs.LevelOne.Working.{Firing, fires}
 use Rattle.pe_run.specs.declared.walk.traversal.Traversal.{Traversal}
 use Rattle.pe_run.specs.LevelOne.{is_first, is_last, load_firings, store_firings, cell_firings, count_of}

@@ -10,7 +10,7 @@ use Rattle.pe_base.specs.Tree.Curve.{children}
 use Rattle.pe_base.specs.Acts.Events.{number_of}
 use Rattle.pe_base.specs.Tree.Ways.{way_of}
 use Rattle.pe_base.specs.LevelOne.Working.{Firing, fires}
-use Rattle.pe_base.specs.LevelOne.Traces.{tally_line}
+use Rattle.pe_base.specs.Lines.{tally_line}
 use Rattle.pe_stacks.specs.Holdings.{Holdings}
 use Rattle.pe_run.specs.declared.walk.traversal.Traversal.{Traversal}
 use Rattle.pe_run.specs.LevelOne.{load_firings, cell_firings, traversal_firings, count_of, tally_of}

@@ -6,7 +6,7 @@ use Rattle.std.proofs.lemmas.Bool.Decides.{eqb_tells}
 use Rattle.std.proofs.lemmas.Grind.{flat_map-append}
 use Rattle.pe_io.proofs.Appending.{take-member, split-member}
 use Rattle.pe_stacks.specs.Holdings.{Holdings, Stack, items_at, stack_count, len_at, pushed, popped, CountsWithin, RaisesCounts}
-use Rattle.pe_stacks.proofs.Counts.{raises_none, raises_more, raises-lent, raises-given_up, raises-pushed, raises-popped}
+use Rattle.pe_stacks.proofs.Raising.{raises_none, raises_more, raises-lent, raises-given_up, raises-pushed, raises-popped}
 use Rattle.pe_stacks.proofs.StackAt.{stack_count-pushed, stack_at-pushed, stack_at-pushed_other, stack_count-popped, stack_at-popped, stack_at-popped_other}
 use Rattle.pe_run.proofs.Sums.{count_by-append}
 use Rattle.pe_run.specs.Traffic.{Op, lends, gives_up, pushes, pops, is_lend, is_give_up, is_push_on, is_pop_from, takes_out, puts_back, Does, DoesAll, Counted}

@@ -8,10 +8,10 @@ use Rattle.std.proofs.lemmas.Bool.Decides.{eqb_tells, leb_tells}
 use Rattle.pe_base.specs.declared.place.Place.{Place}
 use Rattle.pe_base.specs.Tree.Places.{corner, root, moved, bits}
 use Rattle.pe_base.specs.Tree.Curve.{children}
-use Rattle.pe_base.specs.Tree.Ways.{way_of}
+use Rattle.pe_base.specs.Tree.Ways.{way_of, opposite}
 use Rattle.pe_base.specs.Steps.Faces.{steps_to, steps_from}
 use Rattle.pe_base.proofs.Lists.{Each, Each-weaker, reverse-cons}
-use Rattle.pe_base.proofs.Tree.Children.{opposite, reverse-children}
+use Rattle.pe_base.proofs.Tree.Children.{reverse-children}
 use Rattle.pe_stacks.specs.Holdings.{Holdings, Stack, new_stack, new_holdings, len_at}
 use Rattle.pe_run.specs.declared.walk.traversal.Traversal.{Traversal}
 use Rattle.pe_run.specs.Traffic.{lends, gives_up, pushes, pops, is_push_on, is_pop_from, DoesAll}

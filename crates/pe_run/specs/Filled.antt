@@ -2,8 +2,8 @@
 use Rattle.std.specs.Prelude.{◌≡◌, ℕ, ◌+◌, ◌^◌, List, ◌++◌, map, length, replicate, Some, None}
 use Rattle.pe_stacks.specs.Corners.{CornerList}
 
--- the places from a number on are full, and those before it empty
+-- the slots from a number on are full, and those before it empty
 pub record FullFrom {X : Type 0} (dim first : ℕ) (corners : CornerList X) : Type 0 where
   pub vertices : List X
-  pub places : corners ≡ record { dim = dim; places = replicate first None ++ map Some vertices }
+  pub slots : corners ≡ record { dim = dim; slots = replicate first None ++ map Some vertices }
   pub count : first + length vertices ≡ 2 ^ dim

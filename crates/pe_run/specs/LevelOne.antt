@@ -11,7 +11,7 @@ use Rattle.pe_base.specs.Tree.Ways.{way_of}
 use Rattle.pe_base.specs.Tree.Curve.{children}
 use Rattle.pe_base.specs.Acts.Events.{number_of}
 use Rattle.pe_base.specs.Steps.Faces.{steps_to, steps_from}
-use Rattle.pe_base.specs.Life.Kinds.{is_inside}
+use Rattle.pe_base.specs.LevelOne.Kinds.{is_inside}
 use Rattle.pe_base.specs.LevelOne.Working.{Firing, fires}
 
 -- no cell comes before this one around the vertex; none comes after it

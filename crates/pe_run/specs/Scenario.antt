@@ -7,8 +7,8 @@ use Rattle.pe_base.specs.declared.event.Event.{Event}
 use Rattle.pe_base.specs.Acts.Events.{event_named, is_among}
 
 -- what a scenario says
-pub record Scene : Type 0 where
-  pub axes : ℕ
+pub record ScenarioView : Type 0 where
+  pub dim : ℕ
   pub traversals : ℕ
   pub traced : Event → Bool
 
@@ -60,25 +60,25 @@ events_in None = Some []
 events_in (Some value) = option_and_then (events_after []) (as_array value)
 
 -- a document of the form that is built: `dim` is from 2 to 4, `traversals` from 1 to 1000, `trace` an array of events
-unfoldable pub built_form : Members → Option Scene
+unfoldable pub built_form : Members → Option ScenarioView
 built_form members =
     if all_known members then option_and_then
-    (λ axes. option_and_then
-    (λ traversals. option_map (λ events. record { axes = axes; traversals = traversals; traced = is_among events }) (events_in (get_member (codes "trace") members)))
+    (λ dim. option_and_then
+    (λ traversals. option_map (λ events. record { dim = dim; traversals = traversals; traced = is_among events }) (events_in (get_member (codes "trace") members)))
     (number_at (codes "traversals") 1 1000 members))
     (number_at (codes "dim") 2 4 members)
     else None
 
 -- a document of another form asks for what is not built
-abbrev pub form_or_unbuilt : Option Scene → Result Scene Cause
+abbrev pub form_or_unbuilt : Option ScenarioView → Result ScenarioView Cause
 form_or_unbuilt None = Err (unbuilt (codes "form"))
-form_or_unbuilt (Some scene) = Ok scene
+form_or_unbuilt (Some scenario) = Ok scenario
 
 -- the scenario of a document, or of none
-abbrev pub scene_in : Option Members → Result Scene Cause
-scene_in None = Err not_toml
-scene_in (Some members) = form_or_unbuilt (built_form members)
+abbrev pub scenario_in : Option Members → Result ScenarioView Cause
+scenario_in None = Err not_toml
+scenario_in (Some members) = form_or_unbuilt (built_form members)
 
 -- the scenario of some bytes, or the first cause of its refusal
-unfoldable pub scene_of : List ℕ → Result Scene Cause
-scene_of bytes = if nat_lt scenario_limit (length bytes) then Err too_long else scene_in (document_of bytes)
+unfoldable pub scenario_of : List ℕ → Result ScenarioView Cause
+scenario_of bytes = if nat_lt scenario_limit (length bytes) then Err too_long else scenario_in (document_of bytes)

@@ -13,5 +13,5 @@ RunsTo ran old new (Ok status) = (code_of status ≡ ran.status) × Appends old 
 RunsTo ran old new (Err stop) = AppendsPrefix old ran.text new
 
 -- where it has come to its end, the depots have counted the walk
-abbrev pub Counts : {V C : Type 0} → Ran → Holdings V → Holdings C → Result Status Stop → Type 0
-Counts ran vertices cells result = OnOk result (CountsWalk ran.walked vertices cells)
+abbrev pub EndsCounted : {V C : Type 0} → Ran → Holdings V → Holdings C → Result Status Stop → Type 0
+EndsCounted ran vertices cells result = OnOk result (CountsWalk ran.walked vertices cells)

@@ -5,10 +5,11 @@ use Rattle.pe_base.specs.declared.place.Place.{Place}
 use Rattle.pe_base.specs.Tree.Places.{root, corner}
 use Rattle.pe_base.specs.Tree.Ways.{way_of}
 use Rattle.pe_base.specs.Tree.Curve.{children}
-use Rattle.pe_base.specs.Life.Kinds.{is_inside}
+use Rattle.pe_base.specs.LevelOne.Kinds.{is_inside}
 use Rattle.pe_base.specs.Steps.Faces.{Face, face_on, across, is_on, is_step}
 use Rattle.pe_base.specs.LevelOne.Working.{Firing}
-use Rattle.pe_base.specs.LevelOne.Traces.{trace_text, tally_line}
+use Rattle.pe_base.specs.LevelOne.Traces.{trace_text}
+use Rattle.pe_base.specs.Lines.{tally_line}
 use Rattle.pe_stacks.specs.Grid.{input_stack, output_stack, cell_input_stack, cell_output_stack}
 use Rattle.pe_run.specs.declared.walk.traversal.Traversal.{Traversal}
 use Rattle.pe_run.specs.Trace.{traces}

@@ -5,7 +5,7 @@ ghost use Rattle.pe_stacks.specs.VecDepot.{holdings_of};
 
 use crate::peano;
 use pe_base::Fields;
-use pe_io::{MemShelf, MemSink};
+use pe_io::{MemShelf, MemSink, SureShelf, SureSink};
 use pe_stacks::{CellRec, Depot, VecDepot, Vertex};
 use std::alloc::{AllocError, Global};
 use std::process::Abort;
@@ -16,18 +16,62 @@ const PLAIN: &[u8] = b"dim = 2\ntraversals = 1\ntrace = [\"enter_cell\"]\n";
 const TWICE: &[u8] =
     b"dim = 2\ntraversals = 2\ntrace = [\"enter_cell\", \"end_iteration\", \"create_cell\"]\n";
 
-const PLAIN_TEXT: &str =
-    "enter_cell 1 0 0\nenter_cell 1 0 1\nenter_cell 1 0 2\nenter_cell 1 1 2\nenter_cell 1 1 1\nenter_cell 1 1 0\nenter_cell 1 2 0\nenter_cell 1 2 1\nenter_cell 1 2 2\ntraversal 1 forward cells 9 in 0 out 4 created 4 destroyed 0 hanging 20\ndone\n";
+const PLAIN_TEXT: &str = "\
+    enter_cell 1 0 0\n\
+    enter_cell 1 0 1\n\
+    enter_cell 1 0 2\n\
+    enter_cell 1 1 2\n\
+    enter_cell 1 1 1\n\
+    enter_cell 1 1 0\n\
+    enter_cell 1 2 0\n\
+    enter_cell 1 2 1\n\
+    enter_cell 1 2 2\n\
+    traversal 1 forward cells 9 in 0 out 4 created 4 destroyed 0 hanging 20\n\
+    done\n";
 
 // The first traversal creates the cells that it enters, and the second enters them in reversed order.
-const TWICE_TEXT: &str =
-    "create_cell 1 0 0\nenter_cell 1 0 0\ncreate_cell 1 0 1\nenter_cell 1 0 1\ncreate_cell 1 0 2\nenter_cell 1 0 2\ncreate_cell 1 1 2\nenter_cell 1 1 2\ncreate_cell 1 1 1\nenter_cell 1 1 1\ncreate_cell 1 1 0\nenter_cell 1 1 0\ncreate_cell 1 2 0\nenter_cell 1 2 0\ncreate_cell 1 2 1\nenter_cell 1 2 1\ncreate_cell 1 2 2\nenter_cell 1 2 2\nend_iteration 1\ntraversal 1 forward cells 9 in 0 out 4 created 4 destroyed 0 hanging 20\nenter_cell 1 2 2\nenter_cell 1 2 1\nenter_cell 1 2 0\nenter_cell 1 1 0\nenter_cell 1 1 1\nenter_cell 1 1 2\nenter_cell 1 0 2\nenter_cell 1 0 1\nenter_cell 1 0 0\nend_iteration 2\ntraversal 2 inverted cells 9 in 4 out 4 created 0 destroyed 0 hanging 20\ndone\n";
+const TWICE_TEXT: &str = "\
+    create_cell 1 0 0\n\
+    enter_cell 1 0 0\n\
+    create_cell 1 0 1\n\
+    enter_cell 1 0 1\n\
+    create_cell 1 0 2\n\
+    enter_cell 1 0 2\n\
+    create_cell 1 1 2\n\
+    enter_cell 1 1 2\n\
+    create_cell 1 1 1\n\
+    enter_cell 1 1 1\n\
+    create_cell 1 1 0\n\
+    enter_cell 1 1 0\n\
+    create_cell 1 2 0\n\
+    enter_cell 1 2 0\n\
+    create_cell 1 2 1\n\
+    enter_cell 1 2 1\n\
+    create_cell 1 2 2\n\
+    enter_cell 1 2 2\n\
+    end_iteration 1\n\
+    traversal 1 forward cells 9 in 0 out 4 created 4 destroyed 0 hanging 20\n\
+    enter_cell 1 2 2\n\
+    enter_cell 1 2 1\n\
+    enter_cell 1 2 0\n\
+    enter_cell 1 1 0\n\
+    enter_cell 1 1 1\n\
+    enter_cell 1 1 2\n\
+    enter_cell 1 0 2\n\
+    enter_cell 1 0 1\n\
+    enter_cell 1 0 0\n\
+    end_iteration 2\n\
+    traversal 2 inverted cells 9 in 4 out 4 created 0 destroyed 0 hanging 20\n\
+    done\n";
 
-const HANGING: &str =
-    "create_hanging_vertex 1 0 1\ncreate_hanging_vertex 1 1 0\ncreate_hanging_vertex 1 0 0\n";
+const HANGING: &str = "\
+    create_hanging_vertex 1 0 1\n\
+    create_hanging_vertex 1 1 0\n\
+    create_hanging_vertex 1 0 0\n";
 
-const TALLIED: &str =
-    "traversal 1 forward cells 9 in 0 out 4 created 4 destroyed 0 hanging 20\ndone\n";
+const TALLIED: &str = "\
+    traversal 1 forward cells 9 in 0 out 4 created 4 destroyed 0 hanging 20\n\
+    done\n";
 
 /// One run: the words, what the shelf holds under `S`, the calls that fail, and what is to come of it.
 #[derive(Clone, Copy)]
@@ -177,12 +221,18 @@ fn more_axes(rt: HostRuntime) -> Result<(), Fail> {
     let rows = [
         plain(
             b"dim = 3\ntraversals = 1\n",
-            "traversal 1 forward cells 27 in 0 out 8 created 8 destroyed 0 hanging 152\ndone\n",
+            "\
+                traversal 1 forward cells 27 in 0 out 8 created 8 destroyed 0 hanging 152\n\
+                done\n",
             0,
         ),
         plain(
             b"dim = 4\ntraversals = 3\n",
-            "traversal 1 forward cells 81 in 0 out 16 created 16 destroyed 0 hanging 1040\ntraversal 2 inverted cells 81 in 16 out 16 created 0 destroyed 0 hanging 1040\ntraversal 3 forward cells 81 in 16 out 16 created 0 destroyed 0 hanging 1040\ndone\n",
+            "\
+                traversal 1 forward cells 81 in 0 out 16 created 16 destroyed 0 hanging 1040\n\
+                traversal 2 inverted cells 81 in 16 out 16 created 0 destroyed 0 hanging 1040\n\
+                traversal 3 forward cells 81 in 16 out 16 created 0 destroyed 0 hanging 1040\n\
+                done\n",
             0,
         ),
     ];
@@ -198,12 +248,38 @@ fn vertex_events(rt: HostRuntime) -> Result<(), Fail> {
     let rows = [
         plain(
             b"dim = 2\ntraversals = 2\ntrace = [\"create_inner_vertex\", \"destroy_vertex\"]\n",
-            "create_inner_vertex 1 1 1\ncreate_inner_vertex 1 1 2\ncreate_inner_vertex 1 2 2\ncreate_inner_vertex 1 2 1\ntraversal 1 forward cells 9 in 0 out 4 created 4 destroyed 0 hanging 20\ntraversal 2 inverted cells 9 in 4 out 4 created 0 destroyed 0 hanging 20\ndone\n",
+            "\
+                create_inner_vertex 1 1 1\n\
+                create_inner_vertex 1 1 2\n\
+                create_inner_vertex 1 2 2\n\
+                create_inner_vertex 1 2 1\n\
+                traversal 1 forward cells 9 in 0 out 4 created 4 destroyed 0 hanging 20\n\
+                traversal 2 inverted cells 9 in 4 out 4 created 0 destroyed 0 hanging 20\n\
+                done\n",
             0,
         ),
         plain(
             b"dim = 2\ntraversals = 2\ntrace = [\"touch_vertex_first_time\", \"touch_vertex_last_time\"]\n",
-            "touch_vertex_first_time 1 1 1\ntouch_vertex_first_time 1 1 2\ntouch_vertex_first_time 1 2 2\ntouch_vertex_first_time 1 2 1\ntouch_vertex_last_time 1 1 2\ntouch_vertex_last_time 1 1 1\ntouch_vertex_last_time 1 2 1\ntouch_vertex_last_time 1 2 2\ntraversal 1 forward cells 9 in 0 out 4 created 4 destroyed 0 hanging 20\ntouch_vertex_first_time 1 2 2\ntouch_vertex_first_time 1 2 1\ntouch_vertex_first_time 1 1 1\ntouch_vertex_first_time 1 1 2\ntouch_vertex_last_time 1 2 1\ntouch_vertex_last_time 1 2 2\ntouch_vertex_last_time 1 1 2\ntouch_vertex_last_time 1 1 1\ntraversal 2 inverted cells 9 in 4 out 4 created 0 destroyed 0 hanging 20\ndone\n",
+            "\
+                touch_vertex_first_time 1 1 1\n\
+                touch_vertex_first_time 1 1 2\n\
+                touch_vertex_first_time 1 2 2\n\
+                touch_vertex_first_time 1 2 1\n\
+                touch_vertex_last_time 1 1 2\n\
+                touch_vertex_last_time 1 1 1\n\
+                touch_vertex_last_time 1 2 1\n\
+                touch_vertex_last_time 1 2 2\n\
+                traversal 1 forward cells 9 in 0 out 4 created 4 destroyed 0 hanging 20\n\
+                touch_vertex_first_time 1 2 2\n\
+                touch_vertex_first_time 1 2 1\n\
+                touch_vertex_first_time 1 1 1\n\
+                touch_vertex_first_time 1 1 2\n\
+                touch_vertex_last_time 1 2 1\n\
+                touch_vertex_last_time 1 2 2\n\
+                touch_vertex_last_time 1 1 2\n\
+                touch_vertex_last_time 1 1 1\n\
+                traversal 2 inverted cells 9 in 4 out 4 created 0 destroyed 0 hanging 20\n\
+                done\n",
             0,
         ),
     ];
@@ -235,6 +311,26 @@ fn the_first_hanging_vertices(rt: HostRuntime) -> Result<(), Fail> {
     );
     assert_eq!(rt; status, 0);
     assert!(rt; sink.text().starts_with(HANGING.as_bytes()));
+    Ok(())
+}
+
+#[test]
+fn edges_that_never_fail(rt: HostRuntime) -> Result<(), Fail> {
+    let alloc = rt.alloc();
+    let mut shelf = SureShelf::new(alloc)?;
+    shelf.add(alloc, "S", PLAIN)?;
+    let mut sink = SureSink::new();
+    let words = words_of(alloc, RUN)?;
+    let mut depots = new_depots(alloc)?;
+    let status = peano(
+        alloc,
+        words.as_slice(),
+        &mut shelf,
+        &mut sink,
+        &mut depots.vertices,
+        &mut depots.cells,
+    );
+    assert_eq!(rt; status, 0);
     Ok(())
 }
 

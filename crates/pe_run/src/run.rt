@@ -1,4 +1,4 @@
-// The run of the program, step by step.
+// The run of the program, stage by stage.
 ghost use Rattle.std.specs.Prelude.{◌≡◌, ◌≢◌, ◌≤◌, ◌+◌, Result as Outcome, None, Some, Err, Ok, OnOk, OnErr, map, length, string_bytes};
 ghost use Rattle.pe_io.specs.Counts.{Rises};
 ghost use Rattle.pe_io.specs.Sink.{Appends, AppendsPrefix};
@@ -8,11 +8,11 @@ ghost use Rattle.pe_stacks.specs.Holdings.{new_holdings, cleared};
 ghost use Rattle.pe_run.specs.Trace.{traces};
 ghost use Rattle.pe_run.specs.Depots.{HasTraffic, IsSettled};
 ghost use Rattle.pe_run.specs.Words.{job_of};
-ghost use Rattle.pe_run.specs.Scenario.{Scene, Cause, unbuilt, scene_of};
-ghost use Rattle.pe_run.specs.Scene.{scene_view, RefusesFor};
+ghost use Rattle.pe_run.specs.Scenario.{ScenarioView, Cause, unbuilt, scenario_of};
+ghost use Rattle.pe_run.specs.Reader.{scenario_view, RefusesFor};
 ghost use Rattle.pe_run.specs.Statuses.{ending_of};
-ghost use Rattle.pe_run.specs.Stages.{RunsTo, Counts};
-ghost use Rattle.pe_run.specs.Run.{no_job, no_scenario, run_scene, scenario_fault, names_of, IsRun, IsShelfCause, IsComplete};
+ghost use Rattle.pe_run.specs.Stages.{RunsTo, EndsCounted};
+ghost use Rattle.pe_run.specs.Run.{no_job, no_scenario, run_scenario, scenario_fault, names_of, IsRun, IsShelfCause, IsComplete};
 
 use crate::scenario::{SCENARIO_LIMIT, Scenario, SceneFault, read_scenario};
 use crate::status::{Status, Stop, exit_status};
@@ -77,10 +77,10 @@ fn run_scenario<K: Sink, DV: Depot<Vertex<Fields>>, DC: Depot<CellRec<Fields>>>(
     requires few { scenario.now.traversals ≤ 1000 }
     requires vertices { DV.holds vertices.old ≡ new_holdings 10 }
     requires cells { DC.holds cells.old ≡ new_holdings 2 }
-    ensures run { RunsTo (run_scene (Ok (scene_view scenario.now))) (K.text sink.old) (K.text sink.new) result }
+    ensures run { RunsTo (run_scenario (Ok (scenario_view scenario.now))) (K.text sink.old) (K.text sink.new) result }
     ensures faults { K.faults sink.old ≤ K.faults sink.new }
     ensures failed { result ≡ Err Stop.Sink → Rises (K.faults sink.old) (K.faults sink.new) }
-    ensures traffic { Counts (run_scene (Ok (scene_view scenario.now))) (DV.holds vertices.new) (DC.holds cells.new) result }
+    ensures traffic { EndsCounted (run_scenario (Ok (scenario_view scenario.now))) (DV.holds vertices.new) (DC.holds cells.new) result }
     ensures idle_vertices { (DV.holds vertices.new).out ≡ 0 }
     ensures idle_cells { (DC.holds cells.new).out ≡ 0 }
 {
@@ -91,8 +91,8 @@ fn run_scenario<K: Sink, DV: Depot<Vertex<Fields>>, DC: Depot<CellRec<Fields>>>(
 
 // A scenario is refused.
 fn refuse_scenario<K: Sink>(fault: &SceneFault, sink: &mut K) -> Result<Status, Stop>
-    ensures run { (said : Outcome Scene Cause) → RefusesFor fault.now said → RunsTo (run_scene said) (K.text sink.old) (K.text sink.new) result }
-    ensures no_walk { (said : Outcome Scene Cause) → RefusesFor fault.now said → OnOk result ((run_scene said).walked ≡ None) }
+    ensures run { (said : Outcome ScenarioView Cause) → RefusesFor fault.now said → RunsTo (run_scenario said) (K.text sink.old) (K.text sink.new) result }
+    ensures no_walk { (said : Outcome ScenarioView Cause) → RefusesFor fault.now said → OnOk result ((run_scenario said).walked ≡ None) }
     ensures faults { K.faults sink.old ≤ K.faults sink.new }
     ensures failed { result ≡ Err Stop.Sink → Rises (K.faults sink.old) (K.faults sink.new) }
 {
@@ -129,10 +129,10 @@ fn run_bytes<K: Sink, DV: Depot<Vertex<Fields>>, DC: Depot<CellRec<Fields>>>(
 ) -> Result<Status, Stop>
     requires vertices { DV.holds vertices.old ≡ new_holdings 10 }
     requires cells { DC.holds cells.old ≡ new_holdings 2 }
-    ensures run { RunsTo (run_scene (scene_of bytes.now)) (K.text sink.old) (K.text sink.new) result }
+    ensures run { RunsTo (run_scenario (scenario_of bytes.now)) (K.text sink.old) (K.text sink.new) result }
     ensures faults { K.faults sink.old ≤ K.faults sink.new }
     ensures failed { result ≡ Err Stop.Sink → Rises (K.faults sink.old) (K.faults sink.new) }
-    ensures traffic { Counts (run_scene (scene_of bytes.now)) (DV.holds vertices.new) (DC.holds cells.new) result }
+    ensures traffic { EndsCounted (run_scenario (scenario_of bytes.now)) (DV.holds vertices.new) (DC.holds cells.new) result }
     ensures idle_vertices { (DV.holds vertices.new).out ≡ 0 }
     ensures idle_cells { (DC.holds cells.new).out ≡ 0 }
 {

@@ -3,9 +3,9 @@ ghost use Rattle.std.specs.Prelude.{◌≡◌, ◌≤◌, Err, IfSome, IfOk, opt
 ghost use Rattle.toml.specs.View.{view, table_view, items_view};
 ghost use Rattle.toml.specs.Data.{get_member};
 ghost use Rattle.pe_base.specs.Tree.Dim.{IsDim};
-ghost use Rattle.pe_run.specs.Scenario.{is_known, all_known, number_at, events_in, events_after, next_event, built_form, scene_of, unbuilt as not_built};
+ghost use Rattle.pe_run.specs.Scenario.{is_known, all_known, number_at, events_in, events_after, next_event, built_form, scenario_of, unbuilt as not_built};
 ghost use Rattle.pe_run.specs.Trace.{traces};
-ghost use Rattle.pe_run.specs.Scene.{scene_view, GivesScene, RefusesFor, TracesEvents};
+ghost use Rattle.pe_run.specs.Reader.{scenario_view, GivesScenario, RefusesFor, TracesEvents};
 
 use crate::trace::Trace;
 use pe_base::{Dim, Event, Text};
@@ -108,7 +108,7 @@ fn trace_in(table: &Table) -> Option<Trace>
 
 #[tactic(auto, unfolding(crate::specs::Scenario::built_form))]
 fn built_form(table: &Table) -> Option<Scenario>
-    ensures scene { option_map scene_view result ≡ built_form (table_view table.now) }
+    ensures scenario { option_map scenario_view result ≡ built_form (table_view table.now) }
     ensures dim { IfSome result (λ scenario. IsDim scenario.dim) }
     ensures few { IfSome result (λ scenario. scenario.traversals ≤ 1000) }
 {
@@ -127,9 +127,9 @@ fn built_form(table: &Table) -> Option<Scenario>
 }
 
 /// The scenario of some bytes, or the first cause of its refusal.
-#[tactic(auto, unfolding(crate::specs::Scenario::scene_of))]
+#[tactic(auto, unfolding(crate::specs::Scenario::scenario_of))]
 pub fn read_scenario(alloc: Global, bytes: &[u8]) -> Result<Scenario, SceneFault>
-    ensures scene { GivesScene result (scene_of bytes.now) }
+    ensures scenario { GivesScenario result (scenario_of bytes.now) }
     ensures dim { IfOk result (λ scenario. IsDim scenario.dim) }
     ensures few { IfOk result (λ scenario. scenario.traversals ≤ 1000) }
 {

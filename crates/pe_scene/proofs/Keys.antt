@@ -44,7 +44,7 @@ below-least section k [] below = tt
 below-least section k (l ∷ ks) below =
     let rest = below-least section k ks below.1 in
     elim (lists section (string_bytes l)) as (λ b. BelowIfAny (string_bytes k) (least_of (if not b then string_bytes l ∷ unknown_keys section ks else unknown_keys section ks))) [
-      true ↦ rest
+      | true ↦ rest
       | false ↦ below-lesser (string_bytes k) (string_bytes l) (unknown_of section (map string_bytes ks)) below.0 rest
     ]
 

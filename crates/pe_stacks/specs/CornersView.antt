@@ -1,4 +1,4 @@
--- How the corners lie in sixteen places: those that the dimension does not have are empty.
+-- How the corners lie in sixteen slots: those that the dimension does not have are empty.
 use Rattle.std.specs.Prelude.{◌≡◌, ◌-◌, ◌^◌, take, drop, replicate, length, None}
 use Rattle.pe_base.specs.Tree.Dim.{IsDim}
 use Rattle.pe_stacks.specs.declared.record.Vertex.{Vertex}
@@ -7,10 +7,10 @@ use Rattle.pe_stacks.specs.Corners.{CornerList}
 
 module _ {P : Type 0} where
   abbrev pub corner_list : Inside P → CornerList (Vertex P)
-  corner_list it = record { dim = it.dim; places = take (2 ^ it.dim) it.places }
+  corner_list it = record { dim = it.dim; slots = take (2 ^ it.dim) it.slots }
 
-  -- a dimension, and sixteen places of which those behind its corners are empty
+  -- a dimension, and sixteen slots of which those behind its corners are empty
   pub record IsSound (it : Inside P) : Type 0 where
     pub dim : IsDim it.dim
-    pub count : length it.places ≡ 16
-    pub rest : drop (2 ^ it.dim) it.places ≡ replicate (16 - 2 ^ it.dim) None
+    pub count : length it.slots ≡ 16
+    pub rest : drop (2 ^ it.dim) it.slots ≡ replicate (16 - 2 ^ it.dim) None

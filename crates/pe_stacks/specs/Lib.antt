@@ -1,9 +1,23 @@
--- What contracts see of corners, grids and depots.
-pub mod Corners
-pub mod CornersView
-pub mod Grid
+-- What contracts see of depots, grids and corners, in reading order.
+
+-- # Depots and grids
+-- what a depot holds and has counted, and what each call makes of it
 pub mod Holdings
-pub mod Places
+-- which stacks the streams of a grid are
+pub mod Grid
+-- how a grid lies on stacks between two traversals
 pub mod Streams
-pub mod VecDepot
+-- # The corners of a cell
+-- for each corner by its number the vertex there, if there is one
+pub mod Corners
+-- four corners, and what changing them makes of all
+pub mod Quads
+-- sixteen slots as a list
+pub mod Slots
+-- how the corners lie in sixteen slots
+pub mod CornersView
+-- # A depot over vectors
+-- a stack over a vector, the top at the vector's end
 pub mod VecStack
+-- such stacks and counts as a depot
+pub mod VecDepot

@@ -1,23 +1,26 @@
-ghost use Rattle.std.specs.Prelude.{◌≡◌, ◌^◌, ◌<◌, None, Some, IsSome};
+ghost use Rattle.std.specs.Prelude.{◌≡◌, ◌*◌, ◌^◌, ◌<◌, None, Some, IsSome};
 ghost use Rattle.std.specs.Borrow.{Lends, sem};
 ghost use Rattle.std.specs.contracts.option.Option.{the_row as option_row};
 ghost use Rattle.pe_stacks.specs.contracts.corners.Corners.{the_row};
 ghost use Rattle.pe_stacks.specs.contracts.record.Vertex.{the_row as vertex_row};
+ghost use Rattle.pe_stacks.specs.contracts.quad.Quad.{the_row as quad_row};
 ghost use Rattle.pe_stacks.specs.Corners.{no_vertices, vertex_at, with_vertex};
+ghost use Rattle.pe_stacks.specs.Quads.{quad_at, with_quad};
 
 use crate::Vertex;
-use crate::places::{Places, close_place, filled_mut};
+use crate::quad::{Quad, close_slot, filled_mut};
+use crate::slots::Slots;
 use pe_base::Dim;
 use std::marker::Model;
 use std::mem;
 
-/// The corners of a cell: up to `2^d` vertices in numbered places.
+/// The corners of a cell: up to `2^d` vertices in numbered slots.
 ///
 /// Bit i of a corner's number says that the corner lies at the far end of axis i. No call takes memory.
-/// Corners are ended by `close`, once every place is empty.
+/// Corners are ended by `close`, once every slot is empty.
 pub struct Corners<P> {
     dim: Dim,
-    places: Places<Vertex<P>>,
+    slots: Slots<Vertex<P>>,
 }
 
 impl<P> Model for Corners<P> {
@@ -34,76 +37,94 @@ impl<P> Model for Corners<P> {
 }
 
 impl<P> Corners<P> {
-    /// The corners of a cell in `dim` dimensions, with every place empty.
+    /// The corners of a cell in `dim` dimensions, with every slot empty.
     pub fn empty(dim: Dim) -> Corners<P>
         ensures { result ≡ no_vertices dim }
     {
-        // From the call it is known that the dimension has no more corners than there are places.
+        // From the call it is known that the dimension has no more corners than there are slots.
         let _axes = dim.axes();
         Corners {
             dim,
-            places: Places::empty(),
+            slots: Slots::empty(),
         }
     }
 
-    /// Puts a vertex in a place that is empty.
+    /// Puts a vertex in a slot that is empty.
     pub fn put(&mut self, k: u8, v: Vertex<P>)
         requires corner { k < 2 ^ self.old.dim }
         requires empty { vertex_at self.old k ≡ None }
         ensures { self.new ≡ with_vertex self.old k (Some v) }
     {
-        let before = mem::replace(self.place_mut(k), Some(v));
-        close_place(before);
+        let before = mem::replace(self.slot_mut(k), Some(v));
+        close_slot(before);
     }
 
-    /// Takes the vertex out of a place that is full.
+    /// Takes the vertex out of a slot that is full.
     pub fn take(&mut self, k: u8) -> Vertex<P>
         requires { IsSome (vertex_at self.old k) }
         ensures value { vertex_at self.old k ≡ Some result }
-        ensures places { self.new ≡ with_vertex self.old k None }
+        ensures corners { self.new ≡ with_vertex self.old k None }
     {
-        // From the fields it is known that a full place is one of the dimension's.
+        // From the fields it is known that a full slot is one of the dimension's.
         let _dim = self.dim;
-        self.place_mut(k).take().unwrap()
+        self.slot_mut(k).take().unwrap()
     }
 
-    /// The vertex in a place that is full.
+    /// The vertex in a slot that is full.
     pub fn at(&self, k: u8) -> &Vertex<P>
         requires { IsSome (vertex_at self.now k) }
         ensures { vertex_at self.now k ≡ Some result.now }
     {
-        match self.places.place(k) {
+        match self.slots.slot(k) {
             Some(v) => v,
             None => unreachable!(),
         }
     }
 
-    /// The vertex in a place that is full, to be changed in place.
+    /// The vertex in a slot that is full, to be changed in place.
     pub fn at_mut(&mut self, k: u8) -> &mut Vertex<P>
         requires { IsSome (vertex_at self.old k) }
         ensures value { vertex_at self.old k ≡ Some result.now }
         ensures* writes_back { sem 𝓛 (Lends (the_row P.row) (vertex_row P.row) self.entry result
             (λ w. with_vertex self.old k (Some w))) }
     {
-        // From the fields it is known that a full place is one of the dimension's.
+        // From the fields it is known that a full slot is one of the dimension's.
         let _dim = self.dim;
-        filled_mut(self.place_mut(k))
+        filled_mut(self.slot_mut(k))
     }
 
-    /// Ends corners whose places are all empty.
+    /// Four corners: quad `q` has those numbered `4 q` to `4 q + 3`.
+    pub fn quad(&self, q: u8) -> &Quad<Vertex<P>>
+        requires { 4 * q < 2 ^ self.now.dim }
+        ensures { result.now ≡ quad_at self.now q }
+    {
+        self.slots.quad(q)
+    }
+
+    /// Four corners, to be touched in place.
+    pub fn quad_mut(&mut self, q: u8) -> &mut Quad<Vertex<P>>
+        requires { 4 * q < 2 ^ self.old.dim }
+        ensures value { result.now ≡ quad_at self.old q }
+        ensures* writes_back { sem 𝓛 (Lends (the_row P.row) (quad_row (vertex_row P.row)) self.entry result
+            (with_quad self.old q)) }
+    {
+        self.slots.quad_mut(q)
+    }
+
+    /// Ends corners whose slots are all empty.
     pub fn close(self)
         requires { self ≡ no_vertices self.dim }
     {
-        let Corners { dim: _, places } = self;
-        places.close();
+        let Corners { dim: _, slots } = self;
+        slots.close();
     }
 
-    fn place_mut(&mut self, k: u8) -> &mut Option<Vertex<P>>
+    fn slot_mut(&mut self, k: u8) -> &mut Option<Vertex<P>>
         requires { k < 2 ^ self.old.dim }
         ensures value { vertex_at self.old k ≡ result.now }
         ensures* writes_back { sem 𝓛 (Lends (the_row P.row) (option_row (vertex_row P.row)) self.entry result
             (with_vertex self.old k)) }
     {
-        self.places.place_mut(k)
+        self.slots.slot_mut(k)
     }
 }

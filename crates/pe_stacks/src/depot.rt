@@ -111,9 +111,9 @@ pub trait Depot<R> {
 
 /// A depot that lets the records on its stacks be read.
 pub trait Shown<R>: Depot<R> {
-    /// The record that lies `i` places below the top of a stack. Takes no memory.
+    /// The record that lies `i` records below the top of a stack. Takes no memory.
     fn look(&self, s: u8, i: u64) -> &R
         requires stack { s < stack_count (Self.holds self.now) }
-        requires place { i < len_at (Self.holds self.now) s }
+        requires held { i < len_at (Self.holds self.now) s }
         ensures { slice_get (items_at (Self.holds self.now) s) i ≡ Some result.now };
 }

@@ -5,15 +5,17 @@
 mod corners;
 mod depot;
 mod grid;
-mod places;
+mod quad;
 mod record;
 #[cfg(test)]
 mod rows;
+mod slots;
 mod vec_depot;
 mod vec_stack;
 
 pub use corners::Corners;
 pub use depot::{Depot, Shown};
 pub use grid::Grid;
+pub use quad::Quad;
 pub use record::{CellRec, Vertex};
 pub use vec_depot::VecDepot;

@@ -1,20 +1,23 @@
 -- The laws, from the lemmas on lists of faces.
-use Rattle.std.proofs.Common.{◌≡◌, ℕ, zero, suc, ◌+◌, ◌-◌, ◌<◌, ◌≤◌, Bool, List, [], ◌∷◌, take, length, slice_index, refl, sym, ap, ◌∙◌, subst, length-set, ◌⊎◌, inl, inr, slice_set, arith}
-use Rattle.std.specs.List.{flat_map}
+use Rattle.std.proofs.Common.{◌≡◌, ℕ, zero, suc, ◌+◌, ◌-◌, ◌^◌, ◌<◌, ◌≤◌, Bool, List, [], ◌∷◌, length, slice_index, refl, sym, ap, ◌∙◌, subst, length-set, ◌⊎◌, inl, inr, slice_set, arith}
 use Rattle.pe_base.specs.declared.place.Place.{Place}
 use Rattle.pe_base.specs.declared.way.Way.{Way}
-use Rattle.pe_base.specs.Steps.Faces.{across, arriving, leaving, steps_to, steps_from}
+use Rattle.pe_base.specs.Tree.Ways.{opposite}
+use Rattle.pe_base.specs.Steps.Faces.{across, arriving, leaving, facing, ShareFace}
 use Rattle.pe_base.proofs.Faces.FaceLists.{face_of, across-up, leaving-up, leaving-down, leaving_is}
-use Rattle.pe_base.proofs.Faces.Composition.{composes, composes_any}
-use Rattle.pe_base.proofs.Steps.Counts.{steps_to_cells, steps_from_cells, loaded_for_around, stored_for_around}
+use Rattle.pe_base.specs.Tree.Places.{bits}
+use Rattle.pe_base.proofs.Tree.Corners.{bits_in}
+use Rattle.pe_base.proofs.Faces.Bridge.{on_grid, one_across, one_across_out, come_by_faces, go_by_faces}
+use Rattle.pe_base.proofs.Faces.Composition.{composes, composes_any, Turns-join, Turns-split}
+use Rattle.pe_base.proofs.Steps.Counts.{steps_to_cells, steps_from_cells, loaded_for_around, stored_for_around, stand_together}
 use Rattle.pe_base.specs.Tree.Curve.{order}
 use Rattle.pe_base.proofs.Tree.Ranks.{rank_of, top, order_rises}
 use Rattle.pe_base.proofs.Faces.Quiet.{Still, arriving_none, leaving_none}
 use Rattle.pe_walk.proofs.Outside.{before_rises, NoneAcross, outside_arriving, outside_leaving}
 use Rattle.pe_walk.proofs.Trees.{root_is_cell, child_is_cell, place_is_cell, cell_position}
 use Rattle.pe_walk.proofs.Steps.{inside_on_grid, step_crosses, step_in_corners, in_corners_only, out_corners_only}
-use Rattle.pe_walk.specs.Laws.{CellsOfTheTree, facing, ShareFace, NeighboursAgree, FacesAreOneWay, Composition, BeneathUntouched, Counts, UnwalkedIsEmpty, LeafIsCorners, StepsCrossFaces, StepsAreCorners, CornersAreSteps}
-use Rattle.pe_walk.proofs.Unwalked.{contains_in, in_contains, cell_four, unwalked_arriving, unwalked_leaving, leaf_arriving, leaf_leaving}
+use Rattle.pe_walk.specs.Laws.{CellsOfTheTree, NeighboursAgree, FacesAreOneWay, Composition, BeneathUntouched, Counts, StandTogether, CornersCrossOnce, CornersOnStacks, TurnsJoin, UnwalkedIsEmpty, LeafIsCorners, StepsCrossFaces, StepsAreCorners, CornersAreSteps}
+use Rattle.pe_walk.proofs.Unwalked.{contains_in, in_contains, cell_four, unwalked_arriving, unwalked_leaving, tree_either, leaf_arriving, leaf_leaving}
 
 neighbours_at : (axes : ℕ) (way : Way) (counts : Place → Bool) (levels axis side : ℕ) (cell neighbour : Place) → axes ≤ 4 → axis < axes → side < 2 → length cell.pos ≡ 4 → ShareFace (face_of axis side) cell neighbour
     → leaving axes way counts levels (face_of axis side) cell ≡ arriving axes way counts levels (facing (face_of axis side)) neighbour
@@ -71,16 +74,38 @@ pub beneath_untouched : BeneathUntouched
 beneath_untouched axes way counts levels axis parity cell dim a is_cell beneath free = composes axes way counts levels axis parity cell dim.1 a (cell_four axes way cell dim.1 is_cell) (contains_in _ cell is_cell) beneath free
 
 pub counts : Counts
-counts axes way levels vertex n dim inside deep =
-    let on = inside_on_grid axes vertex inside in
-    let loaded = loaded_for_around axes way levels vertex dim.1 on deep in
-    let stored = stored_for_around axes way levels vertex dim.1 on deep in
-    record {
-      loaded = loaded;
-      popped = ap (λ cells. flat_map (steps_to axes way vertex) (take n cells)) loaded ∙ steps_to_cells axes way vertex n dim.1;
-      stored = stored;
-      pushed = ap (λ cells. flat_map (steps_from axes way vertex) (take n cells)) stored ∙ steps_from_cells axes way vertex n dim.1;
+counts axes way levels vertex dim inside deep =
+    let on = inside_on_grid axes vertex inside in record {
+      loaded = loaded_for_around axes way levels vertex dim.1 on deep;
+      stored = stored_for_around axes way levels vertex dim.1 on deep;
+      popped = λ n. steps_to_cells axes way vertex n dim.1;
+      pushed = λ n. steps_from_cells axes way vertex n dim.1;
     }
+
+pub stands_together : StandTogether
+stands_together axes way levels cell vertex dim is_cell inside =
+    stand_together axes way levels vertex cell dim.1 (inside_on_grid axes vertex inside) (on_grid axes cell (3 ^ cell.level) (cell_position axes way cell dim.1 is_cell)) (contains_in _ cell is_cell)
+
+pub corners_cross_once : CornersCrossOnce
+corners_cross_once axes way cell k dim is_cell below =
+    let is = cell_position axes way cell dim.1 is_cell in
+    let bit = bits_in axes k dim.1 below in record {
+      comes = one_across axes way cell (bits axes k) dim.1 is bit;
+      goes = one_across_out axes way cell (bits axes k) dim.1 is bit;
+    }
+
+pub corners_on_stacks : CornersOnStacks
+corners_on_stacks axes way counts cell dim is_cell =
+    let is = cell_position axes way cell dim.1 is_cell in record {
+      come = come_by_faces axes way counts cell dim.1 is;
+      go = go_by_faces axes way counts cell dim.1 is;
+    }
+
+pub turns_join : TurnsJoin
+turns_join turns more before after = record {
+  join = λ between s t. Turns-join turns more before between after s t;
+  split = Turns-split turns more before after;
+}
 
 pub cells_of_the_tree : CellsOfTheTree
 cells_of_the_tree axes way dim = record {
@@ -103,12 +128,14 @@ corners_are_steps axes way counts face cell vertex dim is_face is_cell =
 
 pub unwalked_is_empty : UnwalkedIsEmpty
 unwalked_is_empty axes way walked counts levels face cell dim walk is_face is_cell none =
-    let four = cell_four axes way cell dim.1 is_cell in (
-      unwalked_arriving axes way walked counts walk dim.1 (cell.level + levels) levels face cell is_face.0 is_face.1 four refl none,
-      leaving_is axes way counts levels face cell ∙ unwalked_leaving axes way walked counts walk dim.1 (cell.level + levels) levels face cell is_face.0 is_face.1 four refl none,
+    let four = cell_four axes way cell dim.1 is_cell in
+    let tree = contains_in (order axes way cell.level) cell is_cell in (
+      unwalked_arriving axes way walked counts walk dim.1 (cell.level + levels) levels face cell is_face.0 is_face.1 four refl (none, tree),
+      leaving_is axes way counts levels face cell ∙ unwalked_leaving axes way walked counts walk dim.1 (cell.level + levels) levels face cell is_face.0 is_face.1 four refl (none, tree_either axes way (opposite way) cell tree),
     )
 
 pub leaf_is_corners : LeafIsCorners
 leaf_is_corners axes way walked counts levels face cell dim walk is_face is_cell none =
     let four = cell_four axes way cell dim.1 is_cell in
-    (leaf_arriving axes way walked counts walk dim.1 levels face cell is_face.0 is_face.1 four none, leaf_leaving axes way walked counts walk dim.1 levels face cell is_face.0 is_face.1 four none)
+    let tree = contains_in (order axes way cell.level) cell is_cell in
+    (leaf_arriving axes way walked counts walk dim.1 levels face cell is_face.0 is_face.1 four tree none, leaf_leaving axes way walked counts walk dim.1 levels face cell is_face.0 is_face.1 four tree none)

@@ -2,13 +2,14 @@
 use Rattle.std.proofs.Common.{◌≡◌, ℕ, zero, suc, ◌+◌, ◌<◌, ◌≤◌, Bool, true, List, [], ◌∷◌, length, get_or, refl, sym, ap₂, ◌∙◌, subst, inl, inr, arith}
 use Rattle.pe_base.specs.declared.place.Place.{Place}
 use Rattle.pe_base.specs.declared.way.Way.{Way}
+use Rattle.pe_base.specs.Tree.Ways.{opposite}
 use Rattle.pe_base.specs.Tree.Curve.{digit_lists, children, order}
 use Rattle.pe_base.specs.Steps.Around.{is_corner, around, steps}
 use Rattle.pe_base.specs.Steps.Faces.{Face, across, is_step, comes_across, goes_across, arriving, leaving}
 use Rattle.pe_base.specs.Tree.Places.{is_same}
 use Rattle.pe_base.proofs.Lists.{Each, Each-weaker, Each-map, Each-flat_map, Each-filter, In, Each-In}
 use Rattle.pe_base.proofs.Tree.Mirrors.{Digits3, digit_lists_below}
-use Rattle.pe_base.proofs.Tree.Children.{opposite, child_of, children_are}
+use Rattle.pe_base.proofs.Tree.Children.{child_of, children_are}
 use Rattle.pe_base.proofs.Faces.FaceLists.{is_child_at, leaving_is}
 use Rattle.pe_base.proofs.Tree.Ranks.{thirds, Rising, OnLevel, order_on_level, thirds-child, steps_within, list_any-Each, is_same-true, and_left, and_right}
 use Rattle.pe_base.proofs.Faces.Quiet.{across_child, at_face_none, false_unless}

@@ -1,38 +1,30 @@
 -- The steps around a vertex, and the corners of the cells on both sides of each.
-use Rattle.std.proofs.Common.{◌≡◌, ◌≢◌, ℕ, zero, suc, ◌+◌, ◌-◌, ◌^◌, ◌<◌, ◌≤◌, ◌⊎◌, Bool, true, ◌&&◌, ◌||◌, ◌==◌, List, [], ◌∷◌, map, filter, reverse, drop, replicate, length, slice_index, refl, sym, ap, ap₂, ◌∙◌, subst, true≢false, inl, inr, length-set, arith}
+use Rattle.std.proofs.Common.{◌≡◌, ℕ, zero, suc, ◌+◌, ◌-◌, ◌^◌, ◌<◌, ◌≤◌, ◌⊎◌, Bool, true, ◌&&◌, ◌||◌, ◌==◌, List, [], ◌∷◌, map, filter, reverse, drop, replicate, length, slice_index, refl, sym, ap, ap₂, ◌∙◌, subst, inl, inr, length-set, arith}
 use Rattle.std.specs.List.{Contains}
-use Rattle.std.proofs.lemmas.List.{get_or-set_same, get_or-set_other}
+use Rattle.std.proofs.lemmas.List.{get_or-set_same}
 use Rattle.std.proofs.lemmas.Bool.Decides.{nat_tests}
 use Rattle.pe_base.specs.declared.place.Place.{Place}
 use Rattle.pe_base.specs.declared.way.Way.{Way}
-use Rattle.pe_base.specs.Tree.Places.{IsInside, moved, is_same}
+use Rattle.pe_base.specs.Tree.Places.{IsInside, moved}
 use Rattle.pe_base.specs.Tree.Curve.{children, order}
-use Rattle.pe_base.specs.Steps.Around.{is_corner_pos, is_corner, around, steps}
-use Rattle.pe_base.specs.Steps.Faces.{Face, Touch, beside, across, is_step, corner_touches, comes_across, goes_across, at_face, in_corners, out_corners}
+use Rattle.pe_base.specs.Steps.Around.{is_corner_pos, is_corner}
+use Rattle.pe_base.specs.Steps.Faces.{Face, Touch, beside, across, is_step, corner_touches, comes_across, goes_across, at_face, in_corners, out_corners, IsFace, facing, ShareFace}
 use Rattle.pe_base.proofs.Lists.{Each, Each-all, Each-weaker, Each-filter, In, In-map, In-flat_map, In-filter, In-reverse, Each-In, Each-flat_map, Each-reverse}
 use Rattle.pe_base.proofs.Tree.Corners.{IsBits, bit_lists, own_corners, slice_index-moved}
 use Rattle.pe_base.proofs.Faces.FaceLists.{face_of, up_cell, across-up, leaving_is}
-use Rattle.pe_base.proofs.Tree.Ranks.{OnLevel, order_on_level, steps_within, list_any-Each, is_same-true, and_left, and_right}
+use Rattle.pe_base.proofs.Tree.Ranks.{OnLevel, order_on_level, and_left, and_right}
 use Rattle.pe_base.proofs.Steps.Counts.{OnGrid, root_on_grid, children_on_grid}
 use Rattle.pe_base.proofs.Steps.Crossing.{step_neighbours}
-use Rattle.pe_walk.specs.Laws.{IsFace, facing, ShareFace, Crosses}
+use Rattle.pe_walk.specs.Laws.{Crosses}
 use Rattle.pe_walk.proofs.Unwalked.{contains_in, in_contains}
 use Rattle.pe_walk.proofs.Outside.{step_in}
-
-pub all_zeros : (pos : List ℕ) → ((axis : ℕ) → slice_index pos axis ≡ 0) → pos ≡ replicate (length pos) 0
-all_zeros [] h = refl
-all_zeros (x ∷ pos) h = ap₂ (λ y ys. y ∷ ys) (h 0) (all_zeros pos (λ axis. h (suc axis)))
-
-pub zeros_behind : (n : ℕ) (pos : List ℕ) → ((axis : ℕ) → n ≤ axis → slice_index pos axis ≡ 0) → drop n pos ≡ replicate (length pos - n) 0
-zeros_behind zero pos h = all_zeros pos (λ axis. h axis (omega arith)) ∙ ap (λ k. replicate k 0) (let e : length pos ≡ length pos - 0 = omega arith in e)
-zeros_behind (suc n) [] h = ap (λ k. replicate k 0) (let e : 0 ≡ 0 - suc n = omega arith in e)
-zeros_behind (suc n) (x ∷ pos) h = zeros_behind n pos (λ axis l. h (suc axis) (omega arith)) ∙ ap (λ k. replicate k 0) (let e : length pos - n ≡ suc (length pos) - suc n = omega arith in e)
+use Rattle.pe_base.proofs.Faces.Bridge.{zeros_behind, corner_coordinate, step_corners, one_axis}
 
 pub inside_on_grid : (axes : ℕ) (vertex : Place) → IsInside axes vertex → OnGrid axes vertex.level vertex
 inside_on_grid axes vertex inside = (refl, inside.pos.four, zeros_behind axes vertex.pos inside.pos.rest ∙ ap (λ n. replicate (n - axes) 0) inside.pos.four)
 
 -- the bits by which a vertex is a corner of a cell
-corner_bits : (n : ℕ) (pos q : List ℕ) → n ≤ length pos → length q ≡ length pos → drop n q ≡ drop n pos → is_corner_pos q pos ≡ true → (bs : List ℕ) × In bs (bit_lists n) × IsBits n bs × (moved pos bs ≡ q)
+pub corner_bits : (n : ℕ) (pos q : List ℕ) → n ≤ length pos → length q ≡ length pos → drop n q ≡ drop n pos → is_corner_pos q pos ≡ true → (bs : List ℕ) × In bs (bit_lists n) × IsBits n bs × (moved pos bs ≡ q)
 corner_bits zero pos q l m e t = ([], inl refl, tt, plain pos ∙ sym e)
   where
     plain : (p : List ℕ) → moved p [] ≡ p
@@ -52,48 +44,15 @@ corner_bits (suc n) (x ∷ pos) (y ∷ q) l m e t =
     near_far : (a b : ℕ) → (a == b || a == b + 1) ≡ true → (a ≡ b) ⊎ (a ≡ b + 1)
     near_far a b h = grind (arith, nat_tests)
 
--- a corner's coordinate is the cell's, or one more
-corner_coordinate : (axis : ℕ) (qs ps : List ℕ) → axis < length ps → is_corner_pos qs ps ≡ true → (slice_index ps axis ≤ slice_index qs axis) × (slice_index qs axis ≤ slice_index ps axis + 1)
-corner_coordinate axis qs [] h t = absurd (omega arith)
-corner_coordinate axis [] (p ∷ ps) h t = absurd (true≢false (sym t))
-corner_coordinate zero (q ∷ qs) (p ∷ ps) h t = both q p (and_left (q == p || q == p + 1) _ t)
-  where
-    both : (a b : ℕ) → (a == b || a == b + 1) ≡ true → (b ≤ a) × (a ≤ b + 1)
-    both a b e = elim (cases a b e) [ inl i ↦ (omega arith, omega arith) | inr i ↦ (omega arith, omega arith) ]
-      where
-        cases : (c d : ℕ) → (c == d || c == d + 1) ≡ true → (c ≡ d) ⊎ (c ≡ d + 1)
-        cases c d k = grind (arith, nat_tests)
-corner_coordinate (suc axis) (q ∷ qs) (p ∷ ps) h t = corner_coordinate axis qs ps (omega arith) (and_right (q == p || q == p + 1) _ t)
-
 pub order_on_grid : (axes : ℕ) (way : Way) (level : ℕ) → axes ≤ 4 → Each (OnGrid axes level) (order axes way level)
 order_on_grid axes way zero four = (root_on_grid axes four, tt)
 order_on_grid axes way (suc level) four = Each-flat_map (OnGrid axes (suc level)) (children axes way) (order axes way level)
     (Each-weaker (OnGrid axes level) _ (λ c on. children_on_grid axes way level c four on) (order axes way level) (order_on_grid axes way level four))
 
--- both cells of a step have the vertex for a corner
-step_corners : (axes : ℕ) (way : Way) (vertex a b : Place) → is_step axes way vertex a b ≡ true → (is_corner vertex a ≡ true) × (is_corner vertex b ≡ true)
-step_corners axes way vertex a b t =
-    list_any-Each _ (λ s. (is_corner vertex s.0 ≡ true) × (is_corner vertex s.1 ≡ true)) ((is_corner vertex a ≡ true) × (is_corner vertex b ≡ true))
-    (λ s e w. (subst (λ p. is_corner vertex p ≡ true) (same s.0 a (and_left (is_same s.0 a) (is_same s.1 b) e)) w.0, subst (λ p. is_corner vertex p ≡ true) (same s.1 b (and_right (is_same s.0 a) (is_same s.1 b) e)) w.1))
-    (steps (around axes way vertex)) t (steps_within (λ p. is_corner vertex p ≡ true) (around axes way vertex)
-    (Each-weaker _ (λ p. is_corner vertex p ≡ true) (λ p h. h.1) (around axes way vertex) (Each-filter (λ p. Unit {0}) (is_corner vertex) (order axes way vertex.level) (Each-all (λ p. Unit {0}) (λ p. tt) (order axes way vertex.level)))))
-  where
-    same : (x y : Place) → is_same x y ≡ true → x ≡ y
-    same x y e = let k = is_same-true x y e in ap₂ (λ l p. let v : Place = record { level = l; pos = p } in v) k.0 k.1
-
 pub inside_bound : (axes : ℕ) (vertex : Place) → IsInside axes vertex → (axis : ℕ) → axis < axes → slice_index vertex.pos axis ≤ 3 ^ vertex.level
 inside_bound axes vertex inside axis a = omega (arith, inside.pos.inside axis a)
 
 -- two cells one next to the other share one face, and no other
-one_axis : (axes axis j side s : ℕ) (a b : Place) → axis < length a.pos → slice_index b.pos axis ≢ slice_index a.pos axis → across (face_of j s) a ≡ b → j ≡ axis
-one_axis axes axis j side s a b l apart e = elim (which j axis) [
-  | inl h ↦ h
-  | inr h ↦ absurd (apart (ap (λ p. slice_index p.pos axis) (sym e) ∙ get_or-set_other a.pos j axis (beside s (slice_index a.pos j)) 0 (λ k. h (sym k))))
-]
-  where
-    which : (x y : ℕ) → (x ≡ y) ⊎ (x ≢ y)
-    which x y = grind arith
-
 up_alone : (axes axis : ℕ) (a : Place) (other : Face) → axis < length a.pos → other.side < 2 → across other a ≡ up_cell axis a → other ≡ face_of axis 1
 up_alone axes axis a other l s e =
     let moved_up : slice_index (up_cell axis a).pos axis ≡ slice_index a.pos axis + 1 = get_or-set_same a.pos axis (slice_index a.pos axis + 1) 0 l in

@@ -14,7 +14,7 @@ use Rattle.pe_base.proofs.Faces.Waits.{child_in_tree}
 use Rattle.pe_base.proofs.Steps.Counts.{OnGrid, child_on_grid, root_on_grid}
 use Rattle.pe_walk.specs.Laws.{IsCell}
 use Rattle.pe_walk.proofs.Unwalked.{contains_in, in_contains}
-use Rattle.pe_walk.proofs.Steps.{all_zeros, zeros_behind}
+use Rattle.pe_base.proofs.Faces.Bridge.{all_zeros, zeros_behind}
 
 index_map : (f : ℕ → ℕ) (pos : List ℕ) (axis : ℕ) → f 0 ≡ 0 → slice_index (map f pos) axis ≡ f (slice_index pos axis)
 index_map f [] axis h = sym h

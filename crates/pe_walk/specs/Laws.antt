@@ -2,15 +2,17 @@
 --
 -- They hold for each number of axes from two to four, each way, each number of levels below a cell, and each choice of
 -- the vertices that count. In a walk the vertices that are not hanging count.
-use Rattle.std.specs.Prelude.{◌≡◌, ℕ, suc, ◌+◌, ◌-◌, ◌*◌, ◌^◌, ◌<◌, ◌≤◌, Bool, true, false, List, [], ◌++◌, take, length, slice_index_or}
+use Rattle.std.specs.Prelude.{◌≡◌, ◌⊎◌, ℕ, suc, ◌+◌, ◌*◌, ◌^◌, ◌<◌, ◌≤◌, Bool, true, false, List, [], ◌++◌, take, length, slice_index_or}
 use Rattle.std.specs.List.{flat_map, list_any, All, Contains}
 use Rattle.pe_base.specs.declared.place.Place.{Place}
 use Rattle.pe_base.specs.declared.way.Way.{Way}
 use Rattle.pe_base.specs.Tree.Dim.{IsDim}
-use Rattle.pe_base.specs.Tree.Places.{root, IsPosition, IsInside, is_same}
+use Rattle.pe_base.specs.Tree.Places.{root, IsPosition, IsInside, corner, is_same}
 use Rattle.pe_base.specs.Tree.Curve.{children, order}
 use Rattle.pe_base.specs.Steps.Around.{around, steps}
-use Rattle.pe_base.specs.Steps.Faces.{Face, across, stack_of, face_on, loads, stores, arriving, leaving, in_corners, out_corners, is_touched, is_step, Turns, TurnsApart, cell_turns, touched_for, steps_to, steps_from}
+use Rattle.pe_base.specs.Steps.Routes.{stack_in, stack_out}
+use Rattle.pe_base.specs.Steps.Stacks.{AcrossNone, AcrossOne, ComeByFaces, GoByFaces}
+use Rattle.pe_base.specs.Steps.Faces.{Face, IsFace, facing, ShareFace, across, stack_of, face_on, loads, stores, arriving, leaving, in_corners, out_corners, is_touched, is_step, Turns, TurnsApart, Turn, cell_turns, touched_for, steps_to, steps_from}
 
 -- a cell of the tree
 abbrev pub IsCell : ℕ → Way → Place → Type 0
@@ -25,17 +27,6 @@ pub record Tree (axes : ℕ) (way : Way) : Type 0 where
 
 abbrev pub CellsOfTheTree : Type 0
 CellsOfTheTree = (axes : ℕ) (way : Way) → IsDim axes → Tree axes way
-
-abbrev pub IsFace : ℕ → Face → Type 0
-IsFace axes face = (face.axis < axes) × (face.side < 2)
-
--- the same face, as the neighbour across it sees it
-abbrev pub facing : Face → Face
-facing face = record { axis = face.axis; side = 1 - face.side }
-
--- two cells of one level share a face: each lies across it from the other
-abbrev pub ShareFace : Face → Place → Place → Type 0
-ShareFace face a b = (across face a ≡ b) × (across (facing face) b ≡ a)
 
 -- Neighbours agree. What a cell leaves at a face is what arrives in its neighbour there, in one order. It holds
 -- whichever of the two comes first in the walk; where the neighbour does, both lists are empty, by the next law.
@@ -70,6 +61,14 @@ Composition = (axes : ℕ) (way : Way) (counts : Place → Bool) (levels axis pa
     (arriving axes way counts levels (face_on axis parity cell) cell ++ beneath)
     (leaving axes way counts levels (face_on axis parity cell) cell ++ beneath)
 
+-- Turns one after another: the latter find what the former leave.
+pub record Joined (turns more : List Turn) (before after : List Place) : Type 0 where
+  pub join : (between : List Place) → Turns turns before between → Turns more between after → Turns (turns ++ more) before after
+  pub split : Turns (turns ++ more) before after → (between : List Place) × Turns turns before between × Turns more between after
+
+abbrev pub TurnsJoin : Type 0
+TurnsJoin = (turns more : List Turn) (before after : List Place) → Joined turns more before after
+
 -- What lies beneath is not touched. Where the walk of a cell touches nothing of what lies beneath its lists, no child
 -- touches anything of what lies beneath its own, nor do the loads and stores of the cell's corners.
 abbrev pub BeneathUntouched : Type 0
@@ -85,14 +84,19 @@ StoresAsLoads = (axes : ℕ) (way : Way) (levels : ℕ) (cell vertex : Place) �
 
 -- The loads of a vertex and its stores: each is for the cells around it, in the order of the walk; after n loads the pops
 -- are the steps among the first n cells, and after n stores the pushes are the steps among the first n + 1.
-pub record Counted (axes : ℕ) (way : Way) (levels : ℕ) (vertex : Place) (n : ℕ) : Type 0 where
+pub record Counted (axes : ℕ) (way : Way) (levels : ℕ) (vertex : Place) : Type 0 where
   pub loaded : touched_for vertex (loads axes way levels root) ≡ around axes way vertex
-  pub popped : flat_map (steps_to axes way vertex) (take n (touched_for vertex (loads axes way levels root))) ≡ steps (take n (around axes way vertex))
   pub stored : touched_for vertex (stores axes way levels root) ≡ around axes way vertex
-  pub pushed : flat_map (steps_from axes way vertex) (take n (touched_for vertex (stores axes way levels root))) ≡ steps (take (suc n) (around axes way vertex))
+  pub popped : (n : ℕ) → flat_map (steps_to axes way vertex) (take n (around axes way vertex)) ≡ steps (take n (around axes way vertex))
+  pub pushed : (n : ℕ) → flat_map (steps_from axes way vertex) (take n (around axes way vertex)) ≡ steps (take (suc n) (around axes way vertex))
 
 abbrev pub Counts : Type 0
-Counts = (axes : ℕ) (way : Way) (levels : ℕ) (vertex : Place) (n : ℕ) → IsDim axes → IsInside axes vertex → vertex.level ≤ levels → Counted axes way levels vertex n
+Counts = (axes : ℕ) (way : Way) (levels : ℕ) (vertex : Place) → IsDim axes → IsInside axes vertex → vertex.level ≤ levels → Counted axes way levels vertex
+
+-- The cells for which the walk of a cell loads a vertex stand together in the list around the vertex.
+abbrev pub StandTogether : Type 0
+StandTogether = (axes : ℕ) (way : Way) (levels : ℕ) (cell vertex : Place) → IsDim axes → IsCell axes way cell → IsInside axes vertex
+    → (before : List Place) × (behind : List Place) × (around axes way vertex ≡ before ++ (touched_for vertex (loads axes way levels cell) ++ behind))
 
 -- Each step around an inside vertex crosses one face, and no other lies between the two cells.
 pub record Crosses (axes : ℕ) (a b : Place) : Type 0 where
@@ -103,6 +107,24 @@ pub record Crosses (axes : ℕ) (a b : Place) : Type 0 where
 
 abbrev pub StepsCrossFaces : Type 0
 StepsCrossFaces = (axes : ℕ) (way : Way) (vertex a b : Place) → IsDim axes → IsInside axes vertex → is_step axes way vertex a b ≡ true → Crosses axes a b
+
+-- A corner of a cell comes to the cell across no face, or across one, and by the face's stack; it goes likewise.
+pub record CrossesOnce (axes : ℕ) (way : Way) (cell vertex : Place) : Type 0 where
+  pub comes : AcrossNone (stack_in axes way vertex cell) (λ other. is_step axes way vertex other cell)
+      ⊎ AcrossOne axes vertex cell (stack_in axes way vertex cell) (λ other. is_step axes way vertex other cell)
+  pub goes : AcrossNone (stack_out axes way vertex cell) (λ other. is_step axes way vertex cell other)
+      ⊎ AcrossOne axes vertex cell (stack_out axes way vertex cell) (λ other. is_step axes way vertex cell other)
+
+abbrev pub CornersCrossOnce : Type 0
+CornersCrossOnce = (axes : ℕ) (way : Way) (cell : Place) (k : ℕ) → IsDim axes → IsCell axes way cell → k < 2 ^ axes → CrossesOnce axes way cell (corner axes cell k)
+
+-- So the corners that come by a stack are those of the cell's face on it, and those that go by it likewise.
+pub record StacksAreFaces (axes : ℕ) (way : Way) (counts : Place → Bool) (cell : Place) : Type 0 where
+  pub come : ComeByFaces axes way counts cell
+  pub go : GoByFaces axes way counts cell
+
+abbrev pub CornersOnStacks : Type 0
+CornersOnStacks = (axes : ℕ) (way : Way) (counts : Place → Bool) (cell : Place) → IsDim axes → IsCell axes way cell → StacksAreFaces axes way counts cell
 
 -- There the one cell leaves the vertex, and it arrives in the other, if it counts.
 abbrev pub StepsAreCorners : Type 0
@@ -115,10 +137,14 @@ CornersAreSteps = (axes : ℕ) (way : Way) (counts : Place → Bool) (face : Fac
     → (Contains (in_corners axes way counts face cell) vertex → (counts vertex ≡ true) × (is_step axes way vertex (across face cell) cell ≡ true))
     × (Contains (out_corners axes way counts face cell) vertex → (counts vertex ≡ true) × (is_step axes way vertex cell (across face cell) ≡ true))
 
--- Which cells of an adaptive grid are walked, and which vertices count there: a cell is walked only if its parent is,
--- and all cells around a vertex that counts are.
+-- Which cells of an adaptive grid are walked, and which vertices count there: the root's children are walked; a cell of
+-- the tree is walked only if its parent is, and all its children are or none; what counts lies inside the root, and all
+-- cells around it are walked.
 pub record IsWalk (axes : ℕ) (way : Way) (walked counts : Place → Bool) : Type 0 where
-  pub parents : (either : Way) (cell child : Place) → Contains (children axes either cell) child → walked child ≡ true → walked cell ≡ true
+  pub first : (child : Place) → Contains (children axes way root) child → walked child ≡ true
+  pub parents : (cell child : Place) → IsCell axes way cell → Contains (children axes way cell) child → walked child ≡ true → walked cell ≡ true
+  pub all_or_none : (cell child other : Place) → IsCell axes way cell → Contains (children axes way cell) child → Contains (children axes way cell) other → walked child ≡ walked other
+  pub inside : (vertex : Place) → counts vertex ≡ true → IsInside axes vertex
   pub all_around : (vertex : Place) → counts vertex ≡ true → All (λ cell. walked cell ≡ true) (around axes way vertex)
 
 -- Nothing arrives in a cell that is not walked, and nothing is left there.

@@ -1,3 +1,24 @@
--- The laws of the walk.
+-- The walk on stacks, and its laws, in reading order.
+
+-- which lists a cell finds and leaves at its faces, and which cells are walked
 pub mod Laws
+-- the walk over places on stacks
+pub mod Tokens
+-- what the walk of a cell takes off each stack, and what it gives
+pub mod Takings
+-- the laws of that walk
+pub mod TokenLaws
+-- a place is on one stack, or held, or nowhere
+pub mod Apart
+-- what the walk over places asks of a grid
+pub mod Outlooks
+-- streams in the order of grids
+pub mod StreamLaws
+-- what is moved, and how much is out
+pub mod Traffic
+-- grids and streams for the worked rows
 pub mod Grids
+-- the walk on stacks as a machine of lists
+pub mod Machine
+-- traversals of it for the worked rows
+pub mod Examples

@@ -3,6 +3,8 @@
 
 pub mod laws;
 #[cfg(test)]
+mod machine_rows;
+#[cfg(test)]
 mod plain;
 #[cfg(test)]
 mod rows;

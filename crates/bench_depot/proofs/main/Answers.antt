@@ -1,6 +1,6 @@
 use Rattle.std.proofs.Common.{◌^◌}
 use Rattle.pe_stacks.specs.VecDepot.{holdings_of}
-use Rattle.pe_stacks.proofs.Counts.{within_new}
+use Rattle.pe_stacks.proofs.Raising.{within_new}
 use Rattle.bench_depot.proofs.main.Goals as goal
 
 pub measure_rounds-requires-clause-counts : goal.measure_rounds-requires-clause-counts

@@ -3,13 +3,14 @@ use Rattle.std.proofs.Common.{◌≡◌, ℕ, zero, suc, ◌+◌, ◌-◌, ◌*�
 use Rattle.std.specs.List.{flat_map, list_any}
 use Rattle.pe_base.specs.declared.place.Place.{Place}
 use Rattle.pe_base.specs.declared.way.Way.{Way}
+use Rattle.pe_base.specs.Tree.Ways.{opposite}
 use Rattle.pe_base.specs.declared.way.Way.TheVariants.{Forward, Inverted}
 use Rattle.pe_base.specs.Tree.Places.{finer, is_same}
 use Rattle.pe_base.specs.Tree.Curve.{digit_lists, flip, children}
 use Rattle.pe_base.specs.Steps.Faces.{Turns, Turns, Face, Turn, TurnsApart, across, face_on, is_touched, loads, corner_touches, comes_across, goes_across, at_face, arriving, leaving, in_corners, out_corners, child_turn, corner_turn, cell_turns}
 use Rattle.pe_base.proofs.Lists.{In, In-map, Each-In, Each-left, Each-right, Each-parts, list_any_none, none_Each, Each, Each-weaker, Each-reverse, Each-filter, map-map, flat_map_same, flat_map-map, filter_same, filter-map, filter-reverse}
 use Rattle.pe_base.proofs.Tree.Mirrors.{Digits3, complement, digit_lists_below, reverse-digit_lists, turned_complement}
-use Rattle.pe_base.proofs.Tree.Children.{opposite, turn_of as way_turn, Pairs-range, flips_in, length-flips, child_of, child_ks, child_index, children_are}
+use Rattle.pe_base.proofs.Tree.Children.{turn_of as way_turn, Pairs-range, flips_in, length-flips, child_of, child_ks, child_index, children_are}
 use Rattle.pe_base.proofs.Tree.Corners.{own_corners}
 use Rattle.pe_base.proofs.Faces.FaceLists.{face_of, is_child_at, at_face_parts, leaving_is}
 use Rattle.pe_base.proofs.Tree.Ranks.{value, rank, rank_of, Each-digits, rank-child, child_four}
@@ -213,3 +214,12 @@ composes_any axes way counts levels axis parity cell four a l tree beneath =
     let gives = leaving axes way counts levels (face_on axis parity cell) cell in
     subst₂ (Turns (cell_turns axes way counts levels axis parity cell)) (ap (λ x. x ++ beneath) (append-nil takes)) (ap (λ x. x ++ beneath) (append-nil gives))
     (plain (cell_turns axes way counts levels axis parity cell) (takes ++ []) (gives ++ []) beneath (composes axes way counts levels axis parity cell four a l tree [] refl))
+
+-- turns one after another
+pub Turns-join : (turns more : List Turn) (before between after : List Place) → Turns turns before between → Turns more between after → Turns (turns ++ more) before after
+Turns-join [] more before between after s t = subst (λ x. Turns more x after) (sym s) t
+Turns-join (turn ∷ turns) more before between after s t = (s.0, s.1, Turns-join turns more (turn.gives ++ s.0) between after s.2 t)
+
+pub Turns-split : (turns more : List Turn) (before after : List Place) → Turns (turns ++ more) before after → (between : List Place) × Turns turns before between × Turns more between after
+Turns-split [] more before after s = (before, refl, s)
+Turns-split (turn ∷ turns) more before after s = let rest = Turns-split turns more (turn.gives ++ s.0) after s.2 in (rest.0, (s.0, s.1, rest.1), rest.2)

@@ -3,12 +3,13 @@ use Rattle.std.proofs.Common.{◌≡◌, ℕ, zero, suc, ◌+◌, ◌-◌, ◌*�
 use Rattle.std.proofs.lemmas.Bool.Decides.{nat_tests}
 use Rattle.pe_base.specs.declared.place.Place.{Place}
 use Rattle.pe_base.specs.declared.way.Way.{Way}
+use Rattle.pe_base.specs.Tree.Ways.{opposite}
 use Rattle.pe_base.specs.Tree.Places.{finer, moved}
 use Rattle.pe_base.specs.Tree.Curve.{digit_lists, turned}
 use Rattle.pe_base.specs.Steps.Faces.{Face, Touch, beside, across, corner_touches, loads, comes_across, goes_across, at_face, arriving, leaving}
 use Rattle.pe_base.proofs.Lists.{Each, Each-all, Each-weaker, Each-map, Each-filter, filter_none, flat_map_none}
 use Rattle.pe_base.proofs.Tree.Mirrors.{Digits3, digit_lists_below, sum_of, sum-turned, mirrored_below}
-use Rattle.pe_base.proofs.Tree.Children.{opposite, flips_in, length-flips, child_of, child_ks, child_ks-below, child_index}
+use Rattle.pe_base.proofs.Tree.Children.{flips_in, length-flips, child_of, child_ks, child_ks-below, child_index}
 use Rattle.pe_base.proofs.Tree.Corners.{bit_lists, own_corners, pow_three}
 use Rattle.pe_base.proofs.Faces.FaceLists.{is_child_at, at_face_parts, leaving_is}
 use Rattle.pe_base.proofs.Tree.Ranks.{value, thirds, rests, rank, rank_of, thirds-finer, thirds-child, child_digits-below, length-child_digits, child_four, and_right, is_step-rises}

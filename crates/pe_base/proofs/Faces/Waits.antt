@@ -4,13 +4,14 @@ use Rattle.std.specs.List.{list_any}
 use Rattle.std.proofs.lemmas.Bool.Decides.{nat_tests}
 use Rattle.pe_base.specs.declared.place.Place.{Place}
 use Rattle.pe_base.specs.declared.way.Way.{Way}
+use Rattle.pe_base.specs.Tree.Ways.{opposite}
 use Rattle.pe_base.specs.Tree.Places.{moved, is_same}
 use Rattle.pe_base.specs.Tree.Curve.{digit_lists, children, order}
 use Rattle.pe_base.specs.Steps.Around.{is_corner_pos, is_corner, around, steps}
 use Rattle.pe_base.specs.Steps.Faces.{Face, Touch, across, is_step, corner_touches, loads, comes_across, goes_across, at_face, arriving, leaving, is_touched}
 use Rattle.pe_base.proofs.Lists.{Each, Each-all, Each-weaker, Each-append, Each-map, Each-flat_map, Each-filter, Each-reverse, In, In-append_left, In-append_right, In-map, In-flat_map, In-filter, Each-In, list_any_none}
 use Rattle.pe_base.proofs.Tree.Mirrors.{Digits3, digit_lists_below}
-use Rattle.pe_base.proofs.Tree.Children.{opposite, child_of, children_are}
+use Rattle.pe_base.proofs.Tree.Children.{child_of, children_are}
 use Rattle.pe_base.proofs.Tree.Corners.{IsBits, bit_lists, bit_lists_below, own_corners, touch_at, corner_touches_are}
 use Rattle.pe_base.proofs.Faces.FaceLists.{is_child_at, at_face_parts, leaving_is}
 use Rattle.pe_base.proofs.Tree.Ranks.{thirds, rank, rank_of, thirds-child, child_four, and_left, and_right, is_same-true, IsClose, steps_close, around_rises, top, list_any-Each}

@@ -4,17 +4,18 @@ use Rattle.std.specs.List.{flat_map}
 use Rattle.std.specs.Cmp.Lexicographic.{pointwise}
 use Rattle.std.proofs.lemmas.List.{map-append, reverse-reverse}
 use Rattle.std.proofs.lemmas.List.Elements.{filter-append}
-use Rattle.std.proofs.lemmas.List.Concat.{flat_map_single}
+use Rattle.std.proofs.lemmas.List.Concat.{flat_map_single, flat_map-append}
 use Rattle.std.proofs.lemmas.Bool.Decides.{nat_tests}
 use Rattle.pe_base.specs.declared.place.Place.{Place}
 use Rattle.pe_base.specs.declared.way.Way.{Way}
+use Rattle.pe_base.specs.Tree.Ways.{opposite}
 use Rattle.pe_base.specs.Tree.Places.{root, finer, moved, is_same}
 use Rattle.pe_base.specs.Tree.Curve.{digit_lists, children, order}
 use Rattle.pe_base.specs.Steps.Around.{is_corner_pos, is_corner, around, steps}
 use Rattle.pe_base.specs.Steps.Faces.{Touch, corner_touches, loads, stores, touched_for, steps_to, steps_from}
-use Rattle.pe_base.proofs.Lists.{Each, Each-all, Each-weaker, Each-map, Each-reverse, map-map, flat_map_same, flat_map_none, map-flat_map, flat_map-flat_map, filter-flat_map, filter-map, filter_none, filter_same, map-reverse, filter-reverse, reverse-flat_map}
+use Rattle.pe_base.proofs.Lists.{Each, In, Each-all, Each-weaker, Each-map, Each-reverse, map-map, flat_map_same, flat_map_none, map-flat_map, flat_map-flat_map, filter-flat_map, filter-map, filter_none, filter_same, map-reverse, filter-reverse, reverse-flat_map}
 use Rattle.pe_base.proofs.Tree.Mirrors.{Digits3, digit_lists_below}
-use Rattle.pe_base.proofs.Tree.Children.{opposite, reverse-children, child_of, child_ks, child_ks-below, children_are, length-digits}
+use Rattle.pe_base.proofs.Tree.Children.{reverse-children, child_of, child_ks, child_ks-below, children_are, length-digits}
 use Rattle.pe_base.proofs.Tree.Corners.{bit_lists, touch_at, corner_touches_are}
 use Rattle.pe_base.proofs.Faces.FaceLists.{reverse-stores}
 use Rattle.pe_base.proofs.Tree.Ranks.{Rising, Rising-above, rank, rank_of, child_four, is_same-true, around_rises, top}
@@ -26,16 +27,16 @@ module _ {X : Type 0} (same : X → X → Bool) (r : X → ℕ) (itself : (x : X
   other : (x y : X) → r x < r y → same x y ≡ false
   other x y h = false_unless (same x y) (λ e. omega (arith, ranks x y e))
 
-  other_back : (x y : X) → r x < r y → same y x ≡ false
+  pub other_back : (x y : X) → r x < r y → same y x ≡ false
   other_back x y h = false_unless (same y x) (λ e. omega (arith, ranks y x e))
 
-  abbrev to : List X → X → List (X × X)
+  abbrev pub to : List X → X → List (X × X)
   to xs x = filter (λ s. same s.1 x) (steps xs)
 
   abbrev from : List X → X → List (X × X)
   from xs x = filter (λ s. same s.0 x) (steps xs)
 
-  later_steps : (low high : ℕ) (xs : List X) → Rising r low xs high → Each (λ s. (low ≤ r s.0) × (suc low ≤ r s.1)) (steps xs)
+  pub later_steps : (low high : ℕ) (xs : List X) → Rising r low xs high → Each (λ s. (low ≤ r s.0) × (suc low ≤ r s.1)) (steps xs)
   later_steps low high [] s = tt
   later_steps low high (x ∷ []) s = tt
   later_steps low high (x ∷ y ∷ xs) s = ((s.0, omega (arith, s.0, s.1.0)), Each-weaker _ _ (λ e h. (omega (arith, h.0, s.0), omega (arith, h.1, s.0))) (steps (y ∷ xs)) (later_steps (suc (r x)) high (y ∷ xs) s.1))
@@ -82,6 +83,24 @@ module _ {X : Type 0} (same : X → X → Bool) (r : X → ℕ) (itself : (x : X
       let tail : flat_map (from (x ∷ y ∷ xs)) (take n (y ∷ xs)) ≡ flat_map (from (y ∷ xs)) (take n (y ∷ xs)) =
       flat_map_same _ _ (take n (y ∷ xs)) (Each-take _ n (y ∷ xs) (Each-weaker _ _ (λ c h. skip (λ e. same e.0 c) (x, y) (steps (y ∷ xs)) (other x c h)) (y ∷ xs) (Rising-above r (suc (r x)) high (y ∷ xs) s.1))) in
       ap₂ (λ a b. a ++ b) one (tail ∙ steps_from_first n (suc (r x)) high (y ∷ xs) s.1)
+
+-- at most one step ends at an item
+module _ {X : Type 0} (same : X → X → Bool) (r : X → ℕ) (itself : (x : X) → same x x ≡ true) (ranks : (x y : X) → same x y ≡ true → r x ≡ r y) where
+  pub step_alone : (low high : ℕ) (xs : List X) (x : X) → Rising r low xs high → (to same r itself ranks xs x ≡ []) ⊎ ((s : X × X) × (to same r itself ranks xs x ≡ s ∷ []))
+  step_alone low high [] x s = inl refl
+  step_alone low high (a ∷ []) x s = inl refl
+  step_alone low high (a ∷ b ∷ xs) x s = go (same b x) refl (step_alone (suc (r a)) high (b ∷ xs) x s.1)
+    where
+      more : List (X × X)
+      more = to same r itself ranks (b ∷ xs) x
+
+      go : (t : Bool) → same b x ≡ t → (more ≡ []) ⊎ ((e : X × X) × (more ≡ e ∷ [])) → (cond t ((a, b) ∷ more) more ≡ []) ⊎ ((e : X × X) × (cond t ((a, b) ∷ more) more ≡ e ∷ []))
+      go true is ih = inr (
+        (a, b),
+        ap (λ m. (a, b) ∷ m) (filter_none (λ e. same e.1 x) (steps (b ∷ xs))
+            (Each-weaker _ _ (λ e h. other_back same r itself ranks x e.1 (omega (arith, h.1, ranks b x is))) (steps (b ∷ xs)) (later_steps same r itself ranks (r b) high (b ∷ xs) (omega arith, s.1.1)))),
+      )
+      go false is ih = ih
 
 -- a place is the same as itself
 pub same_itself : (x : ℕ) → (x == x) ≡ true
@@ -143,10 +162,10 @@ pub children_on_grid : (axes : ℕ) (way : Way) (level : ℕ) (cell : Place) →
 children_on_grid axes way level cell four on = subst (Each (OnGrid axes (suc level))) (sym (children_are axes way cell))
     (Each-map (OnGrid axes (suc level)) (child_of axes way cell) (digit_lists axes) (Each-weaker (Digits3 axes) _ (λ ts d. child_on_grid axes way level cell ts four on d) (digit_lists axes) (digit_lists_below axes)))
 
-eq_true : (x y : ℕ) → x ≡ y → (x == y) ≡ true
+pub eq_true : (x y : ℕ) → x ≡ y → (x == y) ≡ true
 eq_true x y h = grind (arith, nat_tests)
 
-eq_false : (x y : ℕ) → x ≢ y → (x == y) ≡ false
+pub eq_false : (x y : ℕ) → x ≢ y → (x == y) ≡ false
 eq_false x y h = grind (arith, nat_tests)
 
 pub true_eq : (x y : ℕ) → (x == y) ≡ true → x ≡ y
@@ -290,7 +309,7 @@ loaded_for_around axes way levels vertex four v h =
     ∙ ap (filter (is_corner vertex)) (sym (append-nil (below axes way vertex.level root)) ∙ below_order axes way vertex.level 0 ∙ ap (order axes way) (let e : deeper vertex.level 0 ≡ vertex.level = omega (arith, deeper_is vertex.level 0) in e))
 
 -- the order in the other way is the order backwards
-reverse-order : (axes : ℕ) (way : Way) (level : ℕ) → order axes (opposite way) level ≡ reverse (order axes way level)
+pub reverse-order : (axes : ℕ) (way : Way) (level : ℕ) → order axes (opposite way) level ≡ reverse (order axes way level)
 reverse-order axes way zero = refl
 reverse-order axes way (suc level) =
     ap (flat_map (children axes (opposite way))) (reverse-order axes way level)
@@ -305,3 +324,48 @@ stored_for_around axes way levels vertex four v h =
     ∙ map-reverse (λ t. t.cell) (filter (λ t. is_same t.vertex vertex) (loads axes (opposite way) levels root))
     ∙ ap reverse (loaded_for_around axes (opposite way) levels vertex four v h ∙ ap (filter (is_corner vertex)) (reverse-order axes way vertex.level) ∙ filter-reverse (is_corner vertex) (order axes way vertex.level))
     ∙ reverse-reverse (around axes way vertex)
+
+-- an item of a list stands between what is before it and what is behind it
+between_others : {X : Type 0} (x : X) (xs : List X) → In x xs → (before : List X) × (behind : List X) × (xs ≡ before ++ x ∷ behind)
+between_others x [] i = absurd (omega arith)
+between_others x (y ∷ xs) i = elim i [
+  | inl e ↦ ([], xs, ap (λ z. z ∷ xs) (sym e))
+  | inr j ↦ let rest = between_others x xs j in (y ∷ rest.0, rest.1, ap (λ zs. y ∷ zs) rest.2)
+]
+
+-- a cell that ends above a vertex does not load it
+higher_touches : (axes : ℕ) (way : Way) (levels level : ℕ) (vertex cell : Place) → axes ≤ 4 → OnGrid axes level cell → level + levels < vertex.level → touched_for vertex (loads axes way levels cell) ≡ []
+higher_touches axes way zero level vertex cell four c h = other_touches axes vertex cell four (omega (arith, c.0))
+higher_touches axes way (suc levels) level vertex cell four c h =
+    touched-append vertex (reverse (corner_touches axes cell)) (flat_map (loads axes way levels) (children axes way cell))
+    ∙ ap₂ (λ x y. x ++ y) (other_touches axes vertex cell four (omega (arith, c.0)))
+    (touched-flat_map vertex (loads axes way levels) (children axes way cell)
+    ∙ flat_map_none _ (children axes way cell) (Each-weaker (OnGrid axes (suc level)) _ (λ d on. higher_touches axes way levels (suc level) vertex d four on (omega arith)) (children axes way cell) (children_on_grid axes way level cell four c)))
+
+-- the cells for which a cell loads a vertex stand together around it
+pub stand_together : (axes : ℕ) (way : Way) (levels : ℕ) (vertex cell : Place) → axes ≤ 4 → OnGrid axes vertex.level vertex → OnGrid axes cell.level cell → In cell (order axes way cell.level)
+    → (before : List Place) × (behind : List Place) × (around axes way vertex ≡ before ++ (touched_for vertex (loads axes way levels cell) ++ behind))
+stand_together axes way levels vertex cell four v c i = elim (where_it_is vertex.level cell.level levels) [
+  | inl h ↦ ([], around axes way vertex, ap (λ l. l ++ around axes way vertex) (sym (deeper_touches axes way levels cell.level vertex cell four c h)))
+  | inr more ↦ elim more [
+    | inl h ↦ ([], around axes way vertex, ap (λ l. l ++ around axes way vertex) (sym (higher_touches axes way levels cell.level vertex cell four c h)))
+    | inr h ↦
+        let m = vertex.level - cell.level in
+        let test = is_corner vertex in
+        let parts = between_others cell (order axes way cell.level) i in
+        let f = λ (cells : List Place). filter test (flat_map (below axes way m) cells) in (
+          f parts.0,
+          f parts.1,
+          ap (λ n. filter test (order axes way n)) (let e : vertex.level ≡ deeper m cell.level = omega (arith, deeper_is m cell.level) in e)
+              ∙ ap (filter test) (sym (below_order axes way m cell.level) ∙ ap (flat_map (below axes way m)) parts.2 ∙ flat_map-append (below axes way m) parts.0 (cell ∷ parts.1))
+              ∙ filter-append test (flat_map (below axes way m) parts.0) (below axes way m cell ++ flat_map (below axes way m) parts.1)
+              ∙ ap (λ r. f parts.0 ++ r) (filter-append test (below axes way m cell) (flat_map (below axes way m) parts.1))
+              ∙ ap (λ r. f parts.0 ++ (r ++ f parts.1))
+              (sym (loads_below axes way m (levels - m) cell.level vertex cell four v c (let e : vertex.level ≡ deeper m cell.level = omega (arith, deeper_is m cell.level) in e))
+              ∙ ap (λ n. touched_for vertex (loads axes way n cell)) (let e : m + (levels - m) ≡ levels = omega arith in e)),
+        )
+  ]
+]
+  where
+    where_it_is : (a b n : ℕ) → (a < b) ⊎ ((b + n < a) ⊎ ((b ≤ a) × (a ≤ b + n)))
+    where_it_is a b n = grind arith

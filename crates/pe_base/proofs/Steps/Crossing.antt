@@ -6,13 +6,14 @@ use Rattle.std.proofs.lemmas.List.Elements.{filter-append}
 use Rattle.std.proofs.lemmas.Bool.Decides.{nat_tests}
 use Rattle.pe_base.specs.declared.place.Place.{Place}
 use Rattle.pe_base.specs.declared.way.Way.{Way}
+use Rattle.pe_base.specs.Tree.Ways.{opposite}
 use Rattle.pe_base.specs.Tree.Places.{root, finer, is_same}
 use Rattle.pe_base.specs.Tree.Curve.{digit_lists, mirrored, turned, children, order}
 use Rattle.pe_base.specs.Steps.Around.{is_corner_pos, is_corner, around, steps}
 use Rattle.pe_base.specs.Steps.Faces.{in_finest, is_step, loads, touched_for}
 use Rattle.pe_base.proofs.Lists.{Each, Each-all, Each-weaker, Each-filter, map-map, map_same, flat_map_same, flat_map-map, flat_map-filter, map-flat_map, filter-flat_map, filter-map, filter_same, filter_none, map-reverse, filter-reverse, reverse-cons, reverse-flat_map}
 use Rattle.pe_base.proofs.Tree.Mirrors.{Digits3, complement, digit_lists_below, reverse-digit_lists, mirrored_even, mirrored_odd, even_or_odd, Pairs-same, turned_complement, turned_across, turned_across-digit, up}
-use Rattle.pe_base.proofs.Tree.Children.{opposite, flips_in, flips_agree, length-flips, child_of, child_ks, child_ks-below, child_index, children_are, reverse-children, slice_index-below, length-digits}
+use Rattle.pe_base.proofs.Tree.Children.{flips_in, flips_agree, length-flips, child_of, child_ks, child_ks-below, child_index, children_are, reverse-children, slice_index-below, length-digits}
 use Rattle.pe_base.proofs.Tree.Corners.{pow_three, same_tests}
 use Rattle.pe_base.proofs.Faces.FaceLists.{face_of, up_cell, is_child_at, Within, loads_within, off_plane}
 use Rattle.pe_base.proofs.Tree.Ranks.{list_any-Each, is_same-true, and_left, and_right}

@@ -12,7 +12,7 @@ use Rattle.pe_base.specs.Tree.Places.{at, bits, moved, corner}
 use Rattle.pe_base.specs.Tree.Curve.{order}
 use Rattle.pe_base.specs.Steps.Around.{is_corner_pos, is_corner, around, steps}
 use Rattle.pe_base.specs.Steps.Faces.{steps_to, steps_from}
-use Rattle.pe_base.specs.Life.Kinds.{is_inside}
+use Rattle.pe_base.specs.LevelOne.Kinds.{is_inside}
 use Rattle.pe_base.proofs.Lists.{Each, Each-all, Each-map, In, In-flat_map}
 use Rattle.pe_base.proofs.Tree.Children.{length-map-range}
 use Rattle.pe_base.proofs.Tree.Corners.{same_tests}

@@ -7,6 +7,7 @@ use Rattle.pe_base.specs.declared.place.Place.{Place}
 use Rattle.pe_base.specs.declared.way.Way.{Way}
 use Rattle.pe_base.specs.declared.way.Way.TheVariants.{Forward, Inverted}
 use Rattle.pe_base.specs.Tree.Places.{finer, child_at}
+use Rattle.pe_base.specs.Tree.Ways.{opposite}
 use Rattle.pe_base.specs.Tree.Curve.{digit_lists, turned, flip, flips, digits_of, child_digits, children}
 use Rattle.pe_base.proofs.Lists.{Each-weaker, map-map, map_same, map-reverse}
 use Rattle.pe_base.proofs.Tree.Mirrors.{Digits3, complement, digit_lists_below, complement_below, reverse-digit_lists, turned_below, Pairs, turned_complement, turned_same, AgreeBut, up}
@@ -14,10 +15,6 @@ use Rattle.pe_base.proofs.Tree.Mirrors.{Digits3, complement, digit_lists_below, 
 abbrev pub turn_of : Way → ℕ
 turn_of Forward = 0
 turn_of Inverted = 1
-
-abbrev pub opposite : Way → Way
-opposite Forward = Inverted
-opposite Inverted = Forward
 
 -- the flips of a cell, each turned once more where the walk is inverted
 abbrev pub flips_in : ℕ → Way → List ℕ → List ℕ

@@ -1,5 +1,5 @@
 -- The corners of a cell at a face, and of its neighbour there.
-use Rattle.std.proofs.Common.{◌≡◌, ℕ, zero, suc, ◌+◌, ◌-◌, ◌*◌, ◌^◌, ◌<◌, ◌≤◌, Bool, true, false, cond, ◌&&◌, ◌==◌, List, [], ◌∷◌, ◌++◌, map, filter, reverse, length, slice_index, refl, sym, ap, ap₂, ◌∙◌, pow-suc, arith}
+use Rattle.std.proofs.Common.{◌≡◌, ℕ, zero, suc, ◌+◌, ◌-◌, ◌*◌, ◌/◌, ◌%◌, ◌^◌, ◌<◌, ◌≤◌, Bool, true, false, cond, ◌&&◌, ◌==◌, List, [], ◌∷◌, ◌++◌, map, filter, reverse, length, slice_index, refl, sym, ap, ap₂, ◌∙◌, pow-suc, arith}
 use Rattle.std.specs.List.{flat_map, range_with_len}
 use Rattle.std.proofs.lemmas.List.Concat.{flat_map_single}
 use Rattle.std.proofs.Math.Nat.{eq_of_mul-eq-mul_right}
@@ -34,6 +34,13 @@ bits_are (suc (suc zero)) h = refl
 bits_are (suc (suc (suc zero))) h = refl
 bits_are (suc (suc (suc (suc zero)))) h = refl
 bits_are (suc (suc (suc (suc (suc n))))) h = absurd (omega arith)
+
+pub bits_in : (axes k : ℕ) → axes ≤ 4 → k < 2 ^ axes → IsBits axes (bits axes k)
+bits_in axes k four h = of_bits axes 0 axes (λ axis. k / 2 ^ axis % 2) (λ axis. omega arith)
+  where
+    of_bits : (axes a n : ℕ) (f : ℕ → ℕ) → ((axis : ℕ) → f axis < 2) → IsBits n (map f (range_with_len a n))
+    of_bits axes a zero f h = tt
+    of_bits axes a (suc n) f h = (h a, of_bits axes (a + 1) n f h)
 
 -- a test that treats the items of each part alike
 filter_parts : {X Y : Type 0} (p : Y → Bool) (q : X → Bool) (f : X → List Y) (xs : List X) → ((x : X) → filter p (f x) ≡ cond (q x) (f x) []) → filter p (flat_map f xs) ≡ flat_map f (filter q xs)

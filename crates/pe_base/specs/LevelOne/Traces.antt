@@ -1,14 +1,11 @@
--- What is printed of a traversal: the trace lines of its events, and its tally.
-use Rattle.std.specs.Prelude.{ℕ, Bool, List, [], ◌∷◌, ◌++◌, filter, codes, decimal}
+-- What is printed of a traversal: the trace lines of its events, and the line of its tally.
+use Rattle.std.specs.Prelude.{ℕ, Bool, List, [], ◌∷◌, ◌++◌, filter}
 use Rattle.std.specs.List.{flat_map, range_with_len}
 use Rattle.pe_base.specs.declared.event.Event.{Event}
 use Rattle.pe_base.specs.declared.event.Sort.{Sort}
 use Rattle.pe_base.specs.declared.event.Sort.TheVariants.{Plain, Vertex, Cell}
-use Rattle.pe_base.specs.declared.tally.Tally.{Tally}
-use Rattle.pe_base.specs.declared.way.Way.{Way}
-use Rattle.pe_base.specs.declared.way.Way.TheVariants.{Forward, Inverted}
 use Rattle.pe_base.specs.Acts.Events.{sort_of}
-use Rattle.pe_base.specs.Lines.{line, plain_line, place_line}
+use Rattle.pe_base.specs.Lines.{plain_line, place_line, tally_line}
 use Rattle.pe_base.specs.LevelOne.Working.{World, Firing}
 use Rattle.pe_base.specs.LevelOne.Walk.{traverse, each, nothing_stored}
 
@@ -28,16 +25,6 @@ trace_text traced axes traversal firings = flat_map (trace_line axes traversal) 
 -- an event prints its trace line, if it is traced, and does nothing else
 abbrev pub prints : (Event → Bool) → ℕ → ℕ → Firing → World → World
 prints traced axes traversal firing w = record w { text = w.text ++ trace_text traced axes traversal (firing ∷ []) }
-
--- the line of a tally
-abbrev pub way_name : Way → List ℕ
-way_name Forward = codes "forward"
-way_name Inverted = codes "inverted"
-
-abbrev pub tally_line : Tally → List ℕ
-tally_line tally = line (codes "traversal") (decimal tally.traversal ∷ way_name tally.way
-    ∷ codes "cells" ∷ decimal tally.cells ∷ codes "in" ∷ decimal tally.read ∷ codes "out" ∷ decimal tally.written
-    ∷ codes "created" ∷ decimal tally.created ∷ codes "destroyed" ∷ decimal tally.destroyed ∷ codes "hanging" ∷ decimal tally.hanging ∷ [])
 
 -- a traversal, and its tally line behind it
 abbrev pub traversed : (Event → Bool) → ℕ → ℕ → World → World

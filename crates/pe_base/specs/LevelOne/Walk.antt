@@ -9,7 +9,7 @@ use Rattle.pe_base.specs.declared.event.Event.TheVariants.{BeginIteration, EndIt
 use Rattle.pe_base.specs.Tree.Places.{root, corner}
 use Rattle.pe_base.specs.Tree.Ways.{way_of}
 use Rattle.pe_base.specs.Tree.Curve.{children}
-use Rattle.pe_base.specs.Life.Kinds.{level_one_kind}
+use Rattle.pe_base.specs.LevelOne.Kinds.{level_one_kind}
 use Rattle.pe_base.specs.Acts.Payloads.{zeros}
 use Rattle.pe_base.specs.LevelOne.Working.{World, Firing, fires}
 use Rattle.pe_base.specs.LevelOne.Touches.{load_vertex, store_vertex}

@@ -9,7 +9,7 @@
 --     +-----v-----+       at the face between them
 --
 -- All is defined on the regular tree of cells, some levels deep below a cell. A test says which vertices count.
-use Rattle.std.specs.Prelude.{◌≡◌, ℕ, zero, suc, ◌+◌, ◌-◌, ◌*◌, ◌%◌, ◌^◌, Bool, false, ◌&&◌, ◌==◌, List, [], ◌∷◌, ◌++◌, map, filter, reverse, if◌then◌else◌, slice_index, slice_set}
+use Rattle.std.specs.Prelude.{◌≡◌, ℕ, zero, suc, ◌+◌, ◌-◌, ◌*◌, ◌%◌, ◌^◌, ◌<◌, Bool, false, ◌&&◌, ◌==◌, List, [], ◌∷◌, ◌++◌, map, filter, reverse, if◌then◌else◌, slice_index, slice_set}
 use Rattle.std.specs.List.{flat_map, range_with_len, list_any}
 use Rattle.pe_base.specs.declared.place.Place.{Place}
 use Rattle.pe_base.specs.declared.way.Way.{Way}
@@ -22,6 +22,14 @@ pub record Face : Type 0 where
   pub axis : ℕ
   pub side : ℕ
 
+-- a face of a cell
+abbrev pub IsFace : ℕ → Face → Type 0
+IsFace axes face = (face.axis < axes) × (face.side < 2)
+
+-- the same face, as the neighbour across it sees it
+abbrev pub facing : Face → Face
+facing face = record { axis = face.axis; side = 1 - face.side }
+
 -- the position across a face; none is below 0, where the position stays
 abbrev pub beside : ℕ → ℕ → ℕ
 beside side x = if side == 0 then (x - 1) else (x + 1)
@@ -30,6 +38,10 @@ beside side x = if side == 0 then (x - 1) else (x + 1)
 -- which no list around a vertex has twice.
 abbrev pub across : Face → Place → Place
 across face cell = record { level = cell.level; pos = slice_set cell.pos face.axis (beside face.side (slice_index cell.pos face.axis)) }
+
+-- two cells of one level share a face: each lies across it from the other
+abbrev pub ShareFace : Face → Place → Place → Type 0
+ShareFace face a b = (across face a ≡ b) × (across (facing face) b ≡ a)
 
 -- the coordinate of a face on its axis
 abbrev pub plane : Face → Place → ℕ

@@ -71,6 +71,14 @@ moved (x ∷ xs) (d ∷ ds) = (x + d) ∷ moved xs ds
 abbrev pub corner : ℕ → Place → ℕ → Place
 corner axes cell k = record { level = cell.level; pos = moved cell.pos (bits axes k) }
 
+-- all corners of a cell, in ascending number
+abbrev pub corners : ℕ → Place → List Place
+corners axes cell = map (corner axes cell) (range_with_len 0 (2 ^ axes))
+
+-- the cell of which a cell is a child
+abbrev pub parent_of : Place → Place
+parent_of cell = record { level = cell.level - 1; pos = map (λ x. x / 3) cell.pos }
+
 -- a vertex's place strictly inside the root cube
 pub record IsInside (axes : ℕ) (place : Place) : Type 0 where
   pub level : place.level ≤ 20

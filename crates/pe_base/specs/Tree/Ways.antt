@@ -6,3 +6,8 @@ use Rattle.pe_base.specs.declared.way.Way.TheVariants.{Forward, Inverted}
 -- odd traversals walk forward, even ones inverted
 abbrev pub way_of : ℕ → Way
 way_of traversal = if traversal % 2 == 1 then Forward else Inverted
+
+-- the other way
+abbrev pub opposite : Way → Way
+opposite Forward = Inverted
+opposite Inverted = Forward

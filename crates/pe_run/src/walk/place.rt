@@ -2,7 +2,7 @@
 ghost use Rattle.std.specs.Prelude.{◌≡◌, ◌<◌, ◌^◌};
 ghost use Rattle.pe_base.specs.Tree.Places.{IsDigits, IsCellPlace, child_at, root, corner};
 ghost use Rattle.pe_base.specs.Tree.Dim.{IsDim};
-ghost use Rattle.pe_base.specs.Life.Kinds.{is_inside};
+ghost use Rattle.pe_base.specs.LevelOne.Kinds.{is_inside};
 
 use pe_base::{Digits, Dim, Place};
 

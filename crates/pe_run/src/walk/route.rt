@@ -2,7 +2,7 @@
 ghost use Rattle.std.specs.Prelude.{◌≡◌, ◌<◌, ◌^◌, true};
 ghost use Rattle.pe_base.specs.declared.place.Place.{Place as APlace};
 ghost use Rattle.pe_base.specs.Tree.Places.{IsCellPlace, corner};
-ghost use Rattle.pe_base.specs.Life.Kinds.{is_inside};
+ghost use Rattle.pe_base.specs.LevelOne.Kinds.{is_inside};
 ghost use Rattle.pe_base.specs.Tree.Ways.{way_of};
 ghost use Rattle.pe_access.specs.States.{StandsFor, axes_of};
 ghost use Rattle.pe_run.specs.Walked.{ComesBy, GoesBy};

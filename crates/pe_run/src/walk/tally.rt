@@ -1,6 +1,6 @@
 // What a traversal has counted, by the counts of the depots.
 ghost use Rattle.std.specs.Prelude.{◌≡◌, ◌+◌, ◌-◌, ◌≤◌, [], ◌∷◌, ◌++◌, length, decimal, OnOk, OnErr};
-ghost use Rattle.pe_base.specs.LevelOne.Traces.{tally_line, way_name};
+ghost use Rattle.pe_base.specs.Lines.{tally_line, way_name};
 ghost use Rattle.pe_stacks.specs.Holdings.{stack_count};
 ghost use Rattle.pe_io.specs.Counts.{Rises};
 ghost use Rattle.pe_io.specs.Sink.{Appends, AppendsPrefix};
@@ -14,7 +14,7 @@ use pe_stacks::{CellRec, Depot, Vertex};
 
 /// The counts of the depots that a traversal raises.
 #[derive(Clone, Copy)]
-pub struct Counts {
+pub struct DepotCounts {
     /// The vertices popped from the input.
     pub read: u64,
     /// The vertices pushed on the output.
@@ -32,12 +32,12 @@ pub fn counts_of<DV: Depot<Vertex<Fields>>, DC: Depot<CellRec<Fields>>>(
     traversal: &Traversal,
     vertices: &DV,
     cells: &DC,
-) -> Counts
+) -> DepotCounts
     requires stacks { stack_count (DV.holds vertices.now) ≡ 10 }
     requires cell_stacks { stack_count (DC.holds cells.now) ≡ 2 }
     ensures { result ≡ counts_in traversal.now (DV.holds vertices.now) (DC.holds cells.now) }
 {
-    Counts {
+    DepotCounts {
         read: vertices.pops(traversal.input()),
         written: vertices.pushes(traversal.output()),
         fresh: vertices.fresh(),
@@ -48,7 +48,7 @@ pub fn counts_of<DV: Depot<Vertex<Fields>>, DC: Depot<CellRec<Fields>>>(
 
 /// The tally of a traversal, by the counts before it and after it. All that was lent and given up besides the
 /// root's corners was hanging, and all that was lent and not given up was born.
-pub fn tally_between(traversal: &Traversal, before: &Counts, after: &Counts) -> Tally
+pub fn tally_between(traversal: &Traversal, before: &DepotCounts, after: &DepotCounts) -> Tally
     requires { IsAfter traversal.now.dim before.now after.now }
     ensures { result ≡ tally_from traversal.now before.now after.now }
 {

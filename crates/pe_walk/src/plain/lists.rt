@@ -1,7 +1,6 @@
 //! The lists of a face: what arrives in a cell there, and what the cell leaves.
 ghost use Rattle.std.specs.Prelude.{◌≡◌, ◌<◌, ◌+◌, ◌/◌, ◌%◌, ◌&&◌, IfOk, slice_index};
-ghost use Rattle.pe_base.specs.Steps.Faces.{beside, across, plane, in_finest, is_on, face_on, comes_across, goes_across, arriving, leaving};
-ghost use Rattle.pe_walk.specs.Laws.{facing};
+ghost use Rattle.pe_base.specs.Steps.Faces.{beside, across, plane, in_finest, is_on, face_on, comes_across, goes_across, arriving, leaving, facing};
 
 use super::cells::is_step;
 use super::grid::Grid;

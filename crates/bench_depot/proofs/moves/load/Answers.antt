@@ -1,8 +1,8 @@
 use Rattle.std.proofs.Common.{◌^◌, ◌+◌, ◌*◌, ◌<◌, ◌∙◌, length, ap, arith}
 use Rattle.pe_stacks.specs.Holdings.{stack_count, len_at}
-use Rattle.pe_stacks.proofs.Counts.{raises-lent, raises-pushed, raises_at_most}
+use Rattle.pe_stacks.proofs.Raising.{raises-lent, raises-pushed, raises_at_most}
 use Rattle.pe_stacks.proofs.StackAt.{stack_count-pushed}
-use Rattle.bench_depot.proofs.Steps.{raises_step, raises_by_refusal, len_at-pushed}
+use Rattle.bench_depot.proofs.CallPairs.{raises_step, raises_by_refusal, len_at-pushed}
 use Rattle.bench_depot.proofs.moves.load.Goals as goal
 
 pub lend-r-requires : goal.lend-r-requires

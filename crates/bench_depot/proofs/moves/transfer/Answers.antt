@@ -1,8 +1,8 @@
 use Rattle.std.proofs.Common.{◌^◌, ◌+◌, ◌*◌, ◌<◌, ◌∙◌, sym, arith}
 use Rattle.pe_stacks.specs.Holdings.{stack_count}
-use Rattle.pe_stacks.proofs.Counts.{raises-popped, raises-pushed, raises_at_most}
+use Rattle.pe_stacks.proofs.Raising.{raises-popped, raises-pushed, raises_at_most}
 use Rattle.pe_stacks.proofs.StackAt.{stack_count-pushed, stack_count-popped}
-use Rattle.bench_depot.proofs.Steps.{raises_step, raises_by_refusal, len_at-pushed, len_at-pushed_other, len_at-popped, len_at-popped_other}
+use Rattle.bench_depot.proofs.CallPairs.{raises_step, raises_by_refusal, len_at-pushed, len_at-pushed_other, len_at-popped, len_at-popped_other}
 use Rattle.bench_depot.proofs.moves.transfer.Goals as goal
 
 pub pop-r-requires-clause-count : goal.pop-r-requires-clause-count

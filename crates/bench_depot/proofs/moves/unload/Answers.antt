@@ -1,8 +1,8 @@
 use Rattle.std.proofs.Common.{◌^◌, ◌∙◌, ap, arith}
 use Rattle.pe_stacks.specs.Holdings.{stack_count, len_at}
-use Rattle.pe_stacks.proofs.Counts.{raises-popped, raises-given_up}
+use Rattle.pe_stacks.proofs.Raising.{raises-popped, raises-given_up}
 use Rattle.pe_stacks.proofs.StackAt.{stack_count-popped}
-use Rattle.bench_depot.proofs.Steps.{raises_step, len_at-popped}
+use Rattle.bench_depot.proofs.CallPairs.{raises_step, len_at-popped}
 use Rattle.bench_depot.proofs.moves.unload.Goals as goal
 
 pub pop-r-requires-clause-count : goal.pop-r-requires-clause-count

@@ -1,5 +1,5 @@
 use Rattle.std.proofs.Common.{◌^◌, ◌+◌, ◌*◌, length, arith}
-use Rattle.pe_stacks.proofs.Counts.{raises_more, raises_at_most, within_more}
+use Rattle.pe_stacks.proofs.Raising.{raises_more, raises_at_most, within_more}
 use Rattle.bench_depot.proofs.times.measure.Goals as goal
 
 pub transfer-requires-clause-counts : goal.transfer-requires-clause-counts

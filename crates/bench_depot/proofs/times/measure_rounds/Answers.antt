@@ -1,5 +1,5 @@
 use Rattle.std.proofs.Common.{◌^◌, ◌+◌, ◌*◌, arith}
-use Rattle.pe_stacks.proofs.Counts.{raises_more, raises_at_most, within_more}
+use Rattle.pe_stacks.proofs.Raising.{raises_more, raises_at_most, within_more}
 use Rattle.bench_depot.proofs.times.measure_rounds.Goals as goal
 
 pub measure-requires-in-loop-round-clause-counts : goal.measure-requires-in-loop-round-clause-counts

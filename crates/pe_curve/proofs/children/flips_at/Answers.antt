@@ -4,7 +4,7 @@ use Rattle.std.specs.Prelude.{slice_index}
 use Rattle.pe_base.specs.Tree.Curve.{flip}
 use Rattle.pe_base.proofs.Tree.PlaceLaws.{four}
 use Rattle.pe_base.proofs.Tree.CurveLaws.{bits-flips}
-use Rattle.pe_curve.proofs.Steps.{flip-bit}
+use Rattle.pe_curve.proofs.DigitLaws.{flip-bit}
 use Rattle.pe_curve.proofs.children.flips_at.Goals as goal
 
 pub returns : goal.returns

@@ -6,7 +6,7 @@ use Rattle.pe_base.specs.Tree.Places.{bits, IsPosition, padded}
 use Rattle.pe_base.specs.Tree.Curve.{turned}
 use Rattle.pe_base.proofs.Tree.PlaceLaws.{length-bits}
 use Rattle.pe_base.proofs.Tree.CurveLaws.{ternary, length-ternary, length-turned, slice_get-child_digits, IsDigits-turned}
-use Rattle.pe_curve.proofs.Steps.{third, digit_below, rest_below, whole_more, whole_all, zeros_more}
+use Rattle.pe_curve.proofs.DigitLaws.{third, digit_below, rest_below, whole_more, whole_all, zeros_more}
 use Rattle.pe_curve.proofs.digits.forward_digits.Goals as goal
 
 pub mirrored-requires : goal.mirrored-requires

@@ -1,6 +1,5 @@
 use Rattle.std.proofs.Common.{◌≡◌, ℕ, None, Result, Ok, Err}
 use Rattle.std.specs.Prelude.{MatchResult, IfErr, List, [], ◌∷◌}
-use Rattle.pe_base.specs.declared.list.List as list
 use Rattle.pe_parse.specs.declared.fault.ParseFault.{ParseFault}
 use Rattle.pe_parse.specs.declared.tree.Stmt.{Stmt}
 use Rattle.pe_parse.specs.Lexemes.{Lexeme}

@@ -7,4 +7,4 @@ abbrev pub invariant-loop-digit : goal.invariant-loop-digit
 invariant-loop-digit l = record {
   so_far : value_from l.value (drop l.digit-index l.digits) ≡ value_of l.digits;
   small : l.value ≤ 9223372036854775807;
-  }
+}

@@ -1,15 +1,15 @@
 use Rattle.std.proofs.Common.{Err, refl, subst, inl, inr}
-use Rattle.pe_run.specs.Scenario.{too_long, scene_of}
-use Rattle.pe_run.specs.Run.{run_scene}
-use Rattle.pe_run.specs.Stages.{RunsTo, Counts}
+use Rattle.pe_run.specs.Scenario.{too_long, scenario_of}
+use Rattle.pe_run.specs.Run.{run_scenario}
+use Rattle.pe_run.specs.Stages.{RunsTo, EndsCounted}
 use Rattle.pe_run.proofs.RunLaws.{IsRun-whole, IsRun-longer, IsRun-absent, IsRun-failed, IsRun-memory}
 use Rattle.pe_run.proofs.run.run_named.Goals as goal
 
 pub returns-in-Whole-clause-run : goal.returns-in-Whole-clause-run
 returns-in-Whole-clause-run g c =
     IsRun-whole _ _ (g.H.Shelf.contents c.args.shelf.now) c.args.name.now c.in-Whole.bytes.items 1048576 _ _ _ _ _ c.run_bytes.result c.in-Whole.ensures.told
-    (subst (λ bytes. RunsTo (run_scene (scene_of bytes)) (g.K.Sink.text c.args.sink.now) (g.K.Sink.text c.run_bytes.new.sink) c.run_bytes.result) c.deref.ensures.value c.run_bytes.ensures.run)
-    (subst (λ bytes. Counts (run_scene (scene_of bytes)) (g.DV.Depot.holds c.run_bytes.new.vertices) (g.DC.Depot.holds c.run_bytes.new.cells) c.run_bytes.result) c.deref.ensures.value c.run_bytes.ensures.traffic)
+    (subst (λ bytes. RunsTo (run_scenario (scenario_of bytes)) (g.K.Sink.text c.args.sink.now) (g.K.Sink.text c.run_bytes.new.sink) c.run_bytes.result) c.deref.ensures.value c.run_bytes.ensures.run)
+    (subst (λ bytes. EndsCounted (run_scenario (scenario_of bytes)) (g.DV.Depot.holds c.run_bytes.new.vertices) (g.DC.Depot.holds c.run_bytes.new.cells) c.run_bytes.result) c.deref.ensures.value c.run_bytes.ensures.traffic)
 
 pub returns-in-Longer-clause-run : goal.returns-in-Longer-clause-run
 returns-in-Longer-clause-run g c =

@@ -5,7 +5,7 @@ use Rattle.std.proofs.lemmas.List.{drop_all}
 use Rattle.pe_base.specs.Tree.Places.{bits}
 use Rattle.pe_base.specs.Tree.Curve.{child_digits}
 use Rattle.pe_base.proofs.Tree.CurveLaws.{length-child_digits}
-use Rattle.pe_curve.proofs.Steps.{drop-slice_get}
+use Rattle.pe_curve.proofs.DigitLaws.{drop-slice_get}
 use Rattle.pe_curve.proofs.cursor.CursorIterator.next.Goals as goal
 
 none_left : (c : goal.Then-self-eq0) → c.args.self.now ≡ []

@@ -23,7 +23,7 @@ absolute-returns-in-Err t c =
 pub absolute-returns-then-depth-ge-DEEPEST : goal.absolute-returns-then-depth-ge-DEEPEST
 absolute-returns-then-depth-ge-DEEPEST t c =
     subst (λ (n : ℕ). Stopped (size_of c.args.self.now) (seen c.args.self.now) (Value ∷ []) c.args.depth c.args.at (TooDeep n)) (sym c.offset.ensures)
-      (absolute_deep (size_of c.args.self.now) (seen c.args.self.now) c.args.at c.in-Ok.inside c.args.depth c.requires.shallow c.if-depth-ge-DEEPEST.true c.requires.kind c.in-Ok.ensures)
+    (absolute_deep (size_of c.args.self.now) (seen c.args.self.now) c.args.at c.in-Ok.inside c.args.depth c.requires.shallow c.if-depth-ge-DEEPEST.true c.requires.kind c.in-Ok.ensures)
 
 pub absolute-closed-requires : goal.absolute-closed-requires
 absolute-closed-requires t c =
@@ -36,12 +36,12 @@ absolute-returns-in-Err-closed t c =
 pub absolute-returns-in-Ok-boxed : goal.absolute-returns-in-Ok-boxed
 absolute-returns-in-Ok-boxed t c =
     subst (λ (e : Expr). ReadsAs Operand (size_of c.args.self.now) (seen c.args.self.now) (Value ∷ []) c.args.depth c.args.at (Ok (expr.Abs e, c.in-Ok-closed.found.1))) (sym c.in-Ok-boxed.ensures)
-      (absolute_read (size_of c.args.self.now) (seen c.args.self.now) c.args.at c.in-Ok.inside c.in-Ok-closed.found.1 c.args.depth c.in-Ok-closed.found.0 c.if-depth-ge-DEEPEST.false c.requires.kind c.in-Ok.ensures c.in-Ok-closed.ensures)
+    (absolute_read (size_of c.args.self.now) (seen c.args.self.now) c.args.at c.in-Ok.inside c.in-Ok-closed.found.1 c.args.depth c.in-Ok-closed.found.0 c.if-depth-ge-DEEPEST.false c.requires.kind c.in-Ok.ensures c.in-Ok-closed.ensures)
 
 pub chain-loop-sign-init : goal.chain-loop-sign-init
 chain-loop-sign-init t c =
     subst (λ (ls : List (Sign × Expr)). Linking (size_of c.args.self.now) (seen c.args.self.now) c.args.rank c.args.depth c.args.at c.in-Ok.found.1 c.in-Ok.found.0 ls) (sym c.new-links.ensures.items)
-      (first_read (size_of c.args.self.now) (seen c.args.self.now) c.args.rank c.args.depth c.args.at c.requires.shallow c.in-Ok.found.1 c.in-Ok.found.0 c.in-Ok.ensures)
+    (first_read (size_of c.args.self.now) (seen c.args.self.now) c.args.rank c.args.depth c.args.at c.requires.shallow c.in-Ok.found.1 c.in-Ok.found.0 c.in-Ok.ensures)
 
 pub chain-returns-in-Err : goal.chain-returns-in-Err
 chain-returns-in-Err t c =
@@ -50,7 +50,7 @@ chain-returns-in-Err t c =
 pub chain-returns-then-len-ge-MOST_LINKS : goal.chain-returns-then-len-ge-MOST_LINKS
 chain-returns-then-len-ge-MOST_LINKS t c =
     subst (λ (n : ℕ). Stopped (size_of c.args.self.now) (seen c.args.self.now) (chain_frames c.args.rank) c.args.depth c.args.at (TooMany n)) (sym c.offset.ensures)
-      (link_many (size_of c.args.self.now) (seen c.args.self.now) c.args.rank c.args.depth c.args.at c.requires.shallow c.requires.many c.loop-sign.next c.loop-sign.first-1 c.loop-sign.links.items c.loop-sign.invariant c.in-Some.sign (omega (arith, c.len.ensures)) (sym c.sign.ensures ∙ c.in-Some.is))
+    (link_many (size_of c.args.self.now) (seen c.args.self.now) c.args.rank c.args.depth c.args.at c.requires.shallow c.requires.many c.loop-sign.next c.loop-sign.first-1 c.loop-sign.links.items c.loop-sign.invariant c.in-Some.sign (omega (arith, c.len.ensures)) (sym c.sign.ensures ∙ c.in-Some.is))
 
 pub chain-returns-in-Err-tighter : goal.chain-returns-in-Err-tighter
 chain-returns-in-Err-tighter t c =
@@ -60,7 +60,7 @@ pub chain-loop-sign-preserved : goal.chain-loop-sign-preserved
 chain-loop-sign-preserved t c =
     let pushed : c.push.new.self.items ≡ c.loop-sign.links.items ++ (c.in-Some.sign, c.in-Ok-tighter.found.0) ∷ [] = grind (arith, common_steps) in
     subst (λ (ls : List (Sign × Expr)). Linking (size_of c.args.self.now) (seen c.args.self.now) c.args.rank c.args.depth c.args.at c.in-Ok-tighter.found.1 c.loop-sign.first-1 ls) (sym pushed)
-      (link_read (size_of c.args.self.now) (seen c.args.self.now) c.args.rank c.args.depth c.args.at c.requires.shallow c.requires.many c.loop-sign.next c.loop-sign.first-1 c.loop-sign.links.items c.loop-sign.invariant c.in-Some.sign c.in-Ok-tighter.found.1 c.in-Ok-tighter.found.0 (omega (arith, c.len.ensures)) (sym c.sign.ensures ∙ c.in-Some.is) c.in-Ok-tighter.ensures)
+    (link_read (size_of c.args.self.now) (seen c.args.self.now) c.args.rank c.args.depth c.args.at c.requires.shallow c.requires.many c.loop-sign.next c.loop-sign.first-1 c.loop-sign.links.items c.loop-sign.invariant c.in-Some.sign c.in-Ok-tighter.found.1 c.in-Ok-tighter.found.0 (omega (arith, c.len.ensures)) (sym c.sign.ensures ∙ c.in-Some.is) c.in-Ok-tighter.ensures)
 
 pub chain-returns-then-is_empty : goal.chain-returns-then-is_empty
 chain-returns-then-is_empty t c =
@@ -73,7 +73,7 @@ chain-returns-in-Ok-boxed t c =
     let some : 0 < length c.loop-sign.links.items = grind (arith, common_steps) in
     let whole = chain_read (size_of c.args.self.now) (seen c.args.self.now) c.args.rank c.args.depth c.args.at c.requires.shallow c.requires.many c.loop-sign.next c.loop-sign.first-1 c.loop-sign.links.items c.loop-sign.invariant some none_ in
     subst (λ (e : Expr). ReadsAs (Chained c.args.rank) (size_of c.args.self.now) (seen c.args.self.now) (chain_frames c.args.rank) c.args.depth c.args.at (Ok (expr.Chain e c.new.result, c.loop-sign.next))) (sym c.in-Ok-boxed.ensures)
-      (subst (λ (ls : List (Sign × Expr)). ReadsAs (Chained c.args.rank) (size_of c.args.self.now) (seen c.args.self.now) (chain_frames c.args.rank) c.args.depth c.args.at (Ok (expr.Chain c.loop-sign.first-1 ls, c.loop-sign.next))) (sym c.new.ensures) whole)
+    (subst (λ (ls : List (Sign × Expr)). ReadsAs (Chained c.args.rank) (size_of c.args.self.now) (seen c.args.self.now) (chain_frames c.args.rank) c.args.depth c.args.at (Ok (expr.Chain c.loop-sign.first-1 ls, c.loop-sign.next))) (sym c.new.ensures) whole)
 
 pub closed-returns-in-Ok-needs : goal.closed-returns-in-Ok-needs
 closed-returns-in-Ok-needs t c =
@@ -101,7 +101,7 @@ comparison-returns-in-Ok-boxed t c =
     let whole = comparison_read (size_of c.args.self.now) (seen c.args.self.now) c.args.depth c.args.at c.in-Ok.found.1 c.in-Ok.found.0 c.requires.shallow c.in-Ok.ensures c.in-Some.sign (sym c.sign.ensures ∙ c.in-Some.is) c.in-Ok-chain.found.1 c.in-Ok-chain.found.0 c.in-Ok-chain.ensures in
     let pushed : c.push.new.self.items ≡ (c.in-Some.sign, c.in-Ok-chain.found.0) ∷ [] = grind (arith, common_steps) in
     subst (λ (e : Expr). ReadsAs (Chained Comparison) (size_of c.args.self.now) (seen c.args.self.now) (chain_frames Comparison) c.args.depth c.args.at (Ok (expr.Chain e c.new.result, c.in-Ok-chain.found.1))) (sym c.in-Ok-boxed.ensures)
-      (subst (λ (ls : List (Sign × Expr)). ReadsAs (Chained Comparison) (size_of c.args.self.now) (seen c.args.self.now) (chain_frames Comparison) c.args.depth c.args.at (Ok (expr.Chain c.in-Ok.found.0 ls, c.in-Ok-chain.found.1))) (sym (c.new.ensures ∙ pushed)) whole)
+    (subst (λ (ls : List (Sign × Expr)). ReadsAs (Chained Comparison) (size_of c.args.self.now) (seen c.args.self.now) (chain_frames Comparison) c.args.depth c.args.at (Ok (expr.Chain c.in-Ok.found.0 ls, c.in-Ok-chain.found.1))) (sym (c.new.ensures ∙ pushed)) whole)
 
 pub extreme-returns-in-Err : goal.extreme-returns-in-Err
 extreme-returns-in-Err t c =
@@ -110,7 +110,7 @@ extreme-returns-in-Err t c =
 pub extreme-returns-then-depth-ge-DEEPEST : goal.extreme-returns-then-depth-ge-DEEPEST
 extreme-returns-then-depth-ge-DEEPEST t c =
     subst (λ (n : ℕ). Stopped (size_of c.args.self.now) (seen c.args.self.now) (Value ∷ []) c.args.depth c.args.at (TooDeep n)) (sym c.offset.ensures)
-      (extreme_deep (size_of c.args.self.now) (seen c.args.self.now) c.args.choice c.args.at c.in-Ok.inside c.args.depth c.requires.shallow c.if-depth-ge-DEEPEST.true c.requires.kind c.in-Ok.ensures)
+    (extreme_deep (size_of c.args.self.now) (seen c.args.self.now) c.args.choice c.args.at c.in-Ok.inside c.args.depth c.requires.shallow c.if-depth-ge-DEEPEST.true c.requires.kind c.in-Ok.ensures)
 
 pub extreme-closed-requires : goal.extreme-closed-requires
 extreme-closed-requires t c =
@@ -131,13 +131,13 @@ extreme-returns-in-Err-closed-2 t c =
 pub extreme-returns-in-Ok-Ok : goal.extreme-returns-in-Ok-Ok
 extreme-returns-in-Ok-Ok t c =
     subst (λ (a : Expr). ReadsAs Operand (size_of c.args.self.now) (seen c.args.self.now) (Value ∷ []) c.args.depth c.args.at (Ok (expr.Extreme c.args.choice a c.in-Ok-Ok.second, c.in-Ok-closed-2.found.1))) (sym c.in-Ok-Ok.ensures)
-      (subst (λ (b : Expr). ReadsAs Operand (size_of c.args.self.now) (seen c.args.self.now) (Value ∷ []) c.args.depth c.args.at (Ok (expr.Extreme c.args.choice c.in-Ok-closed.found.0 b, c.in-Ok-closed-2.found.1))) (sym c.in-Ok-Ok.ensures')
-        (extreme_read (size_of c.args.self.now) (seen c.args.self.now) c.args.choice c.args.at c.in-Ok.inside c.in-Ok-closed.found.1 c.in-Ok-closed-2.found.1 c.args.depth c.in-Ok-closed.found.0 c.in-Ok-closed-2.found.0 c.if-depth-ge-DEEPEST.false c.requires.kind c.in-Ok.ensures c.in-Ok-closed.ensures c.in-Ok-closed-2.ensures))
+    (subst (λ (b : Expr). ReadsAs Operand (size_of c.args.self.now) (seen c.args.self.now) (Value ∷ []) c.args.depth c.args.at (Ok (expr.Extreme c.args.choice c.in-Ok-closed.found.0 b, c.in-Ok-closed-2.found.1))) (sym c.in-Ok-Ok.ensures')
+    (extreme_read (size_of c.args.self.now) (seen c.args.self.now) c.args.choice c.args.at c.in-Ok.inside c.in-Ok-closed.found.1 c.in-Ok-closed-2.found.1 c.args.depth c.in-Ok-closed.found.0 c.in-Ok-closed-2.found.0 c.if-depth-ge-DEEPEST.false c.requires.kind c.in-Ok.ensures c.in-Ok-closed.ensures c.in-Ok-closed-2.ensures))
 
 pub group-returns-then-depth-ge-DEEPEST : goal.group-returns-then-depth-ge-DEEPEST
 group-returns-then-depth-ge-DEEPEST t c =
     subst (λ (n : ℕ). Stopped (size_of c.args.self.now) (seen c.args.self.now) (Value ∷ []) c.args.depth c.args.at (TooDeep n)) (sym c.offset.ensures)
-      (group_deep (size_of c.args.self.now) (seen c.args.self.now) c.args.at c.args.depth c.if-depth-ge-DEEPEST.true c.requires.kind)
+    (group_deep (size_of c.args.self.now) (seen c.args.self.now) c.args.at c.args.depth c.if-depth-ge-DEEPEST.true c.requires.kind)
 
 pub group-closed-requires : goal.group-closed-requires
 group-closed-requires t c =
@@ -150,18 +150,18 @@ group-returns t c =
 pub operand-returns-in_default : goal.operand-returns-in_default
 operand-returns-in_default t c =
     subst (λ (n : ℕ). Stopped (size_of c.args.self.now) (seen c.args.self.now) (Value ∷ []) c.args.depth c.args.at (Syntax n)) (sym c.offset.ensures)
-      (operand_end (size_of c.args.self.now) (seen c.args.self.now) c.args.at c.args.depth (sym c.in_default.ensures))
+    (operand_end (size_of c.args.self.now) (seen c.args.self.now) c.args.at c.args.depth (sym c.in_default.ensures))
 
 pub operand-returns-in_default-kind : goal.operand-returns-in_default-kind
 operand-returns-in_default-kind t c =
     let o = c.in_default-kind in
     subst (λ (n : ℕ). Stopped (size_of c.args.self.now) (seen c.args.self.now) (Value ∷ []) c.args.depth c.args.at (Syntax n)) (sym c.offset-in_default-kind.ensures)
-      (operand_none (size_of c.args.self.now) (seen c.args.self.now) c.args.at c.args.depth c.in-Some.kind (sym c.in-Some.ensures) o.not-Number o.not-Word o.not-OpenRound o.not-Min o.not-Max o.not-Abs o.not-Minus o.not-Not)
+    (operand_none (size_of c.args.self.now) (seen c.args.self.now) c.args.at c.args.depth c.in-Some.kind (sym c.in-Some.ensures) o.not-Number o.not-Word o.not-OpenRound o.not-Min o.not-Max o.not-Abs o.not-Minus o.not-Not)
 
 pub prefixed-returns-then-depth-ge-DEEPEST : goal.prefixed-returns-then-depth-ge-DEEPEST
 prefixed-returns-then-depth-ge-DEEPEST t c =
     subst (λ (n : ℕ). Stopped (size_of c.args.self.now) (seen c.args.self.now) (Value ∷ []) c.args.depth c.args.at (TooDeep n)) (sym c.offset.ensures)
-      (prefixed_deep (size_of c.args.self.now) (seen c.args.self.now) c.args.prefix c.args.at c.args.depth c.if-depth-ge-DEEPEST.true c.requires.kind)
+    (prefixed_deep (size_of c.args.self.now) (seen c.args.self.now) c.args.prefix c.args.at c.args.depth c.if-depth-ge-DEEPEST.true c.requires.kind)
 
 pub prefixed-returns-in-Err : goal.prefixed-returns-in-Err
 prefixed-returns-in-Err t c =
@@ -170,4 +170,4 @@ prefixed-returns-in-Err t c =
 pub prefixed-returns-in-Ok-boxed : goal.prefixed-returns-in-Ok-boxed
 prefixed-returns-in-Ok-boxed t c =
     subst (λ (e : Expr). ReadsAs Operand (size_of c.args.self.now) (seen c.args.self.now) (Value ∷ []) c.args.depth c.args.at (Ok (expr.Unary c.args.prefix e, c.in-Ok.found.1))) (sym c.in-Ok-boxed.ensures)
-      (prefixed_read (size_of c.args.self.now) (seen c.args.self.now) c.args.prefix c.args.at c.in-Ok.found.1 c.args.depth c.in-Ok.found.0 c.if-depth-ge-DEEPEST.false c.requires.kind c.in-Ok.ensures)
+    (prefixed_read (size_of c.args.self.now) (seen c.args.self.now) c.args.prefix c.args.at c.in-Ok.found.1 c.args.depth c.in-Ok.found.0 c.if-depth-ge-DEEPEST.false c.requires.kind c.in-Ok.ensures)

@@ -13,4 +13,4 @@ returns-in-Err-needs-2 c =
 pub returns-in-Ok-word : goal.returns-in-Ok-word
 returns-in-Ok-word c =
     name_dotted (size_of c.args.self.now) (seen c.args.self.now) c.args.at _ _ c.in-Ok.text c.in-Ok-word.text c.offset-start.result c.requires.word c.in-Ok.ensures c.offset-start.ensures
-      c.in-Ok-needs.ensures c.in-Ok-needs-2.ensures c.in-Ok-word.ensures
+    c.in-Ok-needs.ensures c.in-Ok-needs-2.ensures c.in-Ok-word.ensures

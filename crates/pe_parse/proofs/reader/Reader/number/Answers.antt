@@ -20,4 +20,4 @@ returns-in-Some c depth limited =
 pub returns-in-None : goal.returns-in-None
 returns-in-None c depth limited =
     subst (λ (n : ℕ). Stopped (size_of c.args.self.now) (seen c.args.self.now) (Value ∷ []) depth c.args.at (Literal n)) (sym c.offset.ensures)
-      (number_large (size_of c.args.self.now) (seen c.args.self.now) c.args.at depth limited c.requires.kind c.in-None.ensures)
+    (number_large (size_of c.args.self.now) (seen c.args.self.now) c.args.at depth limited c.requires.kind c.in-None.ensures)

@@ -16,7 +16,7 @@ loop-behind-init c =
 pub returns-then-len-ge-MOST_VALUES : goal.returns-then-len-ge-MOST_VALUES
 returns-then-len-ge-MOST_VALUES c =
     subst (λ (n : ℕ). Stopped (size_of c.args.self.now) (seen c.args.self.now) (expression ++ frame.Values 1 ∷ []) c.args.depth c.args.at (TooMany n)) (sym c.offset.ensures)
-      (value_many (size_of c.args.self.now) (seen c.args.self.now) c.args.depth c.args.at c.requires.shallow c.loop-behind.next c.loop-behind.items.items c.loop-behind.invariant c.in-Ok-needs.behind (omega (arith, c.len.ensures)) c.in-Ok-needs.ensures)
+    (value_many (size_of c.args.self.now) (seen c.args.self.now) c.args.depth c.args.at c.requires.shallow c.loop-behind.next c.loop-behind.items.items c.loop-behind.invariant c.in-Ok-needs.behind (omega (arith, c.len.ensures)) c.in-Ok-needs.ensures)
 
 pub returns-in-Err-chain : goal.returns-in-Err-chain
 returns-in-Err-chain c =
@@ -26,9 +26,10 @@ pub loop-behind-preserved : goal.loop-behind-preserved
 loop-behind-preserved c =
     let pushed : c.push-in-Ok-needs.new.self.items ≡ c.loop-behind.items.items ++ c.in-Ok-chain.found.0 ∷ [] = grind (arith, common_steps) in
     subst (λ (es : List Expr). Listing (size_of c.args.self.now) (seen c.args.self.now) c.args.depth c.args.at c.in-Ok-chain.found.1 es) (sym pushed)
-      (value_read (size_of c.args.self.now) (seen c.args.self.now) c.args.depth c.args.at c.requires.shallow c.loop-behind.next c.loop-behind.items.items c.loop-behind.invariant c.in-Ok-needs.behind c.in-Ok-chain.found.1 c.in-Ok-chain.found.0 (omega (arith, c.len.ensures)) c.in-Ok-needs.ensures c.in-Ok-chain.ensures)
+    (value_read (size_of c.args.self.now) (seen c.args.self.now) c.args.depth c.args.at c.requires.shallow c.loop-behind.next c.loop-behind.items.items c.loop-behind.invariant c.in-Ok-needs.behind c.in-Ok-chain.found.1 c.in-Ok-chain.found.0 (omega (arith, c.len.ensures)) c.in-Ok-needs.ensures c.in-Ok-chain.ensures)
 
 pub returns : goal.returns
-returns c =
-    (values_end (size_of c.args.self.now) (seen c.args.self.now) c.args.depth c.args.at c.requires.shallow c.loop-behind.next c.loop-behind.items.items c.loop-behind.invariant c.in_default.field-0 c.in_default.ensures,
-     subst (λ (es : List Expr). ValuesAt (seen c.args.self.now) c.args.at c.loop-behind.next es) (sym c.new.ensures) c.loop-behind.invariant.values)
+returns c = (
+  values_end (size_of c.args.self.now) (seen c.args.self.now) c.args.depth c.args.at c.requires.shallow c.loop-behind.next c.loop-behind.items.items c.loop-behind.invariant c.in_default.field-0 c.in_default.ensures,
+  subst (λ (es : List Expr). ValuesAt (seen c.args.self.now) c.args.at c.loop-behind.next es) (sym c.new.ensures) c.loop-behind.invariant.values,
+)

@@ -1,6 +1,6 @@
 use Rattle.std.proofs.Common.{◌≡◌, ◌<◌, ◌^◌, true, OnOk, OnErr, sym, ap, subst, ◌∙◌, arith}
 use Rattle.pe_base.specs.Tree.Places.{corner}
-use Rattle.pe_base.specs.Life.Kinds.{is_inside}
+use Rattle.pe_base.specs.LevelOne.Kinds.{is_inside}
 use Rattle.pe_access.specs.declared.route.Route.TheVariants.{Stream, Temp}
 use Rattle.pe_io.specs.Sink.{Appends, AppendsPrefix}
 use Rattle.pe_run.specs.Walked.{fired, ComesBy}

@@ -1,6 +1,6 @@
 use Rattle.std.proofs.Common.{◌≡◌, ◌<◌, ◌^◌, true, sym, ap, subst, ◌∙◌, arith}
 use Rattle.pe_base.specs.Tree.Places.{corner}
-use Rattle.pe_base.specs.Life.Kinds.{is_inside}
+use Rattle.pe_base.specs.LevelOne.Kinds.{is_inside}
 use Rattle.pe_access.specs.declared.route.Route.TheVariants.{Temp}
 use Rattle.pe_run.specs.Walked.{GoesBy}
 use Rattle.pe_run.proofs.LoadStore.{goes_below}

@@ -17,7 +17,7 @@ loop-k-preserved g c =
     let out : 0 < before.out = omega (arith, c.loop-k.invariant.out, c.requires.out) in
     let more : past + 1 ≡ (c.loop-k.k + 1) - c.args.first = omega arith in
     record {
-      full = full_take c.args.dim c.loop-k.k c.loop-k.corners c.take.new.self (omega arith) c.take.ensures.places c.loop-k.invariant.full;
+      full = full_take c.args.dim c.loop-k.k c.loop-k.corners c.take.new.self (omega arith) c.take.ensures.corners c.loop-k.invariant.full;
       moved = subst (λ n. DoesAll (replicate n gives_up) (g.D.Depot.holds c.args.vertices.now) after) more
           (subst (λ ops. DoesAll ops (g.D.Depot.holds c.args.vertices.now) after) (sym (replicate_more past gives_up))
           (DoesAll-append (replicate past gives_up) (gives_up ∷ []) (g.D.Depot.holds c.args.vertices.now) before after c.loop-k.invariant.moved (after, (out, c.give_up.ensures.holds), refl)));

@@ -1,7 +1,7 @@
 use Rattle.std.proofs.Common.{◌≡◌, ◌+◌, ◌-◌, ◌^◌, [], ◌∷◌, replicate, refl, sym, ap, subst, arith}
 use Rattle.std.proofs.lemmas.List.{length-replicate}
 use Rattle.pe_stacks.specs.Holdings.{CountsWithin}
-use Rattle.pe_stacks.proofs.CornerPlaces.{corners_range}
+use Rattle.pe_stacks.proofs.CornerSlots.{corners_range}
 use Rattle.pe_run.specs.Filled.{FullFrom}
 use Rattle.pe_run.specs.Traffic.{lends, DoesAll}
 use Rattle.pe_run.proofs.FullCorners.{full_put}

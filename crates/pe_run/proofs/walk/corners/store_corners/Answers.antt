@@ -37,7 +37,7 @@ store_corner-requires-clause-counts g c =
 
 pub give_up_from-requires-clause-full : goal.give_up_from-requires-clause-full
 give_up_from-requires-clause-full g c =
-    full_take c.args.traversal.now.dim c.loop-k.k c.loop-k.corners c.take-vertex.new.self (omega (arith, c.corners-k-end.ensures.value)) c.take-vertex.ensures.places c.loop-k.invariant.full
+    full_take c.args.traversal.now.dim c.loop-k.k c.loop-k.corners c.take-vertex.new.self (omega (arith, c.corners-k-end.ensures.value)) c.take-vertex.ensures.corners c.loop-k.invariant.full
 
 pub returns-in-Err-clause-err : goal.returns-in-Err-clause-err
 returns-in-Err-clause-err g c =
@@ -73,7 +73,7 @@ loop-k-preserved g c =
     record {
       text = fired_next t (store_firings t.dim t.number cell) ks n n (g.K.Sink.text c.args.sink.now) (g.K.Sink.text c.loop-k.sink) (g.K.Sink.text c.store_corner.new.sink) member c.loop-k.invariant.text c.in-Ok.ensures.ok;
       faults = omega (arith, c.in-Ok.ensures.faults);
-      full = full_take t.dim n c.loop-k.corners c.take-vertex.new.self (omega (arith, c.corners-k-end.ensures.value)) c.take-vertex.ensures.places c.loop-k.invariant.full;
+      full = full_take t.dim n c.loop-k.corners c.take-vertex.new.self (omega (arith, c.corners-k-end.ensures.value)) c.take-vertex.ensures.corners c.loop-k.invariant.full;
       moved = DoesAll-next (store_ops t cell) ks n n start before (g.D.Depot.holds c.store_corner.new.vertices) member c.loop-k.invariant.moved c.in-Ok.ensures.moved;
       out = omega (arith, c.in-Ok.ensures.back, c.loop-k.invariant.out);
     }

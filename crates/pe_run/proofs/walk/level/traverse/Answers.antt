@@ -1,5 +1,5 @@
 use Rattle.std.proofs.Common.{◌≡◌, ap, subst, ◌∙◌, arith}
-use Rattle.pe_base.specs.LevelOne.Traces.{tally_line}
+use Rattle.pe_base.specs.Lines.{tally_line}
 use Rattle.pe_io.specs.Sink.{Appends, AppendsPrefix}
 use Rattle.pe_io.proofs.Appending.{Appends-then, AppendsPrefix-then, AppendsPrefix-more, OnErr-given}
 use Rattle.pe_run.specs.LevelOne.{traversal_firings, tally_of}

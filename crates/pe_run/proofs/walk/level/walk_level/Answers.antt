@@ -6,7 +6,7 @@ use Rattle.pe_base.specs.Tree.Places.{root}
 use Rattle.pe_base.specs.Tree.Curve.{children}
 use Rattle.pe_base.specs.Tree.Ways.{way_of}
 use Rattle.pe_stacks.specs.Holdings.{len_at}
-use Rattle.pe_stacks.proofs.CornerPlaces.{corners_range}
+use Rattle.pe_stacks.proofs.CornerSlots.{corners_range}
 use Rattle.pe_run.specs.Traffic.{lends, gives_up, is_pop_from, is_push_on, takes_out, DoesAll}
 use Rattle.pe_run.specs.Flows.{Flows}
 use Rattle.pe_run.specs.Walked.{vertex_ops}

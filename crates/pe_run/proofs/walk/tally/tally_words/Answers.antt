@@ -1,5 +1,5 @@
 use Rattle.std.proofs.Common.{◌∷◌, ◌++◌, codes, decimal, ap, ◌∙◌}
-use Rattle.pe_base.specs.LevelOne.Traces.{way_name}
+use Rattle.pe_base.specs.Lines.{way_name}
 use Rattle.pe_run.proofs.TallyLines.{line_of_steps}
 use Rattle.pe_run.proofs.walk.tally.tally_words.Goals as goal
 

@@ -28,6 +28,6 @@ loop-key-preserved c =
     let listed = ap (lists c.args.self) (sym c.as_str.ensures.value) ∙ sym c.lists.ensures ∙ c.if-not-lists.false in
     record {
       decide = sym (unknown_of-listed c.args.self (string_bytes c.in-Some.key.now) (map string_bytes c.next.new.self) listed)
-        ∙ ap (λ keys. unknown_of c.args.self (map string_bytes keys)) (sym split) ∙ c.loop-key.invariant.decide;
+          ∙ ap (λ keys. unknown_of c.args.self (map string_bytes keys)) (sym split) ∙ c.loop-key.invariant.decide;
       ascend = sorted_tail string_cmp c.in-Some.key.now c.next.new.self (rw split at c.loop-key.invariant.ascend);
     }

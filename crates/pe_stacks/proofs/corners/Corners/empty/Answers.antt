@@ -1,7 +1,7 @@
 use Rattle.std.proofs.Common.{◌^◌, length, ap, arith, None}
 use Rattle.std.proofs.lemmas.List.{take-replicate, drop-replicate}
 use Rattle.pe_base.specs.Tree.Dim.{IsDim}
-use Rattle.pe_stacks.proofs.CornerPlaces.{corners_range, corners_of}
+use Rattle.pe_stacks.proofs.CornerSlots.{corners_range, corners_of}
 use Rattle.pe_stacks.proofs.corners.Corners.empty.Goals as goal
 
 pub invariant_of-result : goal.invariant_of-result

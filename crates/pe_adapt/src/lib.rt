@@ -1,0 +1,17 @@
+//! One corner of a cell, loaded or stored.
+#![tactic(auto)]
+
+mod fire;
+mod kinds;
+mod load;
+mod spot;
+mod stop;
+mod store;
+mod touch;
+
+pub use kinds::{corner_marks, marks_of};
+pub use load::load_as;
+pub use spot::{Spot, corner_place};
+pub use stop::WalkStop;
+pub use store::store_as;
+pub use touch::{load_marked, store_placed};

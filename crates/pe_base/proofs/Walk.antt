@@ -1,0 +1,14 @@
+-- Laws of the walk by address.
+
+-- finite maps
+pub mod MapLaws
+-- slots: reading after writing
+pub mod Slots
+-- the corners of a cell are different
+pub mod CellCorners
+-- what one event sees is read as it was written
+pub mod Families
+-- carriers are corners of the parent
+pub mod CarrierLaws
+-- triggers and the state table
+pub mod TableLaws

@@ -1,0 +1,24 @@
+-- The walk by address, at every depth and with every kind of vertex.
+
+-- steps one after another, and how they end
+pub mod Course
+-- finite maps from places
+pub mod Maps
+-- what a touch does to the records in hand
+pub mod Core
+-- what is kept of a grid between two traversals
+pub mod Grids
+-- the working state of a traversal
+pub mod Working
+-- the steps by address
+pub mod Touches
+-- the walk of a cell, a traversal, and traversals in turn
+pub mod Walk
+-- what is known of a traversal before it begins
+pub mod Foreseen
+-- the order of a grid between two traversals
+pub mod Streams
+-- laws that these definitions owe
+pub mod Laws
+-- small rules of events for the worked rows
+pub mod Examples

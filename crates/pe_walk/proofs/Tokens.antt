@@ -1,0 +1,28 @@
+-- The walk over places on stacks.
+
+-- stacks that are pushed and popped
+pub mod Stacks
+-- the loads and stores of a cell's corners
+pub mod Loads
+-- what is written is read in the other way
+pub mod Turning
+-- what the walk of a cell does on one stack
+pub mod Passages
+-- the walk of a cell
+pub mod Walks
+-- each load is due
+pub mod Dues
+-- traversals
+pub mod Traversals
+-- what each step keeps
+pub mod Keeping
+-- first and last by counting
+pub mod Counting
+-- where a place is
+pub mod Apart
+-- streams
+pub mod Streams
+-- what is moved
+pub mod Traffic
+-- how long a stack is at most
+pub mod Short
