@@ -1,0 +1,7 @@
+//! The mapping of a scenario: at each event it writes the trace line, and then runs the body.
+#![tactic(auto)]
+
+mod interp;
+mod lines;
+
+pub use interp::Interp;
