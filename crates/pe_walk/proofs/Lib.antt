@@ -17,3 +17,5 @@ pub mod Derived
 -- one round of the loops that compute the definitions
 pub mod Computed
 pub mod Tokens
+-- the walk on stacks is the image of the walk by address
+pub mod Simulation

@@ -1,0 +1,6 @@
+-- The walk on stacks is the image of the walk by address and of the places on stacks, after every step.
+
+-- steps that match, one after another
+pub mod Matching
+-- what the core keeps of the records in hand
+pub mod CoreLaws
