@@ -24,7 +24,7 @@ pub inside_on_grid : (axes : ℕ) (vertex : Place) → IsInside axes vertex → 
 inside_on_grid axes vertex inside = (refl, inside.pos.four, zeros_behind axes vertex.pos inside.pos.rest ∙ ap (λ n. replicate (n - axes) 0) inside.pos.four)
 
 -- the bits by which a vertex is a corner of a cell
-corner_bits : (n : ℕ) (pos q : List ℕ) → n ≤ length pos → length q ≡ length pos → drop n q ≡ drop n pos → is_corner_pos q pos ≡ true → (bs : List ℕ) × In bs (bit_lists n) × IsBits n bs × (moved pos bs ≡ q)
+pub corner_bits : (n : ℕ) (pos q : List ℕ) → n ≤ length pos → length q ≡ length pos → drop n q ≡ drop n pos → is_corner_pos q pos ≡ true → (bs : List ℕ) × In bs (bit_lists n) × IsBits n bs × (moved pos bs ≡ q)
 corner_bits zero pos q l m e t = ([], inl refl, tt, plain pos ∙ sym e)
   where
     plain : (p : List ℕ) → moved p [] ≡ p

@@ -10,3 +10,7 @@ pub mod Turning
 pub mod Passages
 -- the walk of a cell
 pub mod Walks
+-- each load is due
+pub mod Dues
+-- traversals
+pub mod Traversals

@@ -6,6 +6,10 @@ pub mod Laws
 pub mod Tokens
 -- what the walk of a cell takes off each stack, and what it gives
 pub mod Takings
+-- the laws of that walk
+pub mod TokenLaws
+-- what the walk over places asks of a grid
+pub mod Outlooks
 -- grids for the worked rows
 pub mod Grids
 -- the walk on stacks as a machine of lists

@@ -11,6 +11,8 @@
 //! `unwalked_is_empty` leaves out the cells that are not walked, and `leaf_is_corners` is the walk of a cell that has
 //! no walked children.
 ghost use Rattle.pe_walk.specs.Laws.{NeighboursAgree, FacesAreOneWay, OneFaceOnEach, Composition, BeneathUntouched, StoresAsLoads, Counts, UnwalkedIsEmpty, LeafIsCorners, CellsOfTheTree, StepsCrossFaces, StepsAreCorners, CornersAreSteps, TurnsJoin, StandTogether, CornersCrossOnce, CornersOnStacks};
+ghost use Rattle.pe_walk.specs.TokenLaws.{WalkOfACell, LoadsAreDue, LoadedAround, WholeTraversal, TurningRound, TurningAround};
+ghost use Rattle.pe_walk.specs.Outlooks.{ForecastFits, StoredFits};
 
 /// The cells of the tree are the places of cells.
 pub fn tree()
@@ -73,4 +75,32 @@ pub fn unwalked_is_empty()
 /// A cell without walked children has its own corners for its lists.
 pub fn leaf_is_corners()
     ensures corners { LeafIsCorners }
+{}
+
+/// Each load of a traversal comes after those of the cells around its vertex that come before, and no others.
+pub fn loads_are_due()
+    ensures due { LoadsAreDue }
+    ensures around { LoadedAround }
+{}
+
+/// The walk of a cell over places on stacks finds each place on top, and leaves its lists on what was beneath.
+pub fn walk_of_a_cell()
+    ensures runs { WalkOfACell }
+{}
+
+/// A traversal over places on stacks makes its output streams of its input streams.
+pub fn whole_traversal()
+    ensures runs { WholeTraversal }
+{}
+
+/// What a walk writes, the last one first, is what the other way reads.
+pub fn turning_round()
+    ensures round { TurningRound }
+    ensures around { TurningAround }
+{}
+
+/// What is foreseen of a traversal of a grid fits a walk, and so does what the grid has stored.
+pub fn grids_fit()
+    ensures forecast { ForecastFits }
+    ensures stored { StoredFits }
 {}

@@ -106,7 +106,7 @@ or_none : (b : Bool) → (b || false) ≡ b
 or_none true = refl
 or_none false = refl
 
-same_places : (a b : Place) → is_same a b ≡ true → a ≡ b
+pub same_places : (a b : Place) → is_same a b ≡ true → a ≡ b
 same_places a b e = let k = is_same-true a b e in ap₂ (λ l p. let v : Place = record { level = l; pos = p } in v) k.0 k.1
 
 -- a corner of a cell comes to it across no face, or across one
@@ -181,7 +181,7 @@ stack_of_face : (s axis side x : ℕ) → side < 2 → s / 2 ≡ axis → (x + s
 stack_of_face s axis side x h e f = omega arith
 
 -- a cell that shares a face lies at another position on its axis
-apart : (face : Face) (cell : Place) → face.side < 2 → face.axis < length cell.pos → ShareFace face cell (across face cell) → beside face.side (slice_index cell.pos face.axis) ≢ slice_index cell.pos face.axis
+pub apart : (face : Face) (cell : Place) → face.side < 2 → face.axis < length cell.pos → ShareFace face cell (across face cell) → beside face.side (slice_index cell.pos face.axis) ≢ slice_index cell.pos face.axis
 apart face cell s l share e = go face.side s (slice_index cell.pos face.axis) e there
   where
     long : face.axis < length (across face cell).pos

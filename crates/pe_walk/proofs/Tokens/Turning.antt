@@ -11,7 +11,8 @@ use Rattle.pe_base.specs.Steps.Faces.{Touch, corner_touches}
 use Rattle.pe_base.specs.Walk.Streams.{if_walks, walked_children, walked_loads, walked_stores, walked_cells}
 use Rattle.pe_base.proofs.Lists.{Each-all, flat_map_same, filter_same, reverse-flat_map}
 use Rattle.pe_base.proofs.Tree.Children.{reverse-children}
-use Rattle.pe_base.proofs.Steps.Turned.{stack-opposite}
+use Rattle.pe_base.proofs.Steps.Turned.{around-opposite, stack-opposite}
+use Rattle.pe_walk.specs.TokenLaws.{TurningRound, TurningAround}
 use Rattle.pe_walk.specs.Tokens.{Outlook, turned}
 use Rattle.pe_walk.specs.Takings.{left_cells, loads_of, stores_of, is_read, is_written, reads_of, writes_of, cell_reads_of, cell_writes_of}
 
@@ -51,3 +52,14 @@ writes-turned o levels cell four =
 
 pub cell_writes-turned : (o : Outlook) (levels : ℕ) (cell : Place) → cell_writes_of o levels cell ≡ cell_reads_of (turned o) levels cell
 cell_writes-turned o levels cell = ap (filter o.writes_cell) (cells-turned o levels cell)
+
+pub turning_round : TurningRound
+turning_round o levels cell dim = record {
+  stores = stores-turned o.axes o.way o.walks levels cell;
+  cells = cells-turned o levels cell;
+  writes = writes-turned o levels cell dim.1;
+  cell_writes = cell_writes-turned o levels cell;
+}
+
+pub turning_around : TurningAround
+turning_around axes way vertex cell dim = record { cells = around-opposite axes way vertex; stack = stack-opposite axes way vertex cell dim.1 }

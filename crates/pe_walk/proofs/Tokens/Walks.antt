@@ -91,17 +91,17 @@ own_cell_gives : (o : Outlook) (s : ℕ) (cell : Place) (rest : List Place) → 
 own_cell_gives o s cell rest = sym (own_cell (turned o) s cell rest) ∙ ap (λ xs. xs ++ rest) (sym (cell_gives-turned o 0 s cell))
 
 -- what the walk of a cell does on one stack of cells
-record CellPassage (o : Outlook) (levels s : ℕ) (cell : Place) (turn : Place → Turn) (kids beneath : List Place) : Type 0 where
-  inner : List Place
-  outer : List Place
-  own_takes : cell_takes o levels s cell ++ beneath ≡ cell_takes o 0 s cell ++ inner
-  own_gives : cell_gives o levels s cell ++ beneath ≡ cell_gives o 0 s cell ++ outer
-  turns : Turns (map turn kids) inner outer
+pub record CellPassage (o : Outlook) (levels s : ℕ) (cell : Place) (turn : Place → Turn) (kids beneath : List Place) : Type 0 where
+  pub inner : List Place
+  pub outer : List Place
+  pub own_takes : cell_takes o levels s cell ++ beneath ≡ cell_takes o 0 s cell ++ inner
+  pub own_gives : cell_gives o levels s cell ++ beneath ≡ cell_gives o 0 s cell ++ outer
+  pub turns : Turns (map turn kids) inner outer
 
-abbrev cell_turn : Outlook → ℕ → ℕ → Place → Turn
+abbrev pub cell_turn : Outlook → ℕ → ℕ → Place → Turn
 cell_turn o levels s child = record { takes = cell_takes o levels s child; gives = cell_gives o levels s child; touches = λ place. false }
 
-cell_passage : (o : Outlook) (levels s : ℕ) (cell : Place) (beneath : List Place) → CellPassage o (suc levels) s cell (cell_turn o levels s) (walked_children o.axes o.way o.walks cell) beneath
+pub cell_passage : (o : Outlook) (levels s : ℕ) (cell : Place) (beneath : List Place) → CellPassage o (suc levels) s cell (cell_turn o levels s) (walked_children o.axes o.way o.walks cell) beneath
 cell_passage o levels s cell beneath = go (s == cell_output_stack o.swapped) refl
   where
     kids : List Place
@@ -233,7 +233,7 @@ WalksAt o greatest levels = (cell : Place) → IsCell o.axes o.way cell → grea
     → MayBegin o levels cell beneath cells_beneath t → (after : Tokens) × (walk o levels cell t ≡ Some after) × HasEnded o levels cell beneath cells_beneath t after
 
 -- some cells one after another
-walk_each : (o : Outlook) (greatest levels : ℕ) → WalksAt o greatest levels → (cs : List Place) → Each (λ c. IsCell o.axes o.way c × (greatest ≤ c.level + levels)) cs
+pub walk_each : (o : Outlook) (greatest levels : ℕ) → WalksAt o greatest levels → (cs : List Place) → Each (λ c. IsCell o.axes o.way c × (greatest ≤ c.level + levels)) cs
     → (t : Tokens) (a b ca cb : ℕ → List Place) → stack_count t.vertices ≡ 10 → stack_count t.cells ≡ 2 → ((s : ℕ) → items_at t.vertices s ≡ a s) → ((s : ℕ) → items_at t.cells s ≡ ca s)
     → ((s : ℕ) → Turns (map (token_turn o levels s) cs) (a s) (b s)) → ((s : ℕ) → Turns (map (cell_turn o levels s) cs) (ca s) (cb s)) → Due o (flat_map (loads_of o levels) cs) t.met
     → (after : Tokens) × (each_some (walk o levels) cs t ≡ Some after) × Went b cb (met_after o (flat_map (loads_of o levels) cs) t.met) t.held after
@@ -278,7 +278,7 @@ each_with P (x ∷ xs) e = ((inl refl, e.0), Each-weaker (λ y. In y xs × P y) 
 
 module _ (o : Outlook) (walked : Place → Bool) (greatest : ℕ) (dim : IsDim o.axes) (grown : Grown o walked greatest) where
   -- the children of a cell are cells of the tree, one level further down
-  kids_are_cells : (cell : Place) → IsCell o.axes o.way cell → Each (λ c. IsCell o.axes o.way c × (c.level ≡ cell.level + 1)) (children o.axes o.way cell)
+  pub kids_are_cells : (cell : Place) → IsCell o.axes o.way cell → Each (λ c. IsCell o.axes o.way c × (c.level ≡ cell.level + 1)) (children o.axes o.way cell)
   kids_are_cells cell is_cell = Each-weaker _ _ (λ c i. (child_is_cell o.axes o.way cell c dim.1 is_cell (in_contains _ c i.0), i.1)) (children o.axes o.way cell)
       (each_with (λ c. c.level ≡ cell.level + 1) (children o.axes o.way cell) (children_levels o.axes o.way cell))
 
