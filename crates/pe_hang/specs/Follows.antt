@@ -1,13 +1,18 @@
 -- How the answer of a call follows a course of steps.
 --
---     fine         the course is done with what the call leaves, and all its text was added
+--     Ok           the course is done with what the call leaves, and all its text was added
 --     halted       it halts by this very cause, and all its text was added
 --     unwritten    a part of its text was added, and the sink failed
 --     wanting      a part of its text was added; of a mapping that is sure, some push of the course had no room
-use Rattle.std.specs.Prelude.{◌≡◌, ℕ, ◌+◌, ◌≤◌, ◌<◌, Bool, true, false, List, ◌++◌, Contains, if◌then◌else◌}
-use Rattle.pe_base.specs.Walk.Course.{Cause, Ending, done, halts, stuck, Push, Course, behind}
-use Rattle.pe_stacks.specs.Holdings.{Holdings, len_at}
-use Rattle.pe_mapping.specs.Held.{Told, Adds, AddsPart, SinkFailed}
+use Rattle.std.specs.Prelude.{◌≡◌, ℕ, ◌+◌, ◌≤◌, ◌<◌, Bool, true, false, List, ◌++◌, Contains, if◌then◌else◌, Result, Ok, Err}
+use Rattle.pe_base.specs.declared.place.Place.{Place}
+use Rattle.pe_base.specs.declared.event.Event.{Event}
+use Rattle.pe_base.specs.declared.stop.Stop.{Stop}
+use Rattle.pe_base.specs.declared.stop.Stop.TheVariants.{Overflow, Division, Sink, Memory}
+use Rattle.pe_base.specs.Acts.Effects.{Overflow as overflows, Division as divides}
+use Rattle.pe_base.specs.Walk.Course.{Cause, fault_at, Ending, done, halts, stuck, Push, Course, behind}
+use Rattle.pe_stacks.specs.Holdings.{Holdings, KeepsRoom, stack_count, len_at}
+use Rattle.pe_mapping.specs.Held.{Held, Told, Adds, AddsPart, SinkFailed}
 
 -- a course does not get stuck
 abbrev pub is_fit : {X : Type 0} → Ending X → Bool
@@ -26,6 +31,9 @@ pub record Found : Type 0 where
   pub vertices : ℕ → ℕ
   pub cells : ℕ → ℕ
 
+abbrev pub found_of : {Plan : Type 0} → Held Plan → (ℕ → ℕ) → (ℕ → ℕ) → Found
+found_of held vertices cells = record { told = held.told; sure = held.sure; vertices = vertices; cells = cells }
+
 -- how many records a stack holds without asking for memory
 abbrev pub held_by : {X : Type 0} → Holdings X → (ℕ → ℕ) → ℕ → ℕ
 held_by held room s = len_at held s + room s
@@ -37,12 +45,24 @@ IsOverfull found push = (if push.of_cell then found.cells push.stack else found.
 abbrev pub HasOverfull : Found → List Push → Type 0
 HasOverfull found log = (push : Push) × Contains log push × IsOverfull found push
 
--- what a call answers
-pub data Reply (A : Type 0) : Type 0 where
-  fine : A → Reply A
-  halted : Cause → Reply A
-  unwritten : Reply A
-  wanting : Reply A
+-- why a call failed; unheard of is what no call answers
+pub data Failure : Type 0 where
+  halted : Cause → Failure
+  unwritten : Failure
+  wanting : Failure
+  unheard_of : Failure
+
+-- the failure of an event at a place
+abbrev pub failure_at : Event → Place → Stop → Failure
+failure_at event place Overflow = halted (fault_at overflows event place)
+failure_at event place Division = halted (fault_at divides event place)
+failure_at event place Sink = unwritten
+failure_at event place Memory = wanting
+
+-- an answer, with what its error means
+abbrev pub read_by : {A E : Type 0} → (E → Failure) → Result A E → Result A Failure
+read_by means (Ok a) = Ok a
+read_by means (Err e) = Err (means e)
 
 pub record Does {X : Type 0} (course : Course X) (ending : Ending X) (old new : Told) : Type 0 where
   pub ends : course.ending ≡ ending
@@ -56,11 +76,18 @@ pub record Wants {X : Type 0} (course : Course X) (old : Found) (new : Told) : T
   pub told : AddsPart old.told course.text new
   pub room : old.sure ≡ true → HasOverfull old course.log
 
-abbrev pub Follows : {X A : Type 0} → Course X → (A → X) → Reply A → Found → Told → Type 0
-Follows course after (fine a) old new = Does course (done (after a)) old.told new
-Follows course after (halted cause) old new = Does course (halts cause) old.told new
-Follows course after unwritten old new = FailsToTell course old.told new
-Follows course after wanting old new = Wants course old new
+abbrev pub Follows : {X A : Type 0} → Course X → (A → X) → Result A Failure → Found → Told → Type 0
+Follows course after (Ok a) old new = Does course (done (after a)) old.told new
+Follows course after (Err (halted cause)) old new = Does course (halts cause) old.told new
+Follows course after (Err unwritten) old new = FailsToTell course old.told new
+Follows course after (Err wanting) old new = Wants course old new
+Follows course after (Err unheard_of) old new = ⊥
+
+-- what a call finds where another has left off: as much room on each stack, or more
+pub record IsRoomier (old now : Found) : Type 0 where
+  pub sure : now.sure ≡ old.sure
+  pub vertices : (s : ℕ) → old.vertices s ≤ now.vertices s
+  pub cells : (s : ℕ) → old.cells s ≤ now.cells s
 
 -- Within a body: a part of the whole course was done, and the rest is left. Text was added, and no stack lost room.
 pub record Leads {X : Type 0} (whole : Course X) (old now : Found) (rest : Course X) : Type 0 where
@@ -68,6 +95,11 @@ pub record Leads {X : Type 0} (whole : Course X) (old now : Found) (rest : Cours
   pub log : List Push
   pub splits : whole ≡ behind text log rest
   pub told : Adds old.told text now.told
-  pub sure : now.sure ≡ old.sure
-  pub vertices : (s : ℕ) → old.vertices s ≤ now.vertices s
-  pub cells : (s : ℕ) → old.cells s ≤ now.cells s
+  pub room : IsRoomier old now
+
+-- After a call that takes some records for its own, and keeps some out where it comes through: no stack came or went or
+-- lost room, and no other record is out or in.
+pub record Left {X : Type 0} (taken kept : ℕ) (old : Holdings X) (room : ℕ → ℕ) (new : Holdings X) (room' : ℕ → ℕ) (failed : Bool) : Type 0 where
+  pub count : stack_count new ≡ stack_count old
+  pub keeps : KeepsRoom old room new room'
+  pub out : new.out + taken ≡ old.out + (if failed then 0 else kept)

@@ -1,9 +1,10 @@
 -- The walk on stacks of records, as a machine of lists: no record has an address, and none is looked up. It does what the
 -- walk by address does, in the same order, by the same core.
-use Rattle.std.specs.Prelude.{ℕ, ℤ, zero, suc, ◌+◌, ◌-◌, ◌^◌, Bool, true, false, ◌&&◌, ◌==◌, nat_lt, List, [], ◌∷◌, Option, is_none, if◌then◌else◌}
+use Rattle.std.specs.Prelude.{ℕ, ℤ, zero, suc, ◌+◌, ◌-◌, ◌^◌, Bool, true, false, ◌&&◌, ◌||◌, ◌==◌, nat_lt, List, [], ◌∷◌, Option, is_none, if◌then◌else◌}
 use Rattle.pe_base.specs.declared.place.Place.{Place}
 use Rattle.pe_base.specs.declared.kind.Kind.{Kind}
 use Rattle.pe_base.specs.declared.kind.Kind.TheVariants.{Kept, Born, Dying, Hanging}
+use Rattle.pe_base.specs.Life.Kinds.{is_hanging, is_inside}
 use Rattle.pe_base.specs.declared.event.Event.{Event}
 use Rattle.pe_base.specs.declared.event.Event.TheVariants.{BeginIteration, EndIteration}
 use Rattle.pe_base.specs.declared.tally.Tally.{Tally}
@@ -42,6 +43,10 @@ tally_may_rise tally =
     may_rise tally.cells && may_rise tally.read && may_rise tally.written
     && may_rise tally.created && may_rise tally.destroyed && may_rise tally.hanging
 
+-- a vertex that counts lies inside the root cube
+abbrev pub is_placed : ℕ → Kind → Place → Bool
+is_placed axes kind vertex = is_hanging kind || is_inside axes vertex
+
 abbrev pub desk_of : Machine → Desk
 desk_of m = record { vertices = m.vertices; family = m.family }
 
@@ -65,7 +70,7 @@ module _ {Plan : Type 0} (set : Setting Plan) (ports : Ports) where
       let vertex = corner set.axes cell k in
       let kind = kind_in_hand set cell m.family.parents vertex in
       let first = is_none (stack_in set.axes (way set) vertex cell) in
-      allowed (tally_may_rise m.tally)
+      allowed (tally_may_rise m.tally && is_placed set.axes kind vertex)
       (course_map (λ it. (it.0, with_desk it.1 (record m { tally = tally_load kind first m.tally })))
       (corners.load_corner set ports.input cell k (desk_of m)))
 
@@ -73,7 +78,7 @@ module _ {Plan : Type 0} (set : Setting Plan) (ports : Ports) where
   store_corner cell k it m =
       let vertex = corner set.axes cell k in
       let last = is_none (stack_out set.axes (way set) vertex cell) in
-      allowed (tally_may_rise m.tally)
+      allowed (tally_may_rise m.tally && is_placed set.axes it.kind vertex)
       (course_map (λ desk. with_desk desk (record m { tally = tally_store it.kind last m.tally }))
       (corners.store_corner set (output ports) cell k it (desk_of m)))
 

@@ -1,0 +1,28 @@
+-- The old marks are the lower half, the new ones the upper.
+use Rattle.std.proofs.Common.{◌≡◌, ℕ, ◌+◌, ◌*◌, ◌^◌, ◌%◌, ◌<◌, Bool, false, ◌||◌, ap, ap₂, ◌∙◌, arith}
+use Rattle.std.specs.Prelude.{bit_or}
+use Rattle.pe_states.specs.Marks.{is_marked}
+use Rattle.pe_states.proofs.Bits.{marked_or, not_marked, marked_shl_low, marked_shl_high, or_none}
+use Rattle.pe_states.proofs.marks.Marks.new.Goals as goal
+
+-- the two halves of a number
+whole : (x y : ℕ) → y < 2 ^ 16 → bit_or x (y * 65536 % 4294967296) ≡ bit_or x (y * 2 ^ 16)
+whole x y h = let same : y * 65536 % 4294967296 ≡ y * 2 ^ 16 = omega arith in ap (λ (z : ℕ). bit_or x z) same
+
+lower : (x y k : ℕ) → y < 2 ^ 16 → k < 16 → is_marked (bit_or x (y * 65536 % 4294967296)) k ≡ is_marked x k
+lower x y k h small =
+    ap (λ (z : ℕ). is_marked z k) (whole x y h) ∙ marked_or x (y * 2 ^ 16) k ∙ ap (λ b. is_marked x k || b) (marked_shl_low y 16 k small) ∙ or_none (is_marked x k)
+
+upper : (x y k : ℕ) → x < 2 ^ 16 → y < 2 ^ 16 → is_marked (bit_or x (y * 65536 % 4294967296)) (16 + k) ≡ is_marked y k
+upper x y k g h =
+    let past : 16 + k ≡ k + 16 = omega arith in
+    ap (λ (z : ℕ). is_marked z (16 + k)) (whole x y h) ∙ marked_or x (y * 2 ^ 16) (16 + k)
+    ∙ ap₂ (λ a b. a || b) (not_marked x 16 (16 + k) g (omega arith)) (marked_shl_high y 16 (16 + k) (omega arith) (omega arith) ∙ ap (λ (i : ℕ). is_marked y i) (omega arith))
+
+pub returns-clause-old : goal.returns-clause-old
+returns-clause-old c k small =
+    lower c.from.result c.from-2.result k (omega (arith, c.ranges.news, c.from-2.ensures)) small ∙ ap (λ (x : ℕ). is_marked x k) c.from.ensures
+
+pub returns-clause-new : goal.returns-clause-new
+returns-clause-new c k small =
+    upper c.from.result c.from-2.result k (omega (arith, c.ranges.olds, c.from.ensures)) (omega (arith, c.ranges.news, c.from-2.ensures)) ∙ ap (λ (x : ℕ). is_marked x k) c.from-2.ensures
