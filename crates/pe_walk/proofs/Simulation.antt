@@ -4,3 +4,5 @@
 pub mod Matching
 -- what the core keeps of the records in hand
 pub mod CoreLaws
+-- what holds between the steps
+pub mod Standing
