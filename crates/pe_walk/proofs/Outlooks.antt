@@ -44,7 +44,7 @@ each_all P [] e k d h = absurd (omega arith)
 each_all P (x ∷ xs) e zero d h = e.0
 each_all P (x ∷ xs) e (suc k) d h = each_all P xs e.1 k d (omega arith)
 
-un_map : {X Y : Type 0} (P : Y → Type 0) (f : X → Y) (xs : List X) → Each P (map f xs) → Each (λ x. P (f x)) xs
+pub un_map : {X Y : Type 0} (P : Y → Type 0) (f : X → Y) (xs : List X) → Each P (map f xs) → Each (λ x. P (f x)) xs
 un_map P f [] e = tt
 un_map P f (x ∷ xs) e = (e.0, un_map P f xs e.1)
 
@@ -52,7 +52,7 @@ each_of : {X : Type 0} (P : X → Type 0) (xs : List X) → AllByRecursion P xs 
 each_of P [] e = tt
 each_of P (x ∷ xs) e = (e.0, each_of P xs e.1)
 
-in_range : (k a n : ℕ) → a ≤ k → k < a + n → In k (range_with_len a n)
+pub in_range : (k a n : ℕ) → a ≤ k → k < a + n → In k (range_with_len a n)
 in_range k a zero l h = absurd (omega arith)
 in_range k a (suc n) l h = elim (here_or_later k a l) [ inl e ↦ inl e | inr m ↦ inr (in_range k (a + 1) n (omega arith) (omega arith)) ]
   where

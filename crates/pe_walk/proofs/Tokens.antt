@@ -14,3 +14,9 @@ pub mod Walks
 pub mod Dues
 -- traversals
 pub mod Traversals
+-- what each step keeps
+pub mod Keeping
+-- first and last by counting
+pub mod Counting
+-- where a place is
+pub mod Apart

@@ -8,6 +8,8 @@ pub mod Tokens
 pub mod Takings
 -- the laws of that walk
 pub mod TokenLaws
+-- a place is on one stack, or held, or nowhere
+pub mod Apart
 -- what the walk over places asks of a grid
 pub mod Outlooks
 -- grids for the worked rows

@@ -13,6 +13,7 @@
 ghost use Rattle.pe_walk.specs.Laws.{NeighboursAgree, FacesAreOneWay, OneFaceOnEach, Composition, BeneathUntouched, StoresAsLoads, Counts, UnwalkedIsEmpty, LeafIsCorners, CellsOfTheTree, StepsCrossFaces, StepsAreCorners, CornersAreSteps, TurnsJoin, StandTogether, CornersCrossOnce, CornersOnStacks};
 ghost use Rattle.pe_walk.specs.TokenLaws.{WalkOfACell, LoadsAreDue, LoadedAround, WholeTraversal, TurningRound, TurningAround};
 ghost use Rattle.pe_walk.specs.Outlooks.{ForecastFits, StoredFits};
+ghost use Rattle.pe_walk.specs.Apart.{StepsKeepApart, BeginsApart, CornersByCounting};
 
 /// The cells of the tree are the places of cells.
 pub fn tree()
@@ -103,4 +104,15 @@ pub fn turning_round()
 pub fn grids_fit()
     ensures forecast { ForecastFits }
     ensures stored { StoredFits }
+{}
+
+/// A place that counts is on one stack once, or held, or nowhere.
+pub fn places_stand_apart()
+    ensures kept { StepsKeepApart }
+    ensures begun { BeginsApart }
+{}
+
+/// A corner comes from no stack to the first of the cells around it, and goes to none from the last.
+pub fn first_and_last()
+    ensures counted { CornersByCounting }
 {}

@@ -82,11 +82,11 @@ met_touched o v c (touch ∷ touches) met = met_touched o v c touches (met_more 
     go true e false k = absurd (true≢false (sym c ∙ ap o.counts (sym (same_places touch.vertex v e)) ∙ k))
     go false e false k = refl
 
-lent_items : (ks : List ℕ) (held : Holdings Place) (s : ℕ) → items_at (lent_for ks held) s ≡ items_at held s
+pub lent_items : (ks : List ℕ) (held : Holdings Place) (s : ℕ) → items_at (lent_for ks held) s ≡ items_at held s
 lent_items [] held s = refl
 lent_items (k ∷ ks) held s = lent_items ks (lent held) s
 
-lent_stacks : (ks : List ℕ) (held : Holdings Place) → stack_count (lent_for ks held) ≡ stack_count held
+pub lent_stacks : (ks : List ℕ) (held : Holdings Place) → stack_count (lent_for ks held) ≡ stack_count held
 lent_stacks [] held = refl
 lent_stacks (k ∷ ks) held = lent_stacks ks (lent held)
 

@@ -142,7 +142,7 @@ pub record Went (vertices cells : ℕ → List Place) (met held : Place → ℕ)
   pub its_met : after.met ≡ met
   pub its_held : (place : Place) → after.held place ≡ held place
 
-each_below : (n : ℕ) (P : ℕ → Type 0) → ((k : ℕ) → k < n → P k) → Each P (range_with_len 0 n)
+pub each_below : (n : ℕ) (P : ℕ → Type 0) → ((k : ℕ) → k < n → P k) → Each P (range_with_len 0 n)
 each_below n P h = go 0 n (λ k l. h k (omega arith))
   where
     go : (a m : ℕ) → ((k : ℕ) → k < a + m → P k) → Each P (range_with_len a m)
