@@ -6,7 +6,10 @@ pub mod ChildLines
 -- lines from a cell to its child, and the flips of a cell
 pub mod LineLaws
 -- # Routes
--- the fastest face at a corner is that across which the cell is entered, or left
+-- the fastest face at a corner, by relations and levels, and by numbers
+pub mod Choices
+pub mod NumberLaws
+-- the fastest face is that across which the cell is entered, or left
 pub mod FaceLaws
 -- the routes of a state are those around the vertex
 pub mod RouteProofs

@@ -10,8 +10,7 @@ use Rattle.pe_base.specs.Steps.Routes.{way_turns}
 use Rattle.pe_base.proofs.Tree.PlaceLaws.{IsPosition-below, IsCellPlace-child_at}
 use Rattle.pe_base.proofs.Tree.CurveLaws.{slice_get-append_left}
 use Rattle.pe_base.proofs.Steps.RouteLaws.{Below, length-front, padded-front}
-use Rattle.pe_access.specs.declared.line.Line.{Line}
-use Rattle.pe_access.specs.Lines.{bit_of, child_line, near_face}
+use Rattle.pe_access.specs.Lines.{Line, bit_of, child_line, near_face}
 use Rattle.pe_access.specs.Faces.{line_of}
 use Rattle.pe_access.specs.States.{HoldsCell, IsIdle}
 use Rattle.pe_access.proofs.ChildLines.{lines_of}

@@ -2,6 +2,8 @@
 
 -- cells along one axis: their parities and their faces, from parent to child
 pub mod Lines
+-- the numbers of faces
+pub mod Numbers
 -- what a state holds of each face, by the order of the walk
 pub mod Faces
 -- what a state is of a cell

@@ -3,9 +3,8 @@
 //! [`CellState`] stands for a cell without its position, and tells the [`Route`] of each corner. Nothing here takes memory.
 #![tactic(auto)]
 
-mod face;
 mod laws;
-mod line;
+mod numbers;
 mod route;
 #[cfg(test)]
 mod rows;

@@ -1,15 +1,14 @@
-ghost use Rattle.std.specs.Prelude.{◌≡◌, ℕ, ◌+◌, ◌<◌, ◌^◌, length};
+ghost use Rattle.std.specs.Prelude.{◌≡◌, ℕ, ◌+◌, ◌<◌, ◌^◌};
 ghost use Rattle.pe_base.specs.declared.place.Place.{Place as APlace};
 ghost use Rattle.pe_base.specs.declared.way.Way.{Way as AWay};
 ghost use Rattle.pe_base.specs.Tree.Places.{IsDigits, IsCellPlace, IsInside, bits, child_at, corner as corner_at, root};
 ghost use Rattle.pe_base.specs.Tree.Curve.{flips};
 ghost use Rattle.pe_base.specs.Steps.Routes.{stack_in, stack_out, way_turns};
-ghost use Rattle.pe_access.specs.Lines.{fastest};
+ghost use Rattle.pe_access.specs.Numbers.{stack_of};
 ghost use Rattle.pe_access.specs.States.{StandsFor, axes_of, level_of, odd_count, route_of};
 
-use crate::face::Relation;
-use crate::line::{Line, bit};
-use crate::route::{Choice, Route};
+use crate::numbers::{Axis, bit};
+use crate::route::Route;
 use pe_base::{Digits, Dim, Way};
 
 /// What the walk knows of a cell besides its record: parities and faces, and no position.
@@ -18,7 +17,7 @@ pub struct CellState {
     axes: u8,
     way: Way,
     level: u8,
-    lines: [Line; 4],
+    along: [Axis; 4],
 }
 
 impl CellState {
@@ -31,7 +30,7 @@ impl CellState {
             axes: dim.axes(),
             way,
             level: 0,
-            lines: [Line::root(), Line::root(), Line::root(), Line::root()],
+            along: [Axis::root(), Axis::root(), Axis::root(), Axis::root()],
         }
     }
 
@@ -44,30 +43,30 @@ impl CellState {
         ensures axes { axes_of result ≡ axes_of self.now }
         ensures level { level_of result ≡ level_of self.now + 1 }
     {
-        let [x, y, z, w] = self.lines;
+        let [x, y, z, w] = self.along;
         let [i, j, k, l] = k.k;
         let level = self.level + 1;
         let turns = self.turns();
-        let lines = [
-            x.child(level, turns + bit(x.odd), i),
-            y.child(level, turns + i + bit(y.odd), j),
-            z.child(level, turns + i + j + bit(z.odd), k),
-            w.child(level, turns + i + j + k + bit(w.odd), l),
+        let along = [
+            x.child(0, level, turns + bit(x.odd), i),
+            y.child(1, level, turns + i + bit(y.odd), j),
+            z.child(2, level, turns + i + j + bit(z.odd), k),
+            w.child(3, level, turns + i + j + k + bit(w.odd), l),
         ];
         CellState {
             axes: self.axes,
             way: self.way,
             level,
-            lines,
+            along,
         }
     }
 
     // The turns of every axis: one where the walk is inverted, and one for each odd position.
     fn turns(&self) -> u8
-        ensures value { result ≡ way_turns self.now.way + odd_count self.now.lines }
+        ensures value { result ≡ way_turns self.now.way + odd_count self.now.along }
         ensures small { result < 6 }
     {
-        let [x, y, z, w] = self.lines;
+        let [x, y, z, w] = self.along;
         let inverted = match self.way {
             Way::Forward => 0,
             Way::Inverted => 1,
@@ -80,12 +79,42 @@ impl CellState {
         ensures { (axes : ℕ) (way : AWay) (cell : APlace) → IsCellPlace axes cell → StandsFor axes way cell self.now
             → bits axes result ≡ flips axes cell.pos }
     {
-        let [x, y, z, w] = self.lines;
+        let [x, y, z, w] = self.along;
         let sum = bit(x.odd) + bit(y.odd) + bit(z.odd) + bit(w.odd);
         (sum + bit(x.odd)) % 2
             + 2 * ((sum + bit(y.odd)) % 2)
             + 4 * ((sum + bit(z.odd)) % 2)
             + 8 * ((sum + bit(w.odd)) % 2)
+    }
+
+    /// The number of the face by which the cell takes its corner: 0 where it is the first of the vertex's cells, else
+    /// eight times the face's level, and the stack.
+    ///
+    /// `corner` is below `2^d`, and that corner lies strictly inside the root cube.
+    pub fn coming(&self, corner: u8) -> u32
+        requires { corner < 2 ^ axes_of self.now }
+        ensures { (axes : ℕ) (way : AWay) (cell : APlace) → IsCellPlace axes cell → StandsFor axes way cell self.now
+            → let vertex = corner_at axes cell corner in IsInside axes vertex → stack_of result ≡ stack_in axes way vertex cell }
+    {
+        let [x, y, z, w] = self.along;
+        let last = z.at(corner / 4 % 2).coming.max(w.at(corner / 8 % 2).coming);
+        let behind = y.at(corner / 2 % 2).coming.max(last);
+        x.at(corner % 2).coming.max(behind)
+    }
+
+    /// The number of the face by which the cell hands its corner on: 0 where it is the last of the vertex's cells, else
+    /// eight times the face's level, and the stack.
+    ///
+    /// `corner` is below `2^d`, and that corner lies strictly inside the root cube.
+    pub fn going(&self, corner: u8) -> u32
+        requires { corner < 2 ^ axes_of self.now }
+        ensures { (axes : ℕ) (way : AWay) (cell : APlace) → IsCellPlace axes cell → StandsFor axes way cell self.now
+            → let vertex = corner_at axes cell corner in IsInside axes vertex → stack_of result ≡ stack_out axes way vertex cell }
+    {
+        let [x, y, z, w] = self.along;
+        let last = z.at(corner / 4 % 2).going.max(w.at(corner / 8 % 2).going);
+        let behind = y.at(corner / 2 % 2).going.max(last);
+        x.at(corner % 2).going.max(behind)
     }
 
     /// Where the cell takes its corner from: the stream exactly where no other cell comes before it around the
@@ -97,7 +126,7 @@ impl CellState {
         ensures { (axes : ℕ) (way : AWay) (cell : APlace) → IsCellPlace axes cell → StandsFor axes way cell self.now
             → let vertex = corner_at axes cell corner in IsInside axes vertex → result ≡ route_of (stack_in axes way vertex cell) }
     {
-        self.route(Relation::Earlier, corner)
+        route_of(self.coming(corner))
     }
 
     /// Where the cell puts its corner: the stream exactly where no other cell comes after it around the vertex,
@@ -109,22 +138,16 @@ impl CellState {
         ensures { (axes : ℕ) (way : AWay) (cell : APlace) → IsCellPlace axes cell → StandsFor axes way cell self.now
             → let vertex = corner_at axes cell corner in IsInside axes vertex → result ≡ route_of (stack_out axes way vertex cell) }
     {
-        self.route(Relation::Later, corner)
+        route_of(self.going(corner))
     }
+}
 
-    // The route across the fastest face at a corner whose neighbour has this relation.
-    fn route(&self, relation: Relation, corner: u8) -> Route
-        ensures fastest { result ≡ (fastest relation 0 (bits 4 corner) self.now.lines).route }
-        ensures four { length self.now.lines ≡ 4 }
-    {
-        let [x, y, z, w] = self.lines;
-        let none = Choice {
-            route: Route::Stream,
-            level: 0,
-        };
-        let last = w.faster(relation, 3, corner / 8 % 2, none);
-        let third = z.faster(relation, 2, corner / 4 % 2, last);
-        let second = y.faster(relation, 1, corner / 2 % 2, third);
-        x.faster(relation, 0, corner % 2, second).route
+// The route that a face's number tells.
+fn route_of(number: u32) -> Route
+    ensures { result ≡ route_of (stack_of number) }
+{
+    match number {
+        0 => Route::Stream,
+        _ => Route::Temp((number % 8) as u8),
     }
 }

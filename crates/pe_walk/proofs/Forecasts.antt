@@ -84,7 +84,7 @@ any_or p q (x ∷ xs) = ap (λ b. (p x || q x) || b) (any_or p q xs) ∙ mix (p 
     mix false false false d = refl
 
 -- below level 1, what is inside is on level 2 or deeper
-two_or_deeper : (axes : ℕ) (vertex : Place) → IsDim axes → is_inside axes vertex ≡ true → (vertex.level ≡ 1) ⊎ (2 ≤ vertex.level)
+pub two_or_deeper : (axes : ℕ) (vertex : Place) → IsDim axes → is_inside axes vertex ≡ true → (vertex.level ≡ 1) ⊎ (2 ≤ vertex.level)
 two_or_deeper axes vertex dim t =
     let at = inside_place axes vertex dim.1 t in
     go vertex.level (omega (arith, at.1 0 (omega (arith, dim.0)), at.0.inside 0 (omega (arith, dim.0))))
@@ -174,7 +174,7 @@ module _ (start_level : ℕ) (grid : Grid) (low : start_level ≤ grid.greatest)
     | inr h ↦ will_inside vertex.level vertex h
   ]
 
-  carrier_levels : (vertex : Place) → Each (λ m. m.level ≡ vertex.level - 1) (carriers vertex)
+  pub carrier_levels : (vertex : Place) → Each (λ m. m.level ≡ vertex.level - 1) (carriers vertex)
   carrier_levels vertex = Each-map (λ m. m.level ≡ vertex.level - 1) (λ pos. record { level = vertex.level - 1; pos = pos }) (carrier_positions vertex.pos) (Each-all _ (λ pos. refl) (carrier_positions vertex.pos))
 
   or_left_true : (a b : Bool) → a ≡ true → (a || b) ≡ true

@@ -20,6 +20,8 @@ pub mod Tokens
 pub mod Outlooks
 -- what is foreseen of a traversal, and what is stored
 pub mod Forecasts
+-- streams in the order of grids
+pub mod StreamOrders
 -- # The tests
 -- one round of the loops that compute the definitions
 pub mod Computed

@@ -39,7 +39,7 @@ any_in p x (y ∷ xs) i t = elim i [
     or_true true = refl
     or_true false = refl
 
-each_all : {X : Type 0} (P : X → Type 0) (xs : List X) → Each P xs → All P xs
+pub each_all : {X : Type 0} (P : X → Type 0) (xs : List X) → Each P xs → All P xs
 each_all P [] e k d h = absurd (omega arith)
 each_all P (x ∷ xs) e zero d h = e.0
 each_all P (x ∷ xs) e (suc k) d h = each_all P xs e.1 k d (omega arith)

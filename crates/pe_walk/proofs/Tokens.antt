@@ -20,3 +20,5 @@ pub mod Keeping
 pub mod Counting
 -- where a place is
 pub mod Apart
+-- streams
+pub mod Streams

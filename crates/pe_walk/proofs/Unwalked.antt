@@ -45,7 +45,7 @@ cell_four axes way cell four is = (Each-In (OnLevel cell.level) cell (order axes
 child_contained : (axes : ℕ) (way : Way) (cell : Place) (ts : List ℕ) → Digits3 axes ts → Contains (children axes way cell) (child_of axes way cell ts)
 child_contained axes way cell ts d = in_contains (children axes way cell) (child_of axes way cell ts) (subst (In (child_of axes way cell ts)) (sym (children_are axes way cell)) (In-map (child_of axes way cell) ts (digit_lists axes) (digits_in axes ts d)))
 
-contained_either : (axes : ℕ) (either way : Way) (cell child : Place) → Contains (children axes either cell) child → Contains (children axes way cell) child
+pub contained_either : (axes : ℕ) (either way : Way) (cell child : Place) → Contains (children axes either cell) child → Contains (children axes way cell) child
 contained_either axes Forward Forward cell child c = c
 contained_either axes Inverted Inverted cell child c = c
 contained_either axes Forward Inverted cell child c = in_contains (children axes Inverted cell) child (subst (In child) (reverse-children axes Forward cell) (In-reverse child (children axes Forward cell) (contains_in (children axes Forward cell) child c)))

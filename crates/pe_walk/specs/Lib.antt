@@ -12,6 +12,8 @@ pub mod TokenLaws
 pub mod Apart
 -- what the walk over places asks of a grid
 pub mod Outlooks
+-- streams in the order of grids
+pub mod StreamLaws
 -- grids for the worked rows
 pub mod Grids
 -- the walk on stacks as a machine of lists

@@ -13,6 +13,7 @@
 ghost use Rattle.pe_walk.specs.Laws.{NeighboursAgree, FacesAreOneWay, OneFaceOnEach, Composition, BeneathUntouched, StoresAsLoads, Counts, UnwalkedIsEmpty, LeafIsCorners, CellsOfTheTree, StepsCrossFaces, StepsAreCorners, CornersAreSteps, TurnsJoin, StandTogether, CornersCrossOnce, CornersOnStacks};
 ghost use Rattle.pe_walk.specs.TokenLaws.{WalkOfACell, LoadsAreDue, LoadedAround, WholeTraversal, TurningRound, TurningAround};
 ghost use Rattle.pe_walk.specs.Outlooks.{ForecastFits, StoredFits};
+ghost use Rattle.pe_walk.specs.StreamLaws.{FitsTurned, StreamsAreOne, ReadsAreStreams, NextIsFormed, WritesAreStreams};
 ghost use Rattle.pe_walk.specs.Apart.{StepsKeepApart, BeginsApart, CornersByCounting};
 
 /// The cells of the tree are the places of cells.
@@ -115,4 +116,18 @@ pub fn places_stand_apart()
 /// A corner comes from no stack to the first of the cells around it, and goes to none from the last.
 pub fn first_and_last()
     ensures counted { CornersByCounting }
+{}
+
+/// Walks that read the same read it in one order, and what fits a walk fits it the other way round.
+pub fn streams_are_one()
+    ensures turned { FitsTurned }
+    ensures one { StreamsAreOne }
+{}
+
+/// A traversal reads the streams of the grid before it, and writes, the last one first, those of the grid after it, which
+/// is well-formed.
+pub fn streams_of_grids()
+    ensures reads { ReadsAreStreams }
+    ensures formed { NextIsFormed }
+    ensures writes { WritesAreStreams }
 {}

@@ -90,11 +90,11 @@ module _ (o : Outlook) (walked : Place → Bool) (greatest : ℕ) (dim : IsDim o
   abbrev for_walked : Touch → Bool
   for_walked t = walked t.cell
 
-  own_all : (cell : Place) (b : Bool) → walked cell ≡ b → Each (λ t. for_walked t ≡ b) (reverse (corner_touches o.axes cell))
+  pub own_all : (cell : Place) (b : Bool) → walked cell ≡ b → Each (λ t. for_walked t ≡ b) (reverse (corner_touches o.axes cell))
   own_all cell b e = Each-reverse (λ t. for_walked t ≡ b) (corner_touches o.axes cell) (Each-map (λ t. for_walked t ≡ b) (λ k. record { vertex = corner o.axes cell k; cell = cell }) (range_with_len 0 (2 ^ o.axes)) (Each-all _ (λ k. e) (range_with_len 0 (2 ^ o.axes))))
 
   -- the children of a cell are cells of the tree, walked as the cell says
-  kids_walked : (cell : Place) → IsCell o.axes o.way cell → Each (λ c. IsCell o.axes o.way c × (walked c ≡ o.walks cell) × (walked c ≡ true → walked cell ≡ true)) (children o.axes o.way cell)
+  pub kids_walked : (cell : Place) → IsCell o.axes o.way cell → Each (λ c. IsCell o.axes o.way c × (walked c ≡ o.walks cell) × (walked c ≡ true → walked cell ≡ true)) (children o.axes o.way cell)
   kids_walked cell is_cell = Each-weaker _ _ (λ c i.
       let k = in_contains (children o.axes o.way cell) c i.0 in
       (child_is_cell o.axes o.way cell c dim.1 is_cell k, grown.below cell c is_cell k, (λ w. grown.is_walk.parents cell c is_cell k w))) (children o.axes o.way cell)
