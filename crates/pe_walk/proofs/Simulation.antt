@@ -6,3 +6,5 @@ pub mod Matching
 pub mod CoreLaws
 -- what holds between the steps
 pub mod Standing
+-- what putting records back changes
+pub mod Putting
