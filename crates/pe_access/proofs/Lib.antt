@@ -20,3 +20,6 @@ pub mod OrderLaws
 pub mod HeldLaws
 -- states that hold what the order of the walk says, by the lines from parent to child
 pub mod StateLaws
+-- # Rows of children
+-- the numbers of a row, and of a child in it
+pub mod RowLaws

@@ -1,15 +1,15 @@
 -- The numbers of faces: from a parent's to its child's, and the greatest is that of the fastest face.
 use Rattle.std.proofs.Common.{◌≡◌, ℕ, zero, suc, ◌+◌, ◌*◌, ◌/◌, ◌%◌, ◌<◌, ◌≤◌, Bool, true, false, ◌&&◌, ◌⊎◌, List, [], ◌∷◌, map, length, get_or, max, subst, Option, Some, None, sym, ap, ap₂, ◌∙◌, refl, inl, inr, arith}
-use Rattle.std.specs.Prelude.{◌==◌, if◌then◌else◌, nat_lt, sum_by}
+use Rattle.std.specs.Prelude.{◌==◌, if◌then◌else◌, nat_lt, sum_by, slice_get, IfSome}
 use Rattle.std.proofs.lemmas.Bool.{lt-ltb, le-ltb, cases_lt, cond_both, ne_eqb}
 use Rattle.std.proofs.Math.Nat.{max-eq_left, max-eq_right}
 use Rattle.pe_base.specs.Tree.Places.{bits}
 use Rattle.pe_base.proofs.Steps.RouteLaws.{Below}
 use Rattle.pe_access.specs.declared.numbers.Axis.{Axis}
 use Rattle.pe_access.specs.declared.route.Route.TheVariants.{Stream, Temp}
-use Rattle.pe_access.specs.Lines.{Relation, Line, bit_of, is_relation, face_at}
+use Rattle.pe_access.specs.Lines.{Relation, Earlier, Later, Face, Line, bit_of, is_relation, face_at}
 use Rattle.pe_access.specs.Numbers.{face_number, numbers_of, axis_of, axes_from, stack_of}
-use Rattle.pe_access.specs.States.{route_of, odd_count}
+use Rattle.pe_access.specs.States.{IsIdle, route_of, odd_count}
 use Rattle.pe_access.proofs.Choices.{Choice, fastest}
 
 -- the numbers of some lines, line by line
@@ -164,3 +164,18 @@ greatest_four relation k n₀ n₁ n₂ n₃ lines e long is₀ is₁ is₂ is�
     let lowest : k % 2 ≡ k / 1 % 2 = omega arith in
     greatest_at relation (k % 2) (k / 2 % 2) (k / 4 % 2) (k / 8 % 2) n₀ n₁ n₂ n₃ lines e long is₀ is₁ is₂ is₃
     ∙ ap (λ (b : ℕ). greatest relation 0 (b ∷ (k / 2 % 2) ∷ (k / 4 % 2) ∷ (k / 8 % 2) ∷ []) lines) lowest
+
+-- an axis that the grid does not have has no face at its near end
+idle_line : (lines : List Line) (i : ℕ) (e : Line) → i < length lines → IfSome (slice_get lines i) IsIdle → IsIdle (get_or lines i e)
+idle_line [] i e h idle = absurd (omega arith)
+idle_line (line ∷ lines) zero e h idle = idle
+idle_line (line ∷ lines) (suc i) e h idle = idle_line lines i e (omega arith) idle
+
+pub idle_coming : (axis : ℕ) (line : Line) → IsIdle line → face_number Earlier axis 0 line ≡ 0
+idle_coming axis line idle = ap (λ (f : Face). if is_relation f.relation Earlier && nat_lt 0 f.level then 8 * f.level + (2 * axis + (bit_of line.odd + 0) % 2) else 0) idle.closed
+
+pub idle_going : (axis : ℕ) (line : Line) → IsIdle line → face_number Later axis 0 line ≡ 0
+idle_going axis line idle = ap (λ (f : Face). if is_relation f.relation Later && nat_lt 0 f.level then 8 * f.level + (2 * axis + (bit_of line.odd + 0) % 2) else 0) idle.closed
+
+pub idle_at : (lines : List Line) (i : ℕ) (e : Line) → length lines ≡ 4 → i < 4 → IfSome (slice_get lines i) IsIdle → IsIdle (get_or lines i e)
+idle_at lines i e long h idle = idle_line lines i e (omega arith) idle

@@ -8,3 +8,5 @@ pub mod Numbers
 pub mod Faces
 -- what a state is of a cell
 pub mod States
+-- the numbers of the corners of a row of children
+pub mod Rows

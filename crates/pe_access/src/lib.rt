@@ -6,10 +6,12 @@
 mod laws;
 mod numbers;
 mod route;
+mod row;
 #[cfg(test)]
 mod rows;
 mod state;
 
 pub use laws::order_around;
 pub use route::Route;
+pub use row::Row;
 pub use state::CellState;

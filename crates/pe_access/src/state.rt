@@ -1,14 +1,17 @@
-ghost use Rattle.std.specs.Prelude.{◌≡◌, ℕ, ◌+◌, ◌<◌, ◌^◌};
+ghost use Rattle.std.specs.Prelude.{◌≡◌, ℕ, ◌+◌, ◌/◌, ◌%◌, ◌<◌, ◌^◌, max, slice_index};
 ghost use Rattle.pe_base.specs.declared.place.Place.{Place as APlace};
 ghost use Rattle.pe_base.specs.declared.way.Way.{Way as AWay};
+ghost use Rattle.pe_base.specs.Tree.Dim.{IsDim};
 ghost use Rattle.pe_base.specs.Tree.Places.{IsDigits, IsCellPlace, IsInside, bits, child_at, corner as corner_at, root};
 ghost use Rattle.pe_base.specs.Tree.Curve.{flips};
 ghost use Rattle.pe_base.specs.Steps.Routes.{stack_in, stack_out, way_turns};
 ghost use Rattle.pe_access.specs.Numbers.{stack_of};
+ghost use Rattle.pe_access.specs.Rows.{IsRow, front_of, side_of};
 ghost use Rattle.pe_access.specs.States.{StandsFor, axes_of, level_of, odd_count, route_of};
 
 use crate::numbers::{Axis, bit};
 use crate::route::Route;
+use crate::row::Row;
 use pe_base::{Digits, Dim, Way};
 
 /// What the walk knows of a cell besides its record: parities and faces, and no position.
@@ -117,6 +120,54 @@ impl CellState {
         x.at(corner % 2).going.max(behind)
     }
 
+    /// The numbers of the row of children that the cell is in.
+    pub fn row(&self) -> Row
+        requires { IsDim (axes_of self.now) }
+        ensures { IsRow (axes_of self.now) (front_of self.now) result }
+    {
+        let [x, y, z, _] = self.along;
+        Row {
+            coming: greatest(
+                self.axes,
+                (x.near.coming, x.far.coming),
+                (y.near.coming, y.far.coming),
+                (z.near.coming, z.far.coming),
+            ),
+            going: greatest(
+                self.axes,
+                (x.near.going, x.far.going),
+                (y.near.going, y.far.going),
+                (z.near.going, z.far.going),
+            ),
+        }
+    }
+
+    /// The number by which the cell takes its corner, as `coming` tells it, from the row that the cell is in.
+    pub fn coming_in(&self, row: &Row, corner: u8) -> u32
+        requires corner { corner < 2 ^ axes_of self.now }
+        requires row { IsRow (axes_of self.now) (front_of self.now) row.now }
+        requires axes { IsDim (axes_of self.now) }
+        ensures { (axes : ℕ) (way : AWay) (cell : APlace) → IsCellPlace axes cell → StandsFor axes way cell self.now
+            → let vertex = corner_at axes cell corner in IsInside axes vertex → stack_of result ≡ stack_in axes way vertex cell }
+    {
+        let last = self.axes - 1;
+        let here = self.along[last as usize].at((corner >> last) % 2).coming;
+        here.max(row.coming[(corner % (1 << last)) as usize])
+    }
+
+    /// The number by which the cell hands its corner on, as `going` tells it, from the row that the cell is in.
+    pub fn going_in(&self, row: &Row, corner: u8) -> u32
+        requires corner { corner < 2 ^ axes_of self.now }
+        requires row { IsRow (axes_of self.now) (front_of self.now) row.now }
+        requires axes { IsDim (axes_of self.now) }
+        ensures { (axes : ℕ) (way : AWay) (cell : APlace) → IsCellPlace axes cell → StandsFor axes way cell self.now
+            → let vertex = corner_at axes cell corner in IsInside axes vertex → stack_of result ≡ stack_out axes way vertex cell }
+    {
+        let last = self.axes - 1;
+        let here = self.along[last as usize].at((corner >> last) % 2).going;
+        here.max(row.going[(corner % (1 << last)) as usize])
+    }
+
     /// Where the cell takes its corner from: the stream exactly where no other cell comes before it around the
     /// vertex, else the stack of the face to the cell before.
     ///
@@ -150,4 +201,32 @@ fn route_of(number: u32) -> Route
         0 => Route::Stream,
         _ => Route::Temp((number % 8) as u8),
     }
+}
+
+// The greatest number at each corner along all axes but the last, of the numbers of both sides on axes 0 to 2.
+fn greatest(axes: u8, x: (u32, u32), y: (u32, u32), z: (u32, u32)) -> [u32; 8]
+    requires { IsDim axes }
+    ensures two { axes ≡ 2 → (corner : ℕ) → corner < 2 → slice_index result corner ≡ side_of x corner }
+    ensures three { axes ≡ 3 → (corner : ℕ) → corner < 4 → slice_index result corner ≡ max (side_of x (corner % 2)) (side_of y (corner / 2)) }
+    ensures four { axes ≡ 4 → (corner : ℕ) → corner < 8
+        → slice_index result corner ≡ max (side_of x (corner % 2)) (max (side_of y (corner / 2 % 2)) (side_of z (corner / 4))) }
+{
+    if axes == 2 {
+        return [x.0, x.1, 0, 0, 0, 0, 0, 0];
+    }
+    let plane = [x.0.max(y.0), x.1.max(y.0), x.0.max(y.1), x.1.max(y.1)];
+    let [a, b, c, d] = plane;
+    if axes == 3 {
+        return [a, b, c, d, 0, 0, 0, 0];
+    }
+    [
+        a.max(z.0),
+        b.max(z.0),
+        c.max(z.0),
+        d.max(z.0),
+        a.max(z.1),
+        b.max(z.1),
+        c.max(z.1),
+        d.max(z.1),
+    ]
 }

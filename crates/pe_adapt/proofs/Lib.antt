@@ -1,1 +1,3 @@
--- Laws.
+pub mod CornerPlaces
+pub mod Records
+pub mod Loading

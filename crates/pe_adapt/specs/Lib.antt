@@ -2,3 +2,7 @@
 
 -- the load and the store of a corner, on stacks of records
 pub mod Touches
+-- where a corner is, and what is in hand there
+pub mod Spots
+-- what a stop means
+pub mod Stops

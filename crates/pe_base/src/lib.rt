@@ -9,6 +9,7 @@ mod fields;
 mod kind;
 pub mod laws;
 mod list;
+mod order;
 mod place;
 #[cfg(test)]
 mod rows;
@@ -27,6 +28,7 @@ pub use event::{Event, Sort};
 pub use fields::Fields;
 pub use kind::Kind;
 pub use list::List;
+pub use order::order_of_places;
 pub use place::{Digits, Place};
 pub use setup::{Names, Setup};
 pub use state::State;

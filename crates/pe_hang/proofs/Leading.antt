@@ -42,6 +42,10 @@ fit-from (done x) next fit = refl
 fit-from (halts cause) next fit = refl
 fit-from stuck next fit = fit
 
+-- the first of two steps does not get stuck
+pub and_then-fits : {X Y : Type 0} (course : Course X) (next : X → Course Y) → Fits (and_then course next) → Fits course
+and_then-fits course next fits = fit-from course.ending next fits
+
 -- the whole course is behind nothing
 pub leads_start : {X : Type 0} (course : Course X) (found : Found) → Leads course found found course
 leads_start course found = record { text = []; log = []; splits = refl; told = adds-nothing found.told; room = roomier-same found }
@@ -200,3 +204,15 @@ pub setting-kept : {Plan : Type 0} (rules : Rules Plan) (old new : Held Plan) (s
 setting-kept rules old new start_level max_cells traversal keeps =
     ap (λ plan. record { rules = rules; plan = plan; axes = new.dim; start_level = start_level; max_cells = max_cells; traversal = traversal }) keeps.plan
     ∙ ap (λ axes. record { rules = rules; plan = old.plan; axes = axes; start_level = start_level; max_cells = max_cells; traversal = traversal }) keeps.dim
+
+-- one course follows, and from its result the next
+pub follows-then : {X Y A B : Type 0} (course : Course X) (next : X → Course Y) (after : A → X) (a : A) (after' : B → Y) (answer : Result B Failure) (old now : Found) (new : Told)
+    → Follows course after (Ok a) old now.told → IsRoomier old now → Follows (next (after a)) after' answer now new → Follows (and_then course next) after' answer old new
+follows-then course next after a after' answer old now new first room second =
+    leads_last (next (after a)) after' answer new (leads_next course next after a now (leads_start (and_then course next) old) first room) second
+
+-- one course follows where another has left off with the same text
+pub follows-found : {X A : Type 0} (course : Course X) (after : A → X) (answer : Result A Failure) (old now : Found) (new : Told)
+    → old.told ≡ now.told → IsRoomier old now → Follows course after answer now new → Follows course after answer old new
+follows-found course after answer old now new told room is =
+    leads_last course after answer new (leads_found course now (leads_start course old) told room) is

@@ -5,7 +5,7 @@ use Rattle.std.proofs.lemmas.Bool.{ltb-true}
 use Rattle.pe_base.specs.Walk.Course.{Course, done, at_once, ends, stuck, Push}
 use Rattle.pe_stacks.specs.Holdings.{Holdings, stack_count, stack_at, items_at, len_at, lent, given_up, pushed, popped}
 use Rattle.pe_hang.specs.InHand.{map_holdings}
-use Rattle.pe_hang.specs.Moves.{allowed, may_rise, lend, give_up, top_of, pop, push}
+use Rattle.pe_hang.specs.Moves.{allowed, may_rise, lend, give_up, top_of, pop, push, MayPop, MayPush}
 use Rattle.pe_hang.specs.Follows.{Fits}
 use Rattle.pe_hang.proofs.OnStacks.{stack_count-map, stack_at-map, len_at-map, pushed-map, popped-map}
 
@@ -20,18 +20,6 @@ allowed-fits false course fits = fits
 
 pub allowed-is : {X : Type 0} (test : Bool) (course : Course X) → Fits (allowed test course) → allowed test course ≡ course
 allowed-is test course fits = ap (λ t. allowed t course) (allowed-fits test course fits)
-
--- what a pop asks for
-pub record MayPop {X : Type 0} (held : Holdings X) (s : ℕ) : Type 0 where
-  pub stack : s < stack_count held
-  pub count : (stack_at held s).pops < 2 ^ 63
-  pub full : 0 < len_at held s
-
--- what a push asks for
-pub record MayPush {X : Type 0} (held : Holdings X) (s : ℕ) : Type 0 where
-  pub stack : s < stack_count held
-  pub count : (stack_at held s).pushes < 2 ^ 63
-  pub out : 0 < held.out
 
 module _ {X Y : Type 0} (f : X → Y) where
   pub lend-may : (held : Holdings X) → Fits (lend (map_holdings f held)) → held.fresh < 2 ^ 63

@@ -1,5 +1,5 @@
 -- What a call on a depot is to a machine of lists: a step that is stuck where the call may not be made.
-use Rattle.std.specs.Prelude.{ℕ, ◌+◌, ◌^◌, Bool, true, false, ◌&&◌, nat_lt, List, [], ◌∷◌}
+use Rattle.std.specs.Prelude.{ℕ, ◌+◌, ◌^◌, ◌<◌, Bool, true, false, ◌&&◌, nat_lt, List, [], ◌∷◌}
 use Rattle.pe_base.specs.Walk.Course.{Course, done, stuck, ends, at_once}
 use Rattle.pe_stacks.specs.Holdings.{Holdings, stack_count, stack_at, items_at, len_at, lent, given_up, pushed, popped}
 
@@ -34,3 +34,15 @@ module _ {X : Type 0} where
   push of_cell s x held =
       allowed (nat_lt s (stack_count held) && may_rise (stack_at held s).pushes && nat_lt 0 held.out)
       (record { text = []; log = record { of_cell = of_cell; stack = s; length = len_at held s + 1 } ∷ []; ending = done (pushed held s x) })
+
+-- what a pop asks for
+pub record MayPop {X : Type 0} (held : Holdings X) (s : ℕ) : Type 0 where
+  pub stack : s < stack_count held
+  pub count : (stack_at held s).pops < 2 ^ 63
+  pub full : 0 < len_at held s
+
+-- what a push asks for
+pub record MayPush {X : Type 0} (held : Holdings X) (s : ℕ) : Type 0 where
+  pub stack : s < stack_count held
+  pub count : (stack_at held s).pushes < 2 ^ 63
+  pub out : 0 < held.out

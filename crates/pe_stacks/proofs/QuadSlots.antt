@@ -1,7 +1,7 @@
 -- Four slots at once, in a list of which only the first ones are seen.
 use Rattle.std.proofs.Common.{◌≡◌, ℕ, zero, suc, ◌+◌, ◌-◌, ◌*◌, ◌^◌, ◌<◌, ◌≤◌, List, take, drop, set, get_or, length, replicate, sym, ◌∙◌, ap, arith, Option, None}
 use Rattle.std.proofs.Math.Seq.{take-set-lt}
-use Rattle.std.proofs.lemmas.List.{length-set, get_or-take, drop-set-lt}
+use Rattle.std.proofs.lemmas.List.{length-set, get_or-take, get_or-set_other, set-get_or, drop-set-lt}
 use Rattle.pe_base.specs.Tree.Dim.{IsDim}
 use Rattle.pe_stacks.specs.declared.quad.Quad.{Quad}
 use Rattle.pe_stacks.specs.Quads.{quad_of, set_quad}
@@ -48,3 +48,38 @@ module _ {X : Type 0} where
 
   pub length-set_quad : (xs : List (Option X)) (q : ℕ) (quad : Quad X) → length (set_quad xs q quad) ≡ length xs
   length-set_quad xs q quad = simp length-set
+
+  -- a slot that is set to what it holds
+  kept : (xs ys : List (Option X)) (i : ℕ) → get_or ys i None ≡ get_or xs i None → set ys i (get_or xs i None) ≡ ys
+  kept xs ys i same = ap (set ys i) (sym same) ∙ set-get_or ys i None
+
+  -- a quad of which one slot is changed is that slot changed
+  pub set_quad-first : (xs : List (Option X)) (q : ℕ) (x : Option X) → set_quad xs q (record (quad_of xs q) { p0 = x }) ≡ set xs (4 * q) x
+  set_quad-first xs q x =
+      let ys = set xs (4 * q) x in
+      let other : (i : ℕ) → 0 < i → get_or ys (4 * q + i) None ≡ get_or xs (4 * q + i) None = λ i h. get_or-set_other xs (4 * q) (4 * q + i) x None (λ e. omega arith) in
+      ap (λ zs. set (set zs (4 * q + 2) (get_or xs (4 * q + 2) None)) (4 * q + 3) (get_or xs (4 * q + 3) None)) (kept xs ys (4 * q + 1) (other 1 (omega arith)))
+      ∙ ap (λ zs. set zs (4 * q + 3) (get_or xs (4 * q + 3) None)) (kept xs ys (4 * q + 2) (other 2 (omega arith)))
+      ∙ kept xs ys (4 * q + 3) (other 3 (omega arith))
+
+  pub set_quad-second : (xs : List (Option X)) (q : ℕ) (x : Option X) → set_quad xs q (record (quad_of xs q) { p1 = x }) ≡ set xs (4 * q + 1) x
+  set_quad-second xs q x =
+      let ys = set xs (4 * q + 1) x in
+      let other : (i : ℕ) → 1 < i → get_or ys (4 * q + i) None ≡ get_or xs (4 * q + i) None = λ i h. get_or-set_other xs (4 * q + 1) (4 * q + i) x None (λ e. omega arith) in
+      ap (λ zs. set (set (set zs (4 * q + 1) x) (4 * q + 2) (get_or xs (4 * q + 2) None)) (4 * q + 3) (get_or xs (4 * q + 3) None)) (set-get_or xs (4 * q) None)
+      ∙ ap (λ zs. set zs (4 * q + 3) (get_or xs (4 * q + 3) None)) (kept xs ys (4 * q + 2) (other 2 (omega arith)))
+      ∙ kept xs ys (4 * q + 3) (other 3 (omega arith))
+
+  pub set_quad-third : (xs : List (Option X)) (q : ℕ) (x : Option X) → set_quad xs q (record (quad_of xs q) { p2 = x }) ≡ set xs (4 * q + 2) x
+  set_quad-third xs q x =
+      let ys = set xs (4 * q + 2) x in
+      let other : (i : ℕ) → 2 < i → get_or ys (4 * q + i) None ≡ get_or xs (4 * q + i) None = λ i h. get_or-set_other xs (4 * q + 2) (4 * q + i) x None (λ e. omega arith) in
+      ap (λ zs. set (set (set zs (4 * q + 1) (get_or xs (4 * q + 1) None)) (4 * q + 2) x) (4 * q + 3) (get_or xs (4 * q + 3) None)) (set-get_or xs (4 * q) None)
+      ∙ ap (λ zs. set (set zs (4 * q + 2) x) (4 * q + 3) (get_or xs (4 * q + 3) None)) (set-get_or xs (4 * q + 1) None)
+      ∙ kept xs ys (4 * q + 3) (other 3 (omega arith))
+
+  pub set_quad-fourth : (xs : List (Option X)) (q : ℕ) (x : Option X) → set_quad xs q (record (quad_of xs q) { p3 = x }) ≡ set xs (4 * q + 3) x
+  set_quad-fourth xs q x =
+      ap (λ zs. set (set (set zs (4 * q + 1) (get_or xs (4 * q + 1) None)) (4 * q + 2) (get_or xs (4 * q + 2) None)) (4 * q + 3) x) (set-get_or xs (4 * q) None)
+      ∙ ap (λ zs. set (set zs (4 * q + 2) (get_or xs (4 * q + 2) None)) (4 * q + 3) x) (set-get_or xs (4 * q + 1) None)
+      ∙ ap (λ zs. set zs (4 * q + 3) x) (set-get_or xs (4 * q + 2) None)

@@ -39,6 +39,19 @@ fn depart_at<P>(corners: &mut Corners<P>, k: u8, state: State)
     corners.at_mut(k).depart(state);
 }
 
+// Changes the state of one corner in its quad, and nothing else.
+fn depart_in_place<P>(corners: &mut Corners<P>, q: u8, state: State)
+    requires quad { 4 * q < 2 ^ corners.old.dim }
+    requires full { IsSome (vertex_at corners.old (4 * q + 3)) }
+    ensures { corners.new ≡ with_vertex corners.old (4 * q + 3) (option_map (λ (v : AVertex P). record v { state = state }) (vertex_at corners.old (4 * q + 3))) }
+{
+    let quad = corners.quad_mut(q);
+    match &mut quad.p3 {
+        Some(v) => v.depart(state),
+        None => unreachable!(),
+    }
+}
+
 // Before the first traversal a grid's streams are empty, and after it the other stack is the input.
 fn streams()
     ensures empty { HoldsOnly {X = ℕ} {Y = ℕ} (λ x. x) (new_holdings 10) (input_stack false) [] }

@@ -1,5 +1,5 @@
 -- What is foreseen of a traversal fits a walk, and so does what is stored.
-use Rattle.std.proofs.Common.{◌≡◌, ◌⊎◌, inl, inr, ℕ, zero, suc, ◌+◌, ◌-◌, ◌^◌, ◌<◌, ◌≤◌, Bool, true, false, not, ◌&&◌, ◌||◌, ◌==◌, List, [], ◌∷◌, Option, Some, None, refl, sym, ap, ap₂, ◌∙◌, subst, true≢false, arith}
+use Rattle.std.proofs.Common.{◌≡◌, ◌⊎◌, inl, inr, ℕ, zero, suc, ◌-◌, ◌^◌, ◌<◌, ◌≤◌, Bool, true, false, not, ◌&&◌, ◌||◌, ◌==◌, List, [], ◌∷◌, Option, Some, None, refl, sym, ap, ◌∙◌, true≢false, arith}
 use Rattle.std.specs.Prelude.{is_some, nat_lt, if◌then◌else◌}
 use Rattle.std.specs.Option.{option_map, unwrap_or}
 use Rattle.std.specs.List.{list_any}
@@ -10,18 +10,18 @@ use Rattle.pe_base.specs.declared.state.State.TheVariants.{Unrefined, Refining}
 use Rattle.pe_base.specs.declared.kind.Kind.{Kind}
 use Rattle.pe_base.specs.declared.kind.Kind.TheVariants.{Kept, Born, Dying, Hanging}
 use Rattle.pe_base.specs.Tree.Dim.{IsDim}
-use Rattle.pe_base.specs.Tree.Places.{root, corners, parent_of}
+use Rattle.pe_base.specs.Tree.Places.{root, corners}
 use Rattle.pe_base.specs.Tree.Ways.{way_of}
 use Rattle.pe_base.specs.Life.States.{is_old, is_new}
 use Rattle.pe_base.specs.Life.Kinds.{kind_from, is_hanging, is_inside}
 use Rattle.pe_base.specs.Life.Carriers.{carriers, carrier_positions, passes}
-use Rattle.pe_base.specs.Life.Table.{first_touch, start_state, is_settled}
+use Rattle.pe_base.specs.Life.Table.{first_touch, is_settled}
 use Rattle.pe_base.specs.Walk.Maps.{at}
 use Rattle.pe_base.specs.Walk.Grids.{Grid, StoredVertex, state_in, is_stored_vertex, IsWellFormed}
 use Rattle.pe_base.specs.Walk.Streams.{goes_below}
-use Rattle.pe_base.specs.Walk.Foreseen.{next_traversal, was, will, will_on, kind_foreseen, counts, touched_state, old_foreseen, new_foreseen, below, walks, walked}
-use Rattle.pe_base.proofs.Lists.{Each, Each-all, Each-weaker, Each-map}
-use Rattle.pe_base.proofs.Tree.Ranks.{list_any-Each, and_left, and_right}
+use Rattle.pe_base.specs.Walk.Foreseen.{next_traversal, was, will, will_on, kind_foreseen, counts, touched_state, old_foreseen, new_foreseen, walks, walked}
+use Rattle.pe_base.proofs.Lists.{Each, Each-all, Each-map}
+use Rattle.pe_base.proofs.Tree.Ranks.{and_left, and_right}
 use Rattle.pe_base.proofs.Steps.Counts.{true_eq}
 use Rattle.pe_base.proofs.Walk.TableLaws.{first_touch_keeps_old}
 use Rattle.pe_walk.specs.Takings.{Grown}

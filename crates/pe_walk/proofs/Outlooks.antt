@@ -1,16 +1,16 @@
 -- The outlooks of grids fit walks.
-use Rattle.std.proofs.Common.{◌≡◌, ◌⊎◌, inl, inr, ℕ, zero, suc, ◌+◌, ◌-◌, ◌*◌, ◌/◌, ◌^◌, ◌<◌, ◌≤◌, Bool, true, false, not, ◌&&◌, ◌||◌, ◌==◌, List, [], ◌∷◌, map, filter, reverse, length, take, drop, slice_index, Option, Some, None, refl, sym, ap, ap₂, ◌∙◌, subst, true≢false, arith}
-use Rattle.std.specs.Prelude.{is_some, nat_lt, if◌then◌else◌}
+use Rattle.std.proofs.Common.{◌≡◌, ◌⊎◌, inl, inr, ℕ, zero, suc, ◌+◌, ◌-◌, ◌^◌, ◌<◌, ◌≤◌, Bool, true, false, ◌&&◌, ◌||◌, ◌==◌, List, [], ◌∷◌, map, reverse, length, take, drop, slice_index, refl, sym, ap, ap₂, ◌∙◌, subst, arith}
+use Rattle.std.specs.Prelude.{nat_lt}
 use Rattle.std.specs.List.{list_any, list_all, range_with_len, All, AllByRecursion, Contains}
 use Rattle.std.proofs.lemmas.Bool.Decides.{nat_tests}
 use Rattle.std.proofs.lemmas.List.{reverse-reverse}
 use Rattle.pe_base.specs.declared.place.Place.{Place}
 use Rattle.pe_base.specs.declared.way.Way.{Way}
 use Rattle.pe_base.specs.Tree.Dim.{IsDim}
-use Rattle.pe_base.specs.Tree.Places.{IsPosition, IsInside, root, corner, corners, bits, moved, parent_of}
+use Rattle.pe_base.specs.Tree.Places.{IsPosition, root, corner, corners, moved, parent_of}
 use Rattle.pe_base.specs.Tree.Curve.{digit_lists, children, order}
 use Rattle.pe_base.specs.Steps.Around.{is_corner, around}
-use Rattle.pe_base.specs.Steps.Faces.{Touch, corner_touches}
+use Rattle.pe_base.specs.Steps.Faces.{corner_touches}
 use Rattle.pe_base.specs.Life.Carriers.{carriers, carrier_positions}
 use Rattle.pe_base.specs.Life.Kinds.{is_inside}
 use Rattle.pe_base.specs.Walk.Laws.{IsCornerOf}
@@ -25,7 +25,7 @@ use Rattle.pe_base.proofs.Walk.CarrierLaws.{number_of, number_of-below, bits-num
 use Rattle.pe_walk.specs.Laws.{IsCell, IsWalk}
 use Rattle.pe_walk.proofs.Unwalked.{contains_in, in_contains, cell_four}
 use Rattle.pe_walk.proofs.Trees.{cell_position, root_is_cell}
-use Rattle.pe_walk.proofs.Steps.{corner_bits, order_on_grid, inside_on_grid}
+use Rattle.pe_walk.proofs.Steps.{corner_bits, order_on_grid}
 use Rattle.pe_walk.proofs.Tokens.Walks.{each_with}
 
 any_in : {X : Type 0} (p : X → Bool) (x : X) (xs : List X) → In x xs → p x ≡ true → list_any p xs ≡ true

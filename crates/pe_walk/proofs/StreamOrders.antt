@@ -1,11 +1,10 @@
 -- What a traversal reads and writes is the order of the grids before and after it.
-use Rattle.std.proofs.Common.{◌≡◌, ◌≢◌, ◌⊎◌, inl, inr, ℕ, zero, suc, ◌+◌, ◌-◌, ◌%◌, ◌^◌, ◌<◌, ◌≤◌, Bool, true, false, not, ◌&&◌, ◌||◌, ◌==◌, List, [], ◌∷◌, map, filter, length, take, drop, slice_index, Option, Some, None, refl, sym, ap, ap₂, ◌∙◌, subst, true≢false, arith}
+use Rattle.std.proofs.Common.{◌≡◌, ◌≢◌, ◌⊎◌, inl, inr, ℕ, zero, suc, ◌+◌, ◌-◌, ◌%◌, ◌^◌, ◌<◌, ◌≤◌, Bool, true, false, not, ◌&&◌, ◌||◌, ◌==◌, List, [], ◌∷◌, map, length, take, drop, slice_index, Option, Some, None, refl, sym, ap, ap₂, ◌∙◌, subst, true≢false, arith}
 use Rattle.std.specs.Prelude.{is_some, is_none, nat_lt, if◌then◌else◌}
 use Rattle.std.specs.Option.{option_map, unwrap_or}
 use Rattle.std.specs.List.{list_any, list_all}
 use Rattle.std.proofs.lemmas.Bool.Decides.{nat_tests}
 use Rattle.pe_base.specs.declared.place.Place.{Place}
-use Rattle.pe_base.specs.declared.way.Way.{Way}
 use Rattle.pe_base.specs.declared.way.Way.TheVariants.{Forward, Inverted}
 use Rattle.pe_base.specs.declared.state.State.{State}
 use Rattle.pe_base.specs.declared.state.State.TheVariants.{Unrefined, RefinementTriggered, Refining, Refined, EraseTriggered, Erasing}
@@ -18,21 +17,19 @@ use Rattle.pe_base.specs.Steps.Routes.{stack_in}
 use Rattle.pe_base.specs.Life.States.{is_old, is_new, is_stored}
 use Rattle.pe_base.specs.Life.Kinds.{kind_from, is_hanging, is_inside}
 use Rattle.pe_base.specs.Life.Carriers.{carriers, passes}
-use Rattle.pe_base.specs.Life.Table.{first_touch, is_settled}
+use Rattle.pe_base.specs.Life.Table.{first_touch}
 use Rattle.pe_base.specs.Walk.Maps.{at}
 use Rattle.pe_base.specs.Walk.Grids.{Grid, StoredVertex, state_in, is_cell, is_refined_cell, is_stored_vertex, is_stored_cell, IsWellFormed}
-use Rattle.pe_base.specs.Walk.Streams.{goes_below, is_first, next_way, stream_vertices, stream_cells, walked_loads}
-use Rattle.pe_base.specs.Walk.Foreseen.{next_traversal, was, will, will_on, counts, touched_state, kind_foreseen, old_foreseen, new_foreseen, below, walks, walked}
-use Rattle.pe_base.proofs.Lists.{Each, Each-all, Each-weaker, Each-map, filter_same}
-use Rattle.pe_base.proofs.Tree.Ranks.{and_left, and_right}
+use Rattle.pe_base.specs.Walk.Streams.{goes_below, next_way, stream_vertices, stream_cells, walked_loads}
+use Rattle.pe_base.specs.Walk.Foreseen.{next_traversal, was, will, will_on, touched_state, old_foreseen, new_foreseen, below, walked}
+use Rattle.pe_base.proofs.Lists.{Each, Each-all, Each-weaker, filter_same}
+use Rattle.pe_base.proofs.Tree.Ranks.{and_right}
 use Rattle.pe_base.proofs.Steps.Counts.{true_eq, eq_true, eq_false}
-use Rattle.pe_walk.specs.Laws.{IsCell}
-use Rattle.pe_walk.specs.Tokens.{Outlook, turned}
+use Rattle.pe_walk.specs.Tokens.{turned}
 use Rattle.pe_walk.specs.Takings.{is_read, reads_of, writes_of, cell_reads_of, cell_writes_of, Grown}
 use Rattle.pe_walk.specs.Outlooks.{was_stored, outlook, stored_outlook, stored_walked, IsNew}
-use Rattle.pe_walk.specs.StreamLaws.{ReadAlike, ReadsAreStreams, IsNext, NextIsFormed, WritesAreStreams}
+use Rattle.pe_walk.specs.StreamLaws.{ReadsAreStreams, IsNext, NextIsFormed, WritesAreStreams}
 use Rattle.pe_walk.proofs.Trees.{cell_position}
-use Rattle.pe_walk.proofs.Outlooks.{inside_place}
 use Rattle.pe_walk.proofs.Forecasts.{Sound, formed, fresh, old_stored, forecast_grown, stored_grown, carrier_levels, two_or_deeper}
 use Rattle.pe_walk.proofs.Tokens.Turning.{writes-turned, cell_writes-turned}
 use Rattle.pe_walk.proofs.Tokens.Streams.{fits_turned, streams_are_one}

@@ -22,3 +22,5 @@ pub mod Counting
 pub mod Apart
 -- streams
 pub mod Streams
+-- what is moved
+pub mod Traffic

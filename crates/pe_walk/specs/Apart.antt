@@ -1,12 +1,12 @@
 -- Where a place is: on one stack once, or held, or nowhere.
-use Rattle.std.specs.Prelude.{◌≡◌, ℕ, ◌+◌, ◌^◌, ◌<◌, ◌≤◌, Bool, true, false, not, ◌==◌, List, count_by, length, sum_by, Option, Some, is_none}
+use Rattle.std.specs.Prelude.{◌≡◌, ℕ, ◌+◌, ◌^◌, ◌<◌, ◌≤◌, Bool, true, false, ◌==◌, count_by, length, sum_by, Some, is_none}
 use Rattle.pe_base.specs.declared.place.Place.{Place}
 use Rattle.pe_base.specs.declared.way.Way.{Way}
 use Rattle.pe_base.specs.Tree.Dim.{IsDim}
 use Rattle.pe_base.specs.Tree.Places.{corner, is_same}
 use Rattle.pe_base.specs.Steps.Around.{around}
 use Rattle.pe_base.specs.Steps.Routes.{stack_in, stack_out}
-use Rattle.pe_stacks.specs.Holdings.{Holdings, Stack}
+use Rattle.pe_stacks.specs.Holdings.{Holdings}
 use Rattle.pe_walk.specs.Laws.{IsCell}
 use Rattle.pe_walk.specs.Tokens.{Outlook, Tokens, before, load, store, enter, leave, walk, begun}
 use Rattle.pe_walk.specs.Takings.{Grown, MayTraverse}

@@ -14,6 +14,8 @@ pub mod Apart
 pub mod Outlooks
 -- streams in the order of grids
 pub mod StreamLaws
+-- what is moved, and how much is out
+pub mod Traffic
 -- grids for the worked rows
 pub mod Grids
 -- the walk on stacks as a machine of lists

@@ -1,17 +1,17 @@
 -- What the walk of a cell takes off each stack of places, and what it gives to each.
-use Rattle.std.specs.Prelude.{◌≡◌, ℕ, zero, suc, ◌+◌, ◌≤◌, ◌<◌, Bool, true, false, ◌&&◌, ◌==◌, List, [], ◌∷◌, ◌++◌, map, filter, reverse, if◌then◌else◌, is_none, length}
+use Rattle.std.specs.Prelude.{◌≡◌, ℕ, zero, suc, ◌≤◌, ◌<◌, Bool, true, false, ◌&&◌, ◌==◌, List, [], ◌∷◌, ◌++◌, map, filter, reverse, if◌then◌else◌, is_none, length}
 use Rattle.std.specs.List.{flat_map, Contains}
 use Rattle.pe_base.specs.declared.place.Place.{Place}
 use Rattle.pe_base.specs.Tree.Places.{root}
 use Rattle.pe_base.specs.Tree.Curve.{children}
 use Rattle.pe_base.specs.Steps.Around.{around}
 use Rattle.pe_base.specs.Steps.Routes.{stack_in, stack_out}
-use Rattle.pe_base.specs.Steps.Faces.{Touch, Turn, Turns, arriving, leaving, is_touched, corner_touches}
-use Rattle.pe_base.specs.Steps.Stacks.{is_stack, on_stack}
-use Rattle.pe_base.specs.Walk.Streams.{if_walks, walked_children, walked_loads, walked_stores, walked_cells, is_first}
+use Rattle.pe_base.specs.Steps.Faces.{Touch, arriving, leaving}
+use Rattle.pe_base.specs.Steps.Stacks.{on_stack}
+use Rattle.pe_base.specs.Walk.Streams.{walked_children, walked_loads, walked_stores, walked_cells}
 use Rattle.pe_stacks.specs.Holdings.{items_at, stack_count}
 use Rattle.pe_stacks.specs.Grid.{input_stack, output_stack, cell_input_stack, cell_output_stack}
-use Rattle.pe_walk.specs.Tokens.{Outlook, Tokens, source, target, one_more, cells_before}
+use Rattle.pe_walk.specs.Tokens.{Outlook, Tokens, one_more, cells_before}
 use Rattle.pe_walk.specs.Laws.{IsCell, IsWalk}
 
 -- The cells of a walk as they are left.

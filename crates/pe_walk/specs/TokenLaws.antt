@@ -2,7 +2,7 @@
 --
 -- They hold for each outlook that fits a walk, in two to four axes, both ways, at every depth. Which vertices count, which
 -- of them are read and which are written are tests: no kinds occur.
-use Rattle.std.specs.Prelude.{◌≡◌, ℕ, ◌+◌, ◌≤◌, Bool, true, List, reverse, Option, Some}
+use Rattle.std.specs.Prelude.{◌≡◌, ℕ, ◌+◌, ◌≤◌, Bool, true, List, reverse, Some}
 use Rattle.pe_base.specs.declared.place.Place.{Place}
 use Rattle.pe_base.specs.declared.way.Way.{Way}
 use Rattle.pe_base.specs.Tree.Dim.{IsDim}
@@ -12,7 +12,7 @@ use Rattle.pe_base.specs.Steps.Around.{around}
 use Rattle.pe_base.specs.Steps.Routes.{stack_in, stack_out}
 use Rattle.pe_base.specs.Steps.Faces.{touched_for}
 use Rattle.pe_base.specs.Walk.Streams.{walked_cells}
-use Rattle.pe_walk.specs.Laws.{IsCell, IsWalk}
+use Rattle.pe_walk.specs.Laws.{IsCell}
 use Rattle.pe_walk.specs.Tokens.{Outlook, Tokens, turned, walk, traverse}
 use Rattle.pe_walk.specs.Takings.{loads_of, stores_of, left_cells, reads_of, writes_of, cell_reads_of, cell_writes_of, Due, Grown, MayBegin, HasEnded, MayTraverse, HasTraversed}
 

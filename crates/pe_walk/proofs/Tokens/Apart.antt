@@ -1,5 +1,5 @@
 -- A place that counts is on one stack once, or held, or nowhere.
-use Rattle.std.proofs.Common.{◌≡◌, ◌≢◌, ◌⊎◌, inl, inr, ℕ, zero, suc, ◌+◌, ◌-◌, ◌^◌, ◌<◌, ◌≤◌, Bool, true, false, not, cond, ◌&&◌, ◌==◌, List, [], ◌∷◌, map, filter, length, set, get_or, drop, Option, Some, None, refl, sym, ap, ap₂, ◌∙◌, subst, true≢false, arith}
+use Rattle.std.proofs.Common.{◌≡◌, ◌≢◌, ◌⊎◌, inl, inr, ℕ, zero, suc, ◌+◌, ◌-◌, ◌^◌, ◌<◌, ◌≤◌, Bool, true, false, cond, ◌&&◌, ◌==◌, List, [], ◌∷◌, map, filter, length, set, get_or, drop, Option, Some, None, refl, sym, ap, ap₂, ◌∙◌, subst, arith}
 use Rattle.std.specs.Prelude.{nat_lt, is_none, if◌then◌else◌, sum_by, count_by}
 use Rattle.std.specs.Option.{option_map}
 use Rattle.std.proofs.lemmas.Bool.Decides.{nat_tests}
@@ -7,21 +7,21 @@ use Rattle.std.proofs.lemmas.List.{length-map}
 use Rattle.std.proofs.lemmas.List.Sums.{sum_by-set, sum_by-cons, length-filter}
 use Rattle.pe_base.specs.declared.place.Place.{Place}
 use Rattle.pe_base.specs.Tree.Dim.{IsDim}
-use Rattle.pe_base.specs.Tree.Places.{root, corner, is_same}
+use Rattle.pe_base.specs.Tree.Places.{root, is_same}
 use Rattle.pe_base.specs.Steps.Around.{around}
 use Rattle.pe_base.specs.Steps.Routes.{stack_in}
-use Rattle.pe_base.specs.Steps.Faces.{Touch, touched_for}
-use Rattle.pe_base.proofs.Lists.{Each, Each-all, Each-weaker, Each-filter, In, Each-In, filter-map, filter-filter, filter_same, filter_none}
-use Rattle.pe_base.proofs.Tree.Ranks.{Rising, Rising-above, rank, rank_of, top, around_rises, is_same-true, and_left, and_right}
-use Rattle.pe_base.proofs.Steps.Counts.{is_same_itself, same_itself, other_back, true_eq, eq_false}
+use Rattle.pe_base.specs.Steps.Faces.{Touch}
+use Rattle.pe_base.proofs.Lists.{Each, Each-all, Each-weaker, Each-filter, In, filter-map, filter-filter, filter_same, filter_none}
+use Rattle.pe_base.proofs.Tree.Ranks.{Rising, Rising-above, rank, rank_of, top, around_rises, is_same-true}
+use Rattle.pe_base.proofs.Steps.Counts.{same_itself, true_eq, eq_false}
 use Rattle.pe_base.proofs.Faces.Quiet.{false_unless}
 use Rattle.pe_base.proofs.Faces.Bridge.{same_places}
 use Rattle.pe_stacks.specs.Holdings.{Holdings, Stack, new_stack, stack_count, stack_at, items_at, lent, given_up, pushed, popped, pushed_on, popped_from}
 use Rattle.pe_stacks.specs.Grid.{input_stack}
 use Rattle.pe_walk.specs.Laws.{IsCell}
 use Rattle.pe_walk.specs.Tokens.{Outlook, Tokens, one_more, one_less, before, cells_before, is_top, given, first_of, taken, put, source, target, touch_of, load_it, load, store_it, store, enter, leave, cell_target, numbers, begun}
-use Rattle.pe_walk.specs.Takings.{loads_of, is_read, reads_of, Grown, MayTraverse}
-use Rattle.pe_walk.specs.Apart.{lies, occurs, IsApart, KeepsApart, StepsKeepApart, BeginsApart}
+use Rattle.pe_walk.specs.Takings.{loads_of, is_read, reads_of}
+use Rattle.pe_walk.specs.Apart.{lies, occurs, IsApart, StepsKeepApart, BeginsApart}
 use Rattle.pe_walk.proofs.Outlooks.{un_map}
 use Rattle.pe_walk.proofs.Tokens.Stacks.{is_stack_of}
 use Rattle.pe_walk.proofs.Tokens.Dues.{loaded_around}
@@ -29,7 +29,7 @@ use Rattle.pe_walk.proofs.Tokens.Keeping.{given_some, walk_keeps}
 use Rattle.pe_walk.proofs.Tokens.Counting.{first_around, corners_by_counting}
 use Rattle.pe_walk.proofs.Tokens.Traversals.{lent_items, lent_stacks}
 
-abbrev one_if : Bool → ℕ
+abbrev pub one_if : Bool → ℕ
 one_if b = cond b 1 0
 
 abbrev there : Place → Stack Place → ℕ
@@ -64,7 +64,7 @@ lies-pushed held s x place = elim (within s (stack_count held)) [
     within : (a b : ℕ) → (a < b) ⊎ (b ≤ a)
     within a b = grind arith
 
-map_some : {X Y : Type 0} (f : X → Y) (o : Option X) (y : Y) → option_map f o ≡ Some y → (x : X) × (o ≡ Some x) × (f x ≡ y)
+pub map_some : {X Y : Type 0} (f : X → Y) (o : Option X) (y : Y) → option_map f o ≡ Some y → (x : X) × (o ≡ Some x) × (f x ≡ y)
 map_some f None y e = absurd cc
 map_some f (Some x) y e = (x, refl, cc)
 

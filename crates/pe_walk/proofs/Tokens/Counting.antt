@@ -1,5 +1,5 @@
 -- The first and the last of the cells around a vertex, by counting.
-use Rattle.std.proofs.Common.{◌≡◌, ℕ, zero, suc, ◌+◌, ◌^◌, ◌<◌, ◌≤◌, Bool, true, false, not, cond, ◌&&◌, ◌||◌, ◌==◌, List, [], ◌∷◌, Option, Some, None, find, length, refl, sym, ap, ap₂, ◌∙◌, subst, inl, inr, true≢false, arith}
+use Rattle.std.proofs.Common.{◌≡◌, ℕ, suc, ◌+◌, ◌^◌, ◌≤◌, Bool, true, false, not, cond, ◌||◌, ◌==◌, List, [], ◌∷◌, Some, find, length, refl, sym, ap, ◌∙◌, inl, inr, true≢false, arith}
 use Rattle.std.specs.Prelude.{is_none, if◌then◌else◌}
 use Rattle.std.specs.Option.{option_map}
 use Rattle.std.specs.List.{list_any}
@@ -9,11 +9,10 @@ use Rattle.pe_base.specs.declared.way.Way.{Way}
 use Rattle.pe_base.specs.Tree.Places.{corner, corners, is_same}
 use Rattle.pe_base.specs.Steps.Around.{around, steps}
 use Rattle.pe_base.specs.Steps.Routes.{axis_of, waiting_stack, stack_in, stack_out}
-use Rattle.pe_base.proofs.Lists.{Each, Each-weaker, Each-In, In, In-map, list_any_none}
+use Rattle.pe_base.proofs.Lists.{Each-weaker, Each-In, In, In-map, list_any_none}
 use Rattle.pe_base.proofs.Tree.Ranks.{Rising, rank, rank_of, top, around_rises, is_same-true}
 use Rattle.pe_base.proofs.Tree.Corners.{same_tests}
 use Rattle.pe_base.proofs.Steps.Counts.{is_same_itself, other_back, later_steps}
-use Rattle.pe_base.proofs.Faces.Bridge.{same_places}
 use Rattle.pe_walk.specs.Tokens.{before}
 use Rattle.pe_walk.specs.Apart.{CornersByCounting}
 use Rattle.pe_walk.proofs.Outlooks.{around_corners, in_range}

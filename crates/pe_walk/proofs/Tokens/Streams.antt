@@ -1,8 +1,7 @@
 -- Two walks that read the same read in one order.
-use Rattle.std.proofs.Common.{◌≡◌, ◌⊎◌, inl, inr, ℕ, zero, suc, ◌+◌, ◌≤◌, Bool, true, false, cond, ◌&&◌, List, [], ◌∷◌, ◌++◌, map, filter, reverse, refl, sym, ap, ap₂, ◌∙◌, subst, true≢false, arith}
+use Rattle.std.proofs.Common.{◌≡◌, ℕ, zero, suc, Bool, true, false, cond, ◌&&◌, List, [], ◌∷◌, map, filter, refl, sym, ap, ap₂, ◌∙◌, subst, true≢false}
 use Rattle.std.specs.Prelude.{is_none}
-use Rattle.std.specs.List.{flat_map, Contains}
-use Rattle.std.proofs.lemmas.List.Elements.{filter-append}
+use Rattle.std.specs.List.{flat_map}
 use Rattle.pe_base.specs.declared.place.Place.{Place}
 use Rattle.pe_base.specs.declared.way.Way.{Way}
 use Rattle.pe_base.specs.Tree.Dim.{IsDim}
@@ -12,17 +11,16 @@ use Rattle.pe_base.specs.Tree.Curve.{children, order}
 use Rattle.pe_base.specs.Steps.Around.{around}
 use Rattle.pe_base.specs.Steps.Routes.{stack_in}
 use Rattle.pe_base.specs.Steps.Faces.{Touch, loads}
-use Rattle.pe_base.specs.Walk.Streams.{if_walks, walked_children, walked_cells}
-use Rattle.pe_base.proofs.Lists.{Each, Each-all, Each-weaker, Each-reverse, Each-flat_map, Each-In, In, flat_map_none, flat_map_same, filter_same, filter-filter, filter-flat_map}
+use Rattle.pe_base.specs.Walk.Streams.{if_walks, walked_cells}
+use Rattle.pe_base.proofs.Lists.{Each, Each-all, Each-weaker, Each-reverse, Each-flat_map, Each-In, flat_map_none, flat_map_same, filter_same, filter-filter, filter-flat_map}
 use Rattle.pe_base.proofs.Tree.Ranks.{and_left}
 use Rattle.pe_base.proofs.Steps.Turned.{around-opposite}
-use Rattle.pe_base.proofs.Faces.FaceLists.{opposite-opposite}
 use Rattle.pe_base.proofs.Faces.Quiet.{false_unless}
 use Rattle.pe_base.proofs.Faces.Waits.{Touched, loads_touched}
-use Rattle.pe_walk.specs.Laws.{IsCell, IsWalk}
-use Rattle.pe_walk.specs.Tokens.{Outlook, turned}
-use Rattle.pe_walk.specs.Takings.{loads_of, is_read, reads_of, cell_reads_of, Grown}
-use Rattle.pe_walk.specs.StreamLaws.{FitsTurned, ReadAlike, StreamsAreOne}
+use Rattle.pe_walk.specs.Laws.{IsCell}
+use Rattle.pe_walk.specs.Tokens.{Outlook}
+use Rattle.pe_walk.specs.Takings.{is_read, reads_of, Grown}
+use Rattle.pe_walk.specs.StreamLaws.{FitsTurned, StreamsAreOne}
 use Rattle.pe_walk.proofs.Unwalked.{contains_in, in_contains, all_each, tree_either, contained_either}
 use Rattle.pe_walk.proofs.Trees.{root_is_cell}
 use Rattle.pe_walk.proofs.Outlooks.{each_all}
@@ -106,8 +104,11 @@ module _ (o : Outlook) (walked : Place → Bool) (greatest : ℕ) (dim : IsDim o
 
   pub cells_in_tree : (levels : ℕ) (cell : Place) → IsCell o.axes o.way cell → Each (IsCell o.axes o.way) (walked_cells o.axes o.way (λ c. true) levels cell)
   cells_in_tree zero cell is_cell = (is_cell, tt)
-  cells_in_tree (suc levels) cell is_cell = (is_cell, Each-flat_map (IsCell o.axes o.way) (walked_cells o.axes o.way (λ c. true) levels) (children o.axes o.way cell)
-      (Each-weaker (IsCell o.axes o.way) _ (λ c i. cells_in_tree levels c i) (children o.axes o.way cell) (kids_in_tree o dim.1 cell is_cell)))
+  cells_in_tree (suc levels) cell is_cell = (
+    is_cell,
+    Each-flat_map (IsCell o.axes o.way) (walked_cells o.axes o.way (λ c. true) levels) (children o.axes o.way cell)
+        (Each-weaker (IsCell o.axes o.way) _ (λ c i. cells_in_tree levels c i) (children o.axes o.way cell) (kids_in_tree o dim.1 cell is_cell)),
+  )
 
 pub streams_are_one : StreamsAreOne
 streams_are_one o p walked also_walked greatest dim grown also_grown alike = (

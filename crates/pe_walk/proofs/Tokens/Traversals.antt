@@ -1,5 +1,5 @@
 -- A traversal over places on stacks: at the root, whose faces have empty lists.
-use Rattle.std.proofs.Common.{◌≡◌, ℕ, zero, suc, ◌+◌, ◌-◌, ◌*◌, ◌/◌, ◌%◌, ◌^◌, ◌<◌, ◌≤◌, Bool, true, false, cond, ◌&&◌, ◌==◌, List, [], ◌∷◌, ◌++◌, map, filter, reverse, length, drop, slice_index, Option, Some, None, refl, sym, ap, ap₂, ◌∙◌, subst, true≢false, append-nil, arith}
+use Rattle.std.proofs.Common.{◌≡◌, ℕ, zero, suc, ◌+◌, ◌-◌, ◌*◌, ◌/◌, ◌%◌, ◌^◌, ◌<◌, ◌≤◌, Bool, true, false, cond, ◌&&◌, ◌==◌, List, [], ◌∷◌, ◌++◌, map, filter, reverse, length, drop, slice_index, Some, refl, sym, ap, ◌∙◌, subst, true≢false, append-nil, arith}
 use Rattle.std.specs.Prelude.{nat_lt, if◌then◌else◌}
 use Rattle.std.specs.Option.{option_map}
 use Rattle.std.specs.List.{flat_map, range_with_len}
@@ -20,15 +20,14 @@ use Rattle.pe_base.proofs.Faces.Bridge.{apart, same_places}
 use Rattle.pe_stacks.specs.Holdings.{Holdings, stack_count, items_at, lent, given_up}
 use Rattle.pe_stacks.specs.Grid.{input_stack, output_stack, cell_input_stack, cell_output_stack}
 use Rattle.pe_walk.specs.Laws.{IsCell}
-use Rattle.pe_walk.specs.Tokens.{Outlook, Tokens, one_more, given_up_for, lent_for, each_some, numbers, begun, ended, walk, traverse}
-use Rattle.pe_walk.specs.Takings.{loads_of, is_read, is_written, reads_of, writes_of, cell_reads_of, cell_writes_of, takes, gives, cell_takes, cell_gives, met_more, met_after, Due, Grown, MayTraverse, HasTraversed}
+use Rattle.pe_walk.specs.Tokens.{Outlook, Tokens, one_more, given_up_for, lent_for, numbers, begun, ended, traverse}
+use Rattle.pe_walk.specs.Takings.{loads_of, reads_of, writes_of, takes, gives, cell_takes, cell_gives, met_more, met_after, Due, Grown, MayTraverse, HasTraversed}
 use Rattle.pe_walk.specs.TokenLaws.{WalkOfACell, LoadsAreDue, LoadedAround, WholeTraversal}
 use Rattle.pe_walk.proofs.Trees.{root_is_cell, cell_position}
 use Rattle.pe_walk.proofs.Derived.{faces_are_one_way}
 use Rattle.pe_walk.proofs.Tokens.Loads.{due-split, met-append}
-use Rattle.pe_walk.proofs.Tokens.Turning.{writes-turned}
-use Rattle.pe_walk.proofs.Tokens.Passages.{Passage, passage, token_turn}
-use Rattle.pe_walk.proofs.Tokens.Walks.{CellPassage, cell_passage, cell_turn, walk_each, walks, kids_are_cells}
+use Rattle.pe_walk.proofs.Tokens.Passages.{passage, token_turn}
+use Rattle.pe_walk.proofs.Tokens.Walks.{cell_passage, cell_turn, walk_each, walks, kids_are_cells}
 use Rattle.pe_walk.proofs.Tokens.Dues.{due_from, loaded_around, all_due, root_walks}
 
 -- the faces of the root have no neighbour
@@ -100,7 +99,7 @@ given_stacks (k ∷ ks) held = given_stacks ks (given_up held)
 
 module _ (o : Outlook) (walked : Place → Bool) (greatest : ℕ) (dim : IsDim o.axes) (grown : Grown o walked greatest) where
   -- no corner of the root counts
-  root_corners : Each (λ t. o.counts t.vertex ≡ false) (reverse (corner_touches o.axes root))
+  pub root_corners : Each (λ t. o.counts t.vertex ≡ false) (reverse (corner_touches o.axes root))
   root_corners = Each-reverse (λ t. o.counts t.vertex ≡ false) (corner_touches o.axes root) (Each-map (λ t. o.counts t.vertex ≡ false) (λ k. record { vertex = corner o.axes root k; cell = root }) (range_with_len 0 (2 ^ o.axes))
       (Each-all _ (λ k. false_unless (o.counts (corner o.axes root k)) (λ c. outside (corner o.axes root k) refl (grown.is_walk.inside (corner o.axes root k) c))) (range_with_len 0 (2 ^ o.axes))))
     where
@@ -175,8 +174,14 @@ module _ (o : Outlook) (walked : Place → Bool) (greatest : ℕ) (dim : IsDim o
           writes_cells = λ s. run.2.its_cells s
               ∙ rest_is (cell_gives o (suc l) s root) (cell_gives o 0 s root) (cell_pass s).outer (own_cell_gives_none s) (cell_pass s).own_gives ∙ ap (λ n. cell_gives o n s root) (sym e);
           all_met = λ v c. ap (λ m. m v) run.2.its_met ∙ met_touched o v c deep t.met
-              ∙ omega (arith, may.nothing_met v, ap (λ m. m v) (met-append o own deep t.met ∙ ap (met_after o deep) (met_none own t.met root_corners)), met_touched o v c (own ++ deep) t.met, met_touched o v c deep t.met,
-              ap (λ ts. length (touched_for v ts)) (sym loads) ∙ ap length (loaded_around o walked greatest dim grown v c));
+              ∙ omega (
+                arith,
+                may.nothing_met v,
+                ap (λ m. m v) (met-append o own deep t.met ∙ ap (met_after o deep) (met_none own t.met root_corners)),
+                met_touched o v c (own ++ deep) t.met,
+                met_touched o v c deep t.met,
+                ap (λ ts. length (touched_for v ts)) (sym loads) ∙ ap length (loaded_around o walked greatest dim grown v c),
+              );
           held = run.2.its_held;
         },
       )

@@ -1,0 +1,46 @@
+-- Where a corner is loaded or stored.
+use Rattle.std.specs.Prelude.{◌≡◌, ℕ, ℤ, ◌+◌, ◌≤◌, ◌<◌, ◌^◌, ◌⊎◌, List, Option, Some, None}
+use Rattle.pe_base.specs.declared.place.Place.{Place}
+use Rattle.pe_base.specs.Tree.Places.{IsCellPlace, IsDigits, child_at, parent_of}
+use Rattle.pe_base.specs.Acts.Effects.{VertexRecord}
+use Rattle.pe_base.specs.Walk.Core.{Family}
+use Rattle.pe_access.specs.declared.route.Route.{Route}
+use Rattle.pe_access.specs.declared.route.Route.TheVariants.{Stream, Temp}
+use Rattle.pe_stacks.specs.declared.record.Vertex.{Vertex}
+use Rattle.pe_stacks.specs.declared.record.CellRec.{CellRec}
+use Rattle.pe_stacks.specs.Corners.{CornerList}
+use Rattle.pe_stacks.specs.Holdings.{Holdings}
+use Rattle.pe_mapping.specs.Sights.{Numbers}
+use Rattle.pe_mapping.specs.Moments.{IsTraversal}
+use Rattle.pe_hang.specs.InHand.{vertices_on_stacks, family_in_hand}
+use Rattle.pe_adapt.specs.declared.spot.Spot.{Spot}
+use Rattle.pe_adapt.specs.Touches.{Desk}
+
+-- a corner of a cell below the root, in a traversal
+pub record IsSpot (axes : ℕ) (spot : Spot) : Type 0 where
+  pub traversal : IsTraversal spot.traversal
+  pub cell : IsCellPlace axes spot.cell
+  pub deep : 1 ≤ spot.cell.level
+  pub digits : IsDigits axes spot.digits
+  pub child : spot.cell ≡ child_at (parent_of spot.cell) spot.digits
+  pub corner : spot.corner < 2 ^ axes
+
+-- one of the streams is the input, and the other the output
+abbrev pub AreStreams : Spot → Type 0
+AreStreams spot = (spot.input ≡ 8) × (spot.output ≡ 9) ⊎ (spot.input ≡ 9) × (spot.output ≡ 8)
+
+-- the stack of a route, if it is not the stream
+abbrev pub stack_of : Route → Option ℕ
+stack_of Stream = None
+stack_of (Temp stack) = Some stack
+
+-- a family whose vertex was given up
+abbrev pub nothing_of : Family → Option VertexRecord × Family
+nothing_of family = (None, family)
+
+-- the vertices on their stacks, and what is in hand
+abbrev pub desk_in_hand : {V C : Type 0} → Numbers V C → Holdings (Vertex V) → CornerList (Vertex V) → CellRec C → List ℤ → Desk
+desk_in_hand numbers held parents parent list = record {
+  vertices = vertices_on_stacks numbers held;
+  family = family_in_hand numbers parents parent list;
+}

@@ -1,0 +1,172 @@
+// The load of a corner of which the kind and the route are known.
+ghost use Rattle.std.specs.Prelude.{◌≡◌, ℕ, true, ◌≤◌, ◌<◌, ◌^◌, is_err, slice_get, Some, OnOk};
+ghost use Rattle.pe_base.specs.declared.kind.Kind.TheVariants.{Born};
+ghost use Rattle.pe_base.specs.declared.event.Event.TheVariants.{TouchVertexFirstTime};
+ghost use Rattle.pe_base.specs.Tree.Places.{corner};
+ghost use Rattle.pe_base.specs.Walk.Core.{load_touch, read_vertex, vertex_event};
+ghost use Rattle.pe_base.specs.Walk.Working.{no_vertex};
+ghost use Rattle.pe_stacks.specs.declared.record.Vertex.{Vertex as AVertex};
+ghost use Rattle.pe_stacks.specs.Corners.{IsFull};
+ghost use Rattle.pe_stacks.specs.Holdings.{stack_count, stack_at, items_at, len_at, lent, popped};
+ghost use Rattle.pe_mapping.specs.Held.{Keeps};
+ghost use Rattle.pe_mapping.specs.Sights.{seen_vertex};
+ghost use Rattle.pe_mapping.specs.Moments.{IsTraversal, IsBelowRoot};
+ghost use Rattle.pe_hang.specs.InHand.{setting_of, setting_of_events, family_in_hand, KeepsMarks};
+ghost use Rattle.pe_hang.specs.Moves.{MayPop};
+ghost use Rattle.pe_hang.specs.Follows.{Follows, Fits, Left, read_by, found_of, held_by};
+ghost use Rattle.pe_adapt.specs.Stops.{failure_of};
+ghost use Rattle.pe_adapt.specs.Spots.{IsSpot, stack_of, desk_in_hand};
+ghost use Rattle.pe_adapt.specs.Touches.{load_as};
+
+use crate::WalkStop;
+use crate::fire::fire;
+use pe_access::Route;
+use pe_base::{Event, Kind, Place};
+use pe_hang::make_hanging;
+use pe_mapping::Mapping;
+use pe_stacks::{CellRec, Corners, Depot, Vertex};
+use pe_states::{first_touch, start_state};
+
+// Makes a vertex that is born: a fresh record is lent, and its two events are fired. On an error it is given up.
+#[tactic(auto, using(pe_hang::proofs::Marked::marks_triggered))]
+fn load_born<M: Mapping, DV: Depot<Vertex<M::V>>>(
+    start_level: u8,
+    traversal: u64,
+    at: &Place,
+    m: &mut M,
+    dv: &mut DV,
+    parents: &mut Corners<M::V>,
+    parent: &mut CellRec<M::C>,
+) -> Result<Vertex<M::V>, WalkStop>
+    requires traversal { IsTraversal traversal }
+    requires place { IsBelowRoot at.now }
+    requires full { IsFull (M.held m.old).dim parents.old }
+    requires count { (DV.holds dv.old).fresh < 2 ^ 63 }
+    ensures follows { (vertices cells : ℕ → ℕ) → Follows
+        (load_touch (setting_of M.rules (M.held m.old) start_level 0 traversal) Born true no_vertex at.now
+        (family_in_hand M.numbers parents.old parent.old (M.held m.old).list))
+        (λ v. (seen_vertex M.numbers.vertex v, family_in_hand M.numbers parents.new parent.new (M.held m.new).list))
+        (read_by failure_of result) (found_of (M.held m.old) vertices cells) (M.held m.new).told }
+    ensures lent { OnOk result (DV.holds dv.new ≡ lent (DV.holds dv.old)) }
+    ensures left { Left 0 1 (DV.holds dv.old) (DV.room dv.old) (DV.holds dv.new) (DV.room dv.new) (is_err result) }
+    ensures keeps { Keeps (M.held m.old) (M.held m.new) }
+    ensures full { IsFull (M.held m.old).dim parents.new }
+    ensures marks { KeepsMarks M.numbers.vertex parents.old parents.new }
+{
+    let payload = match m.fresh_v() {
+        Ok(payload) => payload,
+        Err(_) => return Err(WalkStop::Memory),
+    };
+    let state = start_state(traversal, at.level, start_level);
+    let mut v = dv.lend(Vertex::new(state, Kind::Born, payload));
+    match m.vertex_event(
+        Event::CreateInnerVertex,
+        traversal,
+        at,
+        &mut v,
+        parents,
+        parent,
+    ) {
+        Ok(()) => {}
+        Err(stop) => {
+            dv.give_up(v);
+            return Err(WalkStop::of_event(stop, Event::CreateInnerVertex, *at));
+        }
+    }
+    fire(
+        Event::TouchVertexFirstTime,
+        traversal,
+        at,
+        v,
+        m,
+        dv,
+        parents,
+        parent,
+    )
+}
+
+// Reads a vertex that was stored: its record is popped from the input, and its event is fired. On an error it is given up.
+fn load_stored<M: Mapping, DV: Depot<Vertex<M::V>>>(
+    kind: Kind,
+    input: u8,
+    traversal: u64,
+    at: &Place,
+    m: &mut M,
+    dv: &mut DV,
+    parents: &mut Corners<M::V>,
+    parent: &mut CellRec<M::C>,
+) -> Result<Vertex<M::V>, WalkStop>
+    requires traversal { IsTraversal traversal }
+    requires place { IsBelowRoot at.now }
+    requires full { IsFull (M.held m.old).dim parents.old }
+    requires may { MayPop (DV.holds dv.old) input }
+    ensures follows { (vertices cells : ℕ → ℕ) (found : AVertex M.V) → slice_get (items_at (DV.holds dv.old) input) 0 ≡ Some found → Follows
+        (vertex_event (setting_of_events M.rules (M.held m.old) traversal) TouchVertexFirstTime at.now
+        (read_vertex (setting_of_events M.rules (M.held m.old) traversal) kind (seen_vertex M.numbers.vertex found),
+         family_in_hand M.numbers parents.old parent.old (M.held m.old).list))
+        (λ v. (seen_vertex M.numbers.vertex v, family_in_hand M.numbers parents.new parent.new (M.held m.new).list))
+        (read_by failure_of result) (found_of (M.held m.old) vertices cells) (M.held m.new).told }
+    ensures popped { OnOk result (DV.holds dv.new ≡ popped (DV.holds dv.old) input) }
+    ensures left { Left 0 1 (DV.holds dv.old) (DV.room dv.old) (DV.holds dv.new) (DV.room dv.new) (is_err result) }
+    ensures keeps { Keeps (M.held m.old) (M.held m.new) }
+    ensures full { IsFull (M.held m.old).dim parents.new }
+    ensures marks { KeepsMarks M.numbers.vertex parents.old parents.new }
+{
+    let mut v = dv.pop(input);
+    let state = first_touch(v.state(), kind);
+    v.arrive(kind, state);
+    fire(
+        Event::TouchVertexFirstTime,
+        traversal,
+        at,
+        v,
+        m,
+        dv,
+        parents,
+        parent,
+    )
+}
+
+/// Loads a corner of a kind that is known, by a route that is known. On an error its record is given up.
+pub fn load_as<M: Mapping, DV: Depot<Vertex<M::V>>>(
+    start_level: u8,
+    kind: Kind,
+    from: Route,
+    input: u8,
+    traversal: u64,
+    at: &Place,
+    m: &mut M,
+    dv: &mut DV,
+    parents: &mut Corners<M::V>,
+    parent: &mut CellRec<M::C>,
+) -> Result<Vertex<M::V>, WalkStop>
+    requires traversal { IsTraversal traversal }
+    requires place { IsBelowRoot at.now }
+    requires full { IsFull (M.held m.old).dim parents.old }
+    requires fits { Fits (load_as (setting_of M.rules (M.held m.old) start_level 0 traversal) input kind (stack_of from) at.now
+        (desk_in_hand M.numbers (DV.holds dv.old) parents.old parent.old (M.held m.old).list)) }
+    ensures follows { (cells : ℕ → ℕ) → Follows
+        (load_as (setting_of M.rules (M.held m.old) start_level 0 traversal) input kind (stack_of from) at.now
+        (desk_in_hand M.numbers (DV.holds dv.old) parents.old parent.old (M.held m.old).list))
+        (λ v. (seen_vertex M.numbers.vertex v, desk_in_hand M.numbers (DV.holds dv.new) parents.new parent.new (M.held m.new).list))
+        (read_by failure_of result) (found_of (M.held m.old) (held_by (DV.holds dv.old) (DV.room dv.old)) cells) (M.held m.new).told }
+    ensures left { Left 0 1 (DV.holds dv.old) (DV.room dv.old) (DV.holds dv.new) (DV.room dv.new) (is_err result) }
+    ensures keeps { Keeps (M.held m.old) (M.held m.new) }
+    ensures full { IsFull (M.held m.old).dim parents.new }
+    ensures marks { KeepsMarks M.numbers.vertex parents.old parents.new }
+{
+    match kind {
+        Kind::Hanging => match make_hanging(m, dv, traversal, at, parents, parent) {
+            Ok(v) => Ok(v),
+            Err(stop) => Err(WalkStop::of_event(stop, Event::CreateHangingVertex, *at)),
+        },
+        Kind::Born => match from {
+            Route::Stream => load_born(start_level, traversal, at, m, dv, parents, parent),
+            Route::Temp(s) => Ok(dv.pop(s)),
+        },
+        _ => match from {
+            Route::Stream => load_stored(kind, input, traversal, at, m, dv, parents, parent),
+            Route::Temp(s) => Ok(dv.pop(s)),
+        },
+    }
+}

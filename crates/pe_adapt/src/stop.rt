@@ -1,0 +1,38 @@
+ghost use Rattle.std.specs.Prelude.{◌≡◌};
+ghost use Rattle.pe_hang.specs.Follows.{failure_at};
+ghost use Rattle.pe_adapt.specs.Stops.{failure_of};
+
+use pe_base::{Event, Place, Stop};
+
+/// Why a walk stopped.
+#[derive(Clone, Copy, Debug, PartialEq, Eq)]
+pub enum WalkStop {
+    /// An event stopped it: a result was out of range, a divisor was zero, or the sink failed.
+    Event {
+        /// Why.
+        stop: Stop,
+        /// The event.
+        event: Event,
+        /// Its place.
+        at: Place,
+    },
+    /// One cell more was to be walked than may be.
+    CellLimit {
+        /// That cell's place.
+        at: Place,
+    },
+    /// There was no memory.
+    Memory,
+}
+
+impl WalkStop {
+    /// The stop of an event at a place.
+    pub fn of_event(stop: Stop, event: Event, at: Place) -> WalkStop
+        ensures { failure_of result ≡ failure_at event at stop }
+    {
+        match stop {
+            Stop::Memory => WalkStop::Memory,
+            Stop::Overflow | Stop::Division | Stop::Sink => WalkStop::Event { stop, event, at },
+        }
+    }
+}
