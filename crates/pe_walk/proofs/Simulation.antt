@@ -8,3 +8,7 @@ pub mod CoreLaws
 pub mod Standing
 -- what putting records back changes
 pub mod Putting
+-- the kind of a corner as it is found
+pub mod FoundKinds
+-- at a load it is the one foreseen
+pub mod LoadedKinds

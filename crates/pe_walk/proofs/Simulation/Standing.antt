@@ -94,13 +94,14 @@ pub record CountWithin {X : Type 0} (held : Holdings X) (most : ℕ) : Type 0 wh
   pub pops : (s : ℕ) → (stack_at held s).pops ≤ most
 
 -- The places stand well: at a stage, with these counts of moves, as many out as are in hand of the cells on the way.
-pub record Stands (o : Outlook) (base : ℕ) (parent cell : Place) (from : ℕ) (most : ℕ) (t : Tokens) : Type 0 where
+pub record Stands (axes : ℕ) (o : Outlook) (base : ℕ) (parent cell : Place) (from : ℕ) (most : ℕ) (t : Tokens) : Type 0 where
   pub apart : IsApart o t
+  pub unmet : (vertex : Place) → o.counts vertex ≡ false → t.met vertex ≡ 0
   pub held_met : (vertex : Place) → 1 ≤ t.held vertex → 1 ≤ t.met vertex
-  pub parents : (k : ℕ) → k < 2 ^ o.axes → o.counts (corner o.axes parent k) ≡ true → 1 ≤ t.held (corner o.axes parent k)
-  pub mine : (k : ℕ) → from ≤ k → k < 2 ^ o.axes → o.counts (corner o.axes cell k) ≡ true
-      → (1 ≤ t.held (corner o.axes cell k)) × (t.met (corner o.axes cell k) ≡ cells_before o.axes o.way (record { vertex = corner o.axes cell k; cell = cell }) + 1)
-  pub out : t.vertices.out + from ≡ base + 2 ^ o.axes
+  pub parents : (k : ℕ) → k < 2 ^ axes → o.counts (corner axes parent k) ≡ true → 1 ≤ t.held (corner axes parent k)
+  pub mine : (k : ℕ) → from ≤ k → k < 2 ^ axes → o.counts (corner axes cell k) ≡ true
+      → (1 ≤ t.held (corner axes cell k)) × (t.met (corner axes cell k) ≡ cells_before axes o.way (record { vertex = corner axes cell k; cell = cell }) + 1)
+  pub out : t.vertices.out + from ≡ base + 2 ^ axes
   pub stacks : stack_count t.vertices ≡ 10
   pub counts : CountWithin t.vertices most
   pub parent_off : lies t.cells parent ≡ 0
