@@ -42,18 +42,21 @@ impl Times {
     /// Prints the time of each step as a ratio to the copy.
     pub fn print(&self, rt: &impl Print) -> io::Result<()> {
         println!(rt; "copy   {:.3} s", self.copied)?;
-        println!(rt; "read   {:.3} s, {:.2} copies", self.read, self.read / self.copied)?;
-        println!(rt; "write  {:.3} s, {:.2} copies", self.written, self.written / self.copied)
+        println!(rt;
+            "read   {:.3} s, {:.2} copies",
+            self.read,
+            self.read / self.copied
+        )?;
+        println!(rt;
+            "write  {:.3} s, {:.2} copies",
+            self.written,
+            self.written / self.copied
+        )
     }
 }
 
 /// Copies the bytes of a stream, reads them, and writes what was read.
-pub fn measure(
-    rt: &impl Clock,
-    alloc: Global,
-    bytes: &[u8],
-    target: &mut [u8],
-) -> io::Result<Times>
+pub fn measure(rt: &impl Clock, alloc: Global, bytes: &[u8], target: &mut [u8]) -> io::Result<Times>
     requires { length target.old ≡ length bytes.now }
     ensures { length target.new ≡ length bytes.now }
 {

@@ -23,3 +23,5 @@ pub mod StateLaws
 -- # Rows of children
 -- the numbers of a row, and of a child in it
 pub mod RowLaws
+-- from child to child of a row
+pub mod StepLaws

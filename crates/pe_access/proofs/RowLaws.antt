@@ -1,10 +1,19 @@
 -- The numbers of a row, and of a child in it.
-use Rattle.std.proofs.Common.{◌≡◌, ℕ, zero, suc, ◌+◌, ◌-◌, ◌*◌, ◌/◌, ◌%◌, ◌^◌, ◌<◌, ◌≤◌, List, [], ◌∷◌, take, length, get_or, max, refl, sym, ap, ◌∙◌, arith}
-use Rattle.std.specs.Prelude.{◌==◌, if◌then◌else◌, slice_index}
-use Rattle.pe_base.specs.Tree.Places.{bits}
+use Rattle.std.proofs.Common.{◌≡◌, ℕ, zero, suc, ◌+◌, ◌-◌, ◌/◌, ◌%◌, ◌^◌, ◌<◌, ◌≤◌, List, [], ◌∷◌, take, length, get_or, max, refl, ap, ◌∙◌, arith, Some, None, sym}
+use Rattle.std.specs.Prelude.{◌==◌, if◌then◌else◌, slice_index, slice_get}
+use Rattle.pe_base.specs.declared.place.Place.{Place}
+use Rattle.pe_base.specs.declared.place.Digits.{Digits}
+use Rattle.pe_base.specs.declared.way.Way.{Way}
+use Rattle.pe_base.specs.Tree.Places.{IsCellPlace, IsDigits, bits, child_at}
 use Rattle.pe_access.specs.declared.numbers.Numbers.{Numbers}
 use Rattle.pe_access.specs.declared.numbers.Axis.{Axis}
-use Rattle.pe_access.specs.Rows.{greatest_along, side_of}
+use Rattle.pe_access.specs.declared.state.CellState.{CellState}
+use Rattle.pe_access.specs.Lines.{Line}
+use Rattle.pe_access.specs.Faces.{line_of}
+use Rattle.pe_access.specs.Numbers.{axis_of, axes_from}
+use Rattle.pe_access.specs.States.{StandsFor}
+use Rattle.pe_access.proofs.StateLaws.{line_of-alike}
+use Rattle.pe_access.specs.Rows.{front_of, greatest_along, side_of}
 
 -- the number of the face at a side
 abbrev pub number_at : (Numbers → ℕ) → Axis → ℕ → ℕ
@@ -88,3 +97,38 @@ row_front number axes (a₀ ∷ []) row d low high long two three four corner sm
 row_front number axes (a₀ ∷ a₁ ∷ []) row d low high long two three four corner small = absurd (omega arith)
 row_front number axes (a₀ ∷ a₁ ∷ a₂ ∷ []) row d low high long two three four corner small = absurd (omega arith)
 row_front number axes (a₀ ∷ a₁ ∷ a₂ ∷ a₃ ∷ a₄ ∷ along) row d low high long two three four corner small = absurd (omega arith)
+
+take-alike : (n : ℕ) (xs ys : List Axis) → ((i : ℕ) → i < n → slice_get xs i ≡ slice_get ys i) → take n xs ≡ take n ys
+take-alike zero xs ys same = refl
+take-alike (suc n) [] [] same = refl
+take-alike (suc n) [] (y ∷ ys) same = let none : None ≡ Some y = same 0 (omega arith) in cc
+take-alike (suc n) (x ∷ xs) [] same = let none : Some x ≡ None = same 0 (omega arith) in cc
+take-alike (suc n) (x ∷ xs) (y ∷ ys) same =
+    let first : Some x ≡ Some y = same 0 (omega arith) in
+    let head : x ≡ y = cc in
+    let tail = take-alike n xs ys (λ i h. same (suc i) (omega arith)) in
+    cc
+
+slice_get-axes_from : (axis : ℕ) (lines : List Line) (i : ℕ) (line : Line) → slice_get lines i ≡ Some line → slice_get (axes_from axis lines) i ≡ Some (axis_of (axis + i) line)
+slice_get-axes_from axis [] i line e = cc
+slice_get-axes_from axis (l ∷ lines) zero line e =
+    let head : l ≡ line = cc in
+    ap (λ (m : Line). Some (axis_of axis m)) head ∙ ap (λ (n : ℕ). Some (axis_of n line)) (omega arith)
+slice_get-axes_from axis (l ∷ lines) (suc i) line e = slice_get-axes_from (axis + 1) lines i line e ∙ ap (λ (n : ℕ). Some (axis_of n line)) (omega arith)
+
+-- what a state is along an axis of the grid
+along_is : (axes : ℕ) (way : Way) (cell : Place) (state : CellState) (i : ℕ) → StandsFor axes way cell state → i < axes → slice_get state.along i ≡ Some (axis_of i (line_of axes way cell i))
+along_is axes way cell state i h within =
+    ap (λ xs. slice_get xs i) h.numbers ∙ slice_get-axes_from 0 h.lines i (line_of axes way cell i) (h.held.grid_axes i within) ∙ ap (λ (n : ℕ). Some (axis_of n (line_of axes way cell i))) (omega arith)
+
+-- children of a row have one front
+pub one_front : (axes : ℕ) (way : Way) (cell : Place) (digits digits' : Digits) (state state' : CellState) → IsCellPlace axes cell → cell.level < 20 → IsDigits axes digits → IsDigits axes digits'
+    → ((i : ℕ) → i < axes - 1 → slice_index digits.k i ≡ slice_index digits'.k i)
+    → StandsFor axes way (child_at cell digits) state → StandsFor axes way (child_at cell digits') state' → front_of state ≡ front_of state'
+one_front axes way cell digits digits' state state' place level-below d d' same h h' =
+    ap (λ (n : ℕ). take (n - 1) state.along) h.same_axes
+    ∙ take-alike (axes - 1) state.along state'.along (λ i within.
+    along_is axes way (child_at cell digits) state i h (omega arith)
+    ∙ ap (λ (l : Line). Some (axis_of i l)) (line_of-alike axes way cell digits digits' i h.grid.1 place level-below d d' (omega arith) (λ j below. same j (omega arith)))
+    ∙ sym (along_is axes way (child_at cell digits') state' i h' (omega arith)))
+    ∙ ap (λ (n : ℕ). take (n - 1) state'.along) (sym h'.same_axes)

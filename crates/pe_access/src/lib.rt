@@ -11,7 +11,7 @@ mod row;
 mod rows;
 mod state;
 
-pub use laws::order_around;
+pub use laws::{order_around, rows_of_children};
 pub use route::Route;
 pub use row::Row;
 pub use state::CellState;

@@ -1,5 +1,6 @@
-ghost use Rattle.std.specs.Prelude.{◌≡◌, ℕ, ◌+◌, ◌/◌, ◌%◌, ◌<◌, ◌^◌, max, slice_index};
+ghost use Rattle.std.specs.Prelude.{◌≡◌, ℕ, ◌+◌, ◌-◌, ◌/◌, ◌%◌, ◌<◌, ◌^◌, max, slice_index};
 ghost use Rattle.pe_base.specs.declared.place.Place.{Place as APlace};
+ghost use Rattle.pe_base.specs.declared.place.Digits.{Digits as SomeDigits};
 ghost use Rattle.pe_base.specs.declared.way.Way.{Way as AWay};
 ghost use Rattle.pe_base.specs.Tree.Dim.{IsDim};
 ghost use Rattle.pe_base.specs.Tree.Places.{IsDigits, IsCellPlace, IsInside, bits, child_at, corner as corner_at, root};
@@ -62,6 +63,33 @@ impl CellState {
             level,
             along,
         }
+    }
+
+    /// Makes the state of a child that of the child at these digits, which differ from its own on the last axis alone.
+    ///
+    /// That is what `descend` gives, with less to do along a row of children.
+    pub fn step(&self, child: &mut CellState, digits: Digits)
+        requires level { level_of self.now < 20 }
+        requires digits { IsDigits (axes_of self.now) digits }
+        requires axes { IsDim (axes_of self.now) }
+        ensures stands { (axes : ℕ) (way : AWay) (cell : APlace) (from : SomeDigits) → IsCellPlace axes cell → IsDigits axes from
+            → StandsFor axes way cell self.now → StandsFor axes way (child_at cell from) child.old
+            → ((i : ℕ) → i < axes - 1 → slice_index from.k i ≡ slice_index digits.k i) → StandsFor axes way (child_at cell digits) child.new }
+        ensures axes { axes_of child.new ≡ axes_of child.old }
+        ensures level { level_of child.new ≡ level_of child.old }
+        ensures front { axes_of child.old ≡ axes_of self.now → front_of child.new ≡ front_of child.old }
+    {
+        let [i, j, k, _] = digits.k;
+        let before = match self.axes {
+            2 => i,
+            3 => i + j,
+            _ => i + j + k,
+        };
+        let axis = self.axes - 1;
+        let last = axis as usize;
+        let parent = self.along[last];
+        let turns = self.turns() + before + bit(parent.odd);
+        child.along[last] = parent.child(axis, self.level + 1, turns, digits.k[last]);
     }
 
     // The turns of every axis: one where the walk is inverted, and one for each odd position.

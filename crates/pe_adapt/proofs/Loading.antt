@@ -19,7 +19,7 @@ use Rattle.pe_hang.proofs.Leading.{and_then-fits, follows-map, follows-behind}
 use Rattle.pe_hang.proofs.Moving.{lend-is, pop-may, pop-is}
 use Rattle.pe_adapt.specs.Touches.{Desk, comes, load_as, lent_vertex, popped_vertex}
 
-abbrev desk : {X : Type 0} → (X → VertexRecord) → Holdings X → Family → Desk
+abbrev pub desk : {X : Type 0} → (X → VertexRecord) → Holdings X → Family → Desk
 desk f held family = record { vertices = map_holdings f held; family = family }
 
 module _ {Plan X : Type 0} (f : X → VertexRecord) (set : Setting Plan) (input : ℕ) (place : Place) (held : Holdings X) (family : Family) where
@@ -56,10 +56,10 @@ module _ {Plan X : Type 0} (f : X → VertexRecord) (set : Setting Plan) (input 
   loaded kind from held' held'' x after means result found new come same is =
       with_held kind from held' held'' after means result found new same
       (follows-behind (comes set input kind from (desk f held family))
-        (λ come. course_map (λ it. (it.0, record come.1 { family = it.1 })) (load_touch set kind (is_none from) come.0 place come.1.family))
-        (x, desk f held'' family) (λ a. ((after a).0, desk f held'' (after a).1)) (read_by means result) found new
-        (ap (λ course. course.ending) come) (ap (λ course. course.text) come)
-        (follows-map (λ it. (it.0, desk f held'' it.1)) (load_touch set kind (is_none from) x place family) after (read_by means result) found new is))
+      (λ come. course_map (λ it. (it.0, record come.1 { family = it.1 })) (load_touch set kind (is_none from) come.0 place come.1.family))
+      (x, desk f held'' family) (λ a. ((after a).0, desk f held'' (after a).1)) (read_by means result) found new
+      (ap (λ course. course.ending) come) (ap (λ course. course.text) come)
+      (follows-map (λ it. (it.0, desk f held'' it.1)) (load_touch set kind (is_none from) x place family) after (read_by means result) found new is))
 
   -- a hanging vertex
   pub loaded-hanging : {A E : Type 0} (kind : Kind) (from : Option ℕ) (held' : Holdings X) (after : A → VertexRecord × Family) (means : E → Failure) (result : Result A E) (found : Found) (new : Told)
@@ -69,7 +69,7 @@ module _ {Plan X : Type 0} (f : X → VertexRecord) (set : Setting Plan) (input 
   loaded-hanging kind from held' after means result found new hangs fits same is =
       subst (λ k. Follows (loads k from) (λ a. ((after a).0, desk f held' (after a).1)) (read_by means result) found new) (sym hangs)
       (loaded Hanging from held' (lent held) no_vertex after means result found new
-        (lent-is (and_then-fits (lent_vertex set (desk f held family)) _ (subst (λ k. Fits (loads k from)) hangs fits))) same is)
+      (lent-is (and_then-fits (lent_vertex set (desk f held family)) _ (subst (λ k. Fits (loads k from)) hangs fits))) same is)
 
   -- one that is born
   pub loaded-born : {A E : Type 0} (kind : Kind) (from : Option ℕ) (held' : Holdings X) (after : A → VertexRecord × Family) (means : E → Failure) (result : Result A E) (found : Found) (new : Told)
@@ -80,7 +80,7 @@ module _ {Plan X : Type 0} (f : X → VertexRecord) (set : Setting Plan) (input 
       subst (λ k. Follows (loads k from) (λ a. ((after a).0, desk f held' (after a).1)) (read_by means result) found new) (sym born)
       (subst (λ o. Follows (loads Born o) (λ a. ((after a).0, desk f held' (after a).1)) (read_by means result) found new) (sym first)
       (loaded Born None held' (lent held) no_vertex after means result found new
-        (lent-is (and_then-fits (lent_vertex set (desk f held family)) _ (subst (λ o. Fits (loads Born o)) first (subst (λ k. Fits (loads k from)) born fits)))) same is))
+      (lent-is (and_then-fits (lent_vertex set (desk f held family)) _ (subst (λ o. Fits (loads Born o)) first (subst (λ k. Fits (loads k from)) born fits)))) same is))
 
   comes-stored : (kind : Kind) → (kind ≡ Hanging → ⊥) → (kind ≡ Born → ⊥) → comes set input kind None (desk f held family) ≡ popped_vertex set input (desk f held family)
   comes-stored Kept hangs born = refl
@@ -104,9 +104,9 @@ module _ {Plan X : Type 0} (f : X → VertexRecord) (set : Setting Plan) (input 
       let come = comes-stored kind hangs born in
       subst (λ o. Follows (loads kind o) (λ a. ((after a).0, desk f held' (after a).1)) (read_by means result) found new) (sym first)
       (loaded kind None held' (popped held input) (f x) after means result found new
-        (come ∙ popped-is input x (subst Fits come (and_then-fits (comes set input kind None (desk f held family)) _ (subst (λ o. Fits (loads kind o)) first fits))) top)
-        same
-        (subst (λ course. Follows course after (read_by means result) found new) (sym (touch-stored kind (f x) hangs born)) is))
+      (come ∙ popped-is input x (subst Fits come (and_then-fits (comes set input kind None (desk f held family)) _ (subst (λ o. Fits (loads kind o)) first fits))) top)
+      same
+      (subst (λ course. Follows course after (read_by means result) found new) (sym (touch-stored kind (f x) hangs born)) is))
 
   top : (xs : List X) → 0 < length xs → (x : X) × (slice_get xs 0 ≡ Some x)
   top [] some = absurd (omega arith)
@@ -140,10 +140,10 @@ module _ {Plan X : Type 0} (f : X → VertexRecord) (set : Setting Plan) (input 
       let come = comes-waiting kind s hangs in
       subst (λ o. Follows (loads kind o) (λ (v : X). (f v, desk f held' family)) (Ok x) found found.told) (sym waits)
       (loaded {A = X} {E = Unit {0}} kind (Some s) held' (popped held s) (f x) (λ v. (f v, family)) (λ e. unwritten) (Ok x) found found.told
-        (come ∙ popped-is s x (subst Fits come (and_then-fits (comes set input kind (Some s) (desk f held family)) _ (subst (λ o. Fits (loads kind o)) waits fits))) top)
-        same
-        (let course : load_touch set kind false (f x) place family ≡ at_once (f x, family) = touch-waiting kind (f x) hangs in
-          record {
-            ends = ap (λ course. course.ending) course;
-            told = subst (λ text. Adds found.told text found.told) (sym (ap (λ course. course.text) course)) (adds-nothing found.told);
-          }))
+      (come ∙ popped-is s x (subst Fits come (and_then-fits (comes set input kind (Some s) (desk f held family)) _ (subst (λ o. Fits (loads kind o)) waits fits))) top)
+      same
+      (let course : load_touch set kind false (f x) place family ≡ at_once (f x, family) = touch-waiting kind (f x) hangs in
+      record {
+        ends = ap (λ course. course.ending) course;
+        told = subst (λ text. Adds found.told text found.told) (sym (ap (λ course. course.text) course)) (adds-nothing found.told);
+      }))

@@ -6,7 +6,7 @@ use Rattle.pe_base.specs.declared.kind.Kind.{Kind}
 use Rattle.pe_base.specs.declared.kind.Kind.TheVariants.{Born}
 use Rattle.pe_base.specs.Life.Table.{first_touch, last_touch, start_state}
 use Rattle.pe_base.specs.Acts.Effects.{VertexRecord, Fresh}
-use Rattle.pe_base.specs.Walk.Core.{Setting, Family, read_vertex, fresh_vertex}
+use Rattle.pe_base.specs.Walk.Core.{Setting, Family, read_vertex, fresh_vertex, written}
 use Rattle.pe_stacks.specs.declared.record.Vertex.{Vertex}
 use Rattle.pe_stacks.specs.declared.record.CellRec.{CellRec}
 use Rattle.pe_stacks.specs.Corners.{CornerList}
@@ -34,8 +34,16 @@ pub born-is : {Plan V C : Type 0} (set : Setting Plan) (numbers : Numbers V C) (
     → with_family (seen_vertex numbers.vertex lent) (family_in_hand numbers parents parent after) ≡ fresh_vertex set Born place (family_in_hand numbers parents parent before)
 born-is set numbers place parents parent before after payload state made lent zeros list is_state is_made is_lent =
     let is : seen_vertex numbers.vertex lent ≡ record { state = start_state set.traversal place.level set.start_level; kind = Born; numbers = (set.rules.fresh_vertex set.plan before).numbers } =
-        ap (seen_vertex numbers.vertex) (is_lent ∙ is_made)
-        ∙ ap (λ s. record { state = s; kind = Born; numbers = numbers.vertex payload }) is_state
-        ∙ ap (λ n. record { state = start_state set.traversal place.level set.start_level; kind = Born; numbers = n }) zeros in
+    ap (seen_vertex numbers.vertex) (is_lent ∙ is_made)
+    ∙ ap (λ s. record { state = s; kind = Born; numbers = numbers.vertex payload }) is_state
+    ∙ ap (λ n. record { state = start_state set.traversal place.level set.start_level; kind = Born; numbers = n }) zeros in
     ap (λ (v : VertexRecord). with_family v (family_in_hand numbers parents parent after)) is
     ∙ ap (λ (l : List ℤ). with_family (let v : VertexRecord = record { state = start_state set.traversal place.level set.start_level; kind = Born; numbers = (set.rules.fresh_vertex set.plan before).numbers } in v) (family_in_hand numbers parents parent l)) list
+
+-- a vertex as it is written
+pub written-is : {Plan V : Type 0} (set : Setting Plan) (numbers : V → List ℤ) (kind : Kind) (touched departed : Vertex V) (was state : State) (family : Family)
+    → was ≡ touched.state → state ≡ last_touch was kind → departed ≡ record touched { state = state }
+    → (let after : Option VertexRecord × Family = (Some (seen_vertex numbers departed), family) in after) ≡ written set kind (seen_vertex numbers touched, family)
+written-is {V = V} set numbers kind touched departed was state family is_was is_state is_departed =
+    ap (λ (v : Vertex V). (let after : Option VertexRecord × Family = (Some (seen_vertex numbers v), family) in after)) is_departed
+    ∙ ap (λ s. (let after : Option VertexRecord × Family = (Some (record (seen_vertex numbers touched) { state = s }), family) in after)) (is_state ∙ ap (λ s. last_touch s kind) is_was)

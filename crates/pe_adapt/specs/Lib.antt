@@ -6,3 +6,5 @@ pub mod Touches
 pub mod Spots
 -- what a stop means
 pub mod Stops
+-- which corners are old and new
+pub mod Marked

@@ -1,9 +1,9 @@
 -- Where a corner is loaded or stored.
 use Rattle.std.specs.Prelude.{◌≡◌, ℕ, ℤ, ◌+◌, ◌≤◌, ◌<◌, ◌^◌, ◌⊎◌, List, Option, Some, None}
 use Rattle.pe_base.specs.declared.place.Place.{Place}
+use Rattle.pe_base.specs.declared.kind.Kind.{Kind}
+use Rattle.pe_base.specs.declared.kind.Kind.TheVariants.{Born, Hanging}
 use Rattle.pe_base.specs.Tree.Places.{IsCellPlace, IsDigits, child_at, parent_of}
-use Rattle.pe_base.specs.Acts.Effects.{VertexRecord}
-use Rattle.pe_base.specs.Walk.Core.{Family}
 use Rattle.pe_access.specs.declared.route.Route.{Route}
 use Rattle.pe_access.specs.declared.route.Route.TheVariants.{Stream, Temp}
 use Rattle.pe_stacks.specs.declared.record.Vertex.{Vertex}
@@ -34,13 +34,16 @@ abbrev pub stack_of : Route → Option ℕ
 stack_of Stream = None
 stack_of (Temp stack) = Some stack
 
--- a family whose vertex was given up
-abbrev pub nothing_of : Family → Option VertexRecord × Family
-nothing_of family = (None, family)
-
 -- the vertices on their stacks, and what is in hand
 abbrev pub desk_in_hand : {V C : Type 0} → Numbers V C → Holdings (Vertex V) → CornerList (Vertex V) → CellRec C → List ℤ → Desk
 desk_in_hand numbers held parents parent list = record {
   vertices = vertices_on_stacks numbers held;
   family = family_in_hand numbers parents parent list;
 }
+
+-- the stack from which a corner of a kind is popped, if it is
+abbrev pub source_of : ℕ → Kind → Option ℕ → Option ℕ
+source_of input Hanging from = None
+source_of input Born None = None
+source_of input kind None = Some input
+source_of input kind (Some s) = Some s

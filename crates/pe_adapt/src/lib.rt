@@ -2,12 +2,16 @@
 #![tactic(auto)]
 
 mod fire;
+mod kinds;
 mod load;
 mod spot;
 mod stop;
 mod store;
+mod touch;
 
+pub use kinds::{corner_marks, marks_of};
 pub use load::load_as;
 pub use spot::{Spot, corner_place};
 pub use stop::WalkStop;
 pub use store::store_as;
+pub use touch::{load_marked, store_placed};

@@ -101,9 +101,10 @@ fn load_stored<M: Mapping, DV: Depot<Vertex<M::V>>>(
     requires full { IsFull (M.held m.old).dim parents.old }
     requires may { MayPop (DV.holds dv.old) input }
     ensures follows { (vertices cells : ℕ → ℕ) (found : AVertex M.V) → slice_get (items_at (DV.holds dv.old) input) 0 ≡ Some found → Follows
-        (vertex_event (setting_of_events M.rules (M.held m.old) traversal) TouchVertexFirstTime at.now
-        (read_vertex (setting_of_events M.rules (M.held m.old) traversal) kind (seen_vertex M.numbers.vertex found),
-         family_in_hand M.numbers parents.old parent.old (M.held m.old).list))
+        (vertex_event (setting_of_events M.rules (M.held m.old) traversal) TouchVertexFirstTime at.now (
+          read_vertex (setting_of_events M.rules (M.held m.old) traversal) kind (seen_vertex M.numbers.vertex found),
+          family_in_hand M.numbers parents.old parent.old (M.held m.old).list,
+        ))
         (λ v. (seen_vertex M.numbers.vertex v, family_in_hand M.numbers parents.new parent.new (M.held m.new).list))
         (read_by failure_of result) (found_of (M.held m.old) vertices cells) (M.held m.new).told }
     ensures popped { OnOk result (DV.holds dv.new ≡ popped (DV.holds dv.old) input) }

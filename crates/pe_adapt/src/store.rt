@@ -7,12 +7,12 @@ ghost use Rattle.pe_stacks.specs.Holdings.{pushed, given_up};
 ghost use Rattle.pe_mapping.specs.Held.{Keeps};
 ghost use Rattle.pe_mapping.specs.Sights.{seen_vertex};
 ghost use Rattle.pe_mapping.specs.Moments.{IsTraversal, IsBelowRoot};
-ghost use Rattle.pe_hang.specs.InHand.{setting_of_events, family_in_hand, KeepsMarks};
+ghost use Rattle.pe_hang.specs.InHand.{setting_of_events, family_in_hand, nothing_of, KeepsMarks};
 ghost use Rattle.pe_hang.specs.Moves.{MayPush};
 ghost use Rattle.pe_hang.specs.Follows.{Follows, Fits, Left, read_by, found_of, held_by};
 ghost use Rattle.pe_adapt.specs.declared.stop.WalkStop.TheVariants.{Memory as OutOfMemory};
 ghost use Rattle.pe_adapt.specs.Stops.{failure_of};
-ghost use Rattle.pe_adapt.specs.Spots.{stack_of, desk_in_hand, nothing_of};
+ghost use Rattle.pe_adapt.specs.Spots.{stack_of, desk_in_hand};
 ghost use Rattle.pe_adapt.specs.Touches.{store_as};
 
 use crate::WalkStop;

@@ -2,6 +2,7 @@
 //! and the definitions that every contract above is written in.
 #![tactic(auto)]
 
+mod boxed;
 mod dim;
 mod effects;
 mod event;
@@ -22,6 +23,7 @@ mod text;
 mod walk_rows;
 mod way;
 
+pub use boxed::Boxed;
 pub use dim::Dim;
 pub use effects::Effects;
 pub use event::{Event, Sort};

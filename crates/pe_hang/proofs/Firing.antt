@@ -70,8 +70,8 @@ module _ {Plan V C : Type 0} (numbers : Numbers V C) (set : Setting Plan) (event
       → old.plan ≡ set.plan
       → Answers (outcome_of set.rules old event set.traversal (vertex_sight numbers place vertex parents parent)) old new (vertex_sight numbers place vertex' parents' parent') answer
       → Follows (vertex_event set event place (seen_vertex numbers.vertex vertex, family_in_hand numbers parents parent old.list))
-        (λ (u : Unit {0}). (seen_vertex numbers.vertex vertex', family_in_hand numbers parents' parent' new.list))
-        (read_by (failure_at event place) answer) (found_of old vertices cells) new.told
+      (λ (u : Unit {0}). (seen_vertex numbers.vertex vertex', family_in_hand numbers parents' parent' new.list))
+      (read_by (failure_at event place) answer) (found_of old vertices cells) new.told
   vertex_event-follows vertex vertex' parents parents' parent parent' answer same is =
       let before = vertex_sight numbers place vertex parents parent in
       let after = vertex_sight numbers place vertex' parents' parent' in
@@ -79,16 +79,16 @@ module _ {Plan V C : Type 0} (numbers : Numbers V C) (set : Setting Plan) (event
       fire-follows set event old.list before (λ outcome. (unwrap_or outcome.seen.vertex own, family_after set outcome)) old new vertices cells after answer _
       (subst (λ plan. Answers (set.rules.effect plan event set.traversal old.list before) old new after answer) same is)
       (λ seen list.
-        ap (λ (s : Seen). (unwrap_or s.vertex own, record { parents = s.parents; parent = s.parent; list = (outcome set event old.list before (λ o. o)).list })) seen
-        ∙ ap (λ (l : List ℤ). (seen_vertex numbers.vertex vertex', record { parents = after.parents; parent = after.parent; list = l })) list)
+      ap (λ (s : Seen). (unwrap_or s.vertex own, record { parents = s.parents; parent = s.parent; list = (outcome set event old.list before (λ o. o)).list })) seen
+      ∙ ap (λ (l : List ℤ). (seen_vertex numbers.vertex vertex', record { parents = after.parents; parent = after.parent; list = l })) list)
 
   -- an event of a cell
   pub cell_event-follows : (cell cell' : CellRec C) (corners corners' parents parents' : CornerList (Vertex V)) (parent parent' : CellRec C) (answer : Result (Unit {0}) Stop)
       → old.plan ≡ set.plan
       → Answers (outcome_of set.rules old event set.traversal (cell_sight numbers place cell corners parents parent)) old new (cell_sight numbers place cell' corners' parents' parent') answer
       → Follows (cell_event set event place (own_in_hand numbers cell corners, family_in_hand numbers parents parent old.list))
-        (λ (u : Unit {0}). (own_in_hand numbers cell' corners', family_in_hand numbers parents' parent' new.list))
-        (read_by (failure_at event place) answer) (found_of old vertices cells) new.told
+      (λ (u : Unit {0}). (own_in_hand numbers cell' corners', family_in_hand numbers parents' parent' new.list))
+      (read_by (failure_at event place) answer) (found_of old vertices cells) new.told
   cell_event-follows cell cell' corners corners' parents parents' parent parent' answer same is =
       let before = cell_sight numbers place cell corners parents parent in
       let after = cell_sight numbers place cell' corners' parents' parent' in
@@ -97,8 +97,8 @@ module _ {Plan V C : Type 0} (numbers : Numbers V C) (set : Setting Plan) (event
       (λ outcome. (record { cell = unwrap_or outcome.seen.cell numbers_before; corners = outcome.seen.corners }, family_after set outcome)) old new vertices cells after answer _
       (subst (λ plan. Answers (set.rules.effect plan event set.traversal old.list before) old new after answer) same is)
       (λ seen list.
-        ap (λ (s : Seen). (record { cell = unwrap_or s.cell numbers_before; corners = s.corners }, record { parents = s.parents; parent = s.parent; list = (outcome set event old.list before (λ o. o)).list })) seen
-        ∙ ap (λ (l : List ℤ). (own_in_hand numbers cell' corners', record { parents = after.parents; parent = after.parent; list = l })) list)
+      ap (λ (s : Seen). (record { cell = unwrap_or s.cell numbers_before; corners = s.corners }, record { parents = s.parents; parent = s.parent; list = (outcome set event old.list before (λ o. o)).list })) seen
+      ∙ ap (λ (l : List ℤ). (own_in_hand numbers cell' corners', record { parents = after.parents; parent = after.parent; list = l })) list)
 
   -- an event of no vertex and no cell
   pub plain_event-follows : (answer : Result (Unit {0}) Stop)

@@ -115,10 +115,11 @@ module _ {Y : Type 0} {whole : Course Y} {old now : Found} where
 
   overfull-of : (rest : Course Y) (log more : List Push) → Leads whole old now rest → rest.log ≡ log ++ more → HasOverfull now log → HasOverfull old whole.log
   overfull-of rest log more lead split over =
-      let is : whole.log ≡ lead.log ++ (log ++ more) = ap (λ course. course.log) lead.splits ∙ ap (λ t. lead.log ++ t) split in
-      (over.0,
-       subst (λ l. Contains l over.0) (sym is) (Contains-append_right lead.log (log ++ more) over.0 (Contains-append_left log more over.0 over.1)),
-       overfull-before old now over.0 lead.room over.2)
+      let is : whole.log ≡ lead.log ++ (log ++ more) = ap (λ course. course.log) lead.splits ∙ ap (λ t. lead.log ++ t) split in (
+        over.0,
+        subst (λ l. Contains l over.0) (sym is) (Contains-append_right lead.log (log ++ more) over.0 (Contains-append_left log more over.0 over.1)),
+        overfull-before old now over.0 lead.room over.2,
+      )
 
   -- the failure of a call is the caller's
   pub leads_err : {X A B : Type 0} (course : Course X) (next : X → Course Y) (after : A → X) (after' : B → Y) (failure : Failure) (new : Told)
@@ -183,7 +184,7 @@ pub follows-map : {X Y A : Type 0} (f : X → Y) (course : Course X) (after : A 
 follows-map f course after (Ok a) old new is =
     leads_end (λ a. f (after a)) a
     (leads_next course (λ x. at_once (f x)) after a (record old { told = new }) (leads_start (course_map f course) old) is
-      (record { sure = refl; vertices = λ s. omega arith; cells = λ s. omega arith }))
+    (record { sure = refl; vertices = λ s. omega arith; cells = λ s. omega arith }))
 follows-map f course after (Err failure) old new is =
     leads_err course (λ x. at_once (f x)) after (λ a. f (after a)) failure new (leads_start (course_map f course) old) is
 

@@ -37,9 +37,9 @@ mark-erased Hanging state = refl
 
 mark-may : (greatest level : ℕ) (kind : Kind) (before after : State) → MayBecome greatest level kind before after → mark after ≡ mark before
 mark-may greatest level kind before after may = elim may [
-  inl same ↦ ap mark same
+  | inl same ↦ ap mark same
   | inr other ↦ elim other [
-    inl refined ↦ ap mark refined ∙ mark-refined level greatest kind before
+    | inl refined ↦ ap mark refined ∙ mark-refined level greatest kind before
     | inr erased ↦ ap mark erased ∙ mark-erased kind before
   ]
 ]

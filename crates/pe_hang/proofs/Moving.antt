@@ -43,7 +43,7 @@ module _ {X Y : Type 0} (f : X → Y) where
       let tests = allowed-fits _ (top_of (items_at (map_holdings f held) s) (popped (map_holdings f held) s)) fits in
       let each = both (nat_lt s (stack_count (map_holdings f held))) (may_rise (stack_at (map_holdings f held) s).pops) tests in
       let top : Fits (top_of (items_at (map_holdings f held) s) (popped (map_holdings f held) s)) =
-          subst Fits (allowed-is _ (top_of (items_at (map_holdings f held) s) (popped (map_holdings f held) s)) fits) fits in
+      subst Fits (allowed-is _ (top_of (items_at (map_holdings f held) s) (popped (map_holdings f held) s)) fits) fits in
       record {
         stack = subst (λ n. s < n) (stack_count-map f held) (ltb-true _ _ each.0);
         count = subst (λ stack. stack.pops < 2 ^ 63) (stack_at-map f held s) (ltb-true _ _ each.1);
@@ -75,6 +75,7 @@ module _ {X Y : Type 0} (f : X → Y) where
         count = subst (λ stack. stack.pushes < 2 ^ 63) (stack_at-map f held s) (ltb-true _ _ each.1);
         out = ltb-true _ _ all.1;
       }
+
   -- a push, as a course
   abbrev pub push_of : Bool → ℕ → X → Holdings X → Course (Holdings Y)
   push_of of_cell s x held = record { text = []; log = record { of_cell = of_cell; stack = s; length = len_at held s + 1 } ∷ []; ending = done (map_holdings f (pushed held s x)) }

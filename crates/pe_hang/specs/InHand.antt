@@ -1,5 +1,5 @@
 -- What a call has in hand and on stacks, as a machine of lists sees it.
-use Rattle.std.specs.Prelude.{◌≡◌, ℕ, ℤ, Bool, List, map}
+use Rattle.std.specs.Prelude.{◌≡◌, ℕ, ℤ, Bool, List, map, Option, None}
 use Rattle.pe_base.specs.Life.States.{is_old, is_new}
 use Rattle.pe_base.specs.Acts.Effects.{VertexRecord, Rules}
 use Rattle.pe_base.specs.Walk.Core.{Setting, Family, Own}
@@ -29,6 +29,10 @@ setting_of_events rules held traversal = setting_of rules held 0 0 traversal
 abbrev pub family_in_hand : {V C : Type 0} → Numbers V C → CornerList (Vertex V) → CellRec C → List ℤ → Family
 family_in_hand numbers parents parent list =
     record { parents = seen_corners numbers.vertex parents; parent = seen_cell numbers.cell parent; list = list }
+
+-- a family whose vertex was given up
+abbrev pub nothing_of : Family → Option VertexRecord × Family
+nothing_of family = (None, family)
 
 -- of each vertex whether it is old and whether it is new; no event changes these marks
 abbrev pub marks_of : List VertexRecord → List (Bool × Bool)

@@ -5,7 +5,7 @@ ghost use Rattle.pe_stacks.specs.Holdings.{lent, given_up, KeepsRoom};
 ghost use Rattle.pe_mapping.specs.Held.{Keeps};
 ghost use Rattle.pe_mapping.specs.Sights.{seen_vertex};
 ghost use Rattle.pe_mapping.specs.Moments.{IsTraversal, IsBelowRoot};
-ghost use Rattle.pe_hang.specs.InHand.{setting_of_events, family_in_hand, KeepsMarks};
+ghost use Rattle.pe_hang.specs.InHand.{setting_of_events, family_in_hand, nothing_of, KeepsMarks};
 ghost use Rattle.pe_hang.specs.Follows.{Follows, Left, failure_at, read_by, found_of};
 ghost use Rattle.pe_hang.specs.Hanging.{made, ended};
 
@@ -83,7 +83,7 @@ pub fn end_hanging<M: Mapping, DV: Depot<Vertex<M::V>>>(
     ensures follows { (vertices cells : ℕ → ℕ) → Follows
         (ended (setting_of_events M.rules (M.held m.old) traversal) at.now (seen_vertex M.numbers.vertex v)
         (family_in_hand M.numbers parents.old parent.old (M.held m.old).list))
-        (λ done. family_in_hand M.numbers parents.new parent.new (M.held m.new).list)
+        (λ done. nothing_of (family_in_hand M.numbers parents.new parent.new (M.held m.new).list))
         (read_by (failure_at DestroyHangingVertex at.now) result) (found_of (M.held m.old) vertices cells) (M.held m.new).told }
     ensures given_up { DV.holds dv.new ≡ given_up (DV.holds dv.old) }
     ensures left { Left 1 0 (DV.holds dv.old) (DV.room dv.old) (DV.holds dv.new) (DV.room dv.new) (is_err result) }

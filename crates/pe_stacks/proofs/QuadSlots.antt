@@ -1,5 +1,5 @@
 -- Four slots at once, in a list of which only the first ones are seen.
-use Rattle.std.proofs.Common.{◌≡◌, ℕ, zero, suc, ◌+◌, ◌-◌, ◌*◌, ◌^◌, ◌<◌, ◌≤◌, List, take, drop, set, get_or, length, replicate, sym, ◌∙◌, ap, arith, Option, None}
+use Rattle.std.proofs.Common.{◌≡◌, ℕ, zero, suc, ◌+◌, ◌*◌, ◌^◌, ◌<◌, List, take, drop, set, get_or, length, sym, ◌∙◌, ap, arith, Option, None}
 use Rattle.std.proofs.Math.Seq.{take-set-lt}
 use Rattle.std.proofs.lemmas.List.{length-set, get_or-take, get_or-set_other, set-get_or, drop-set-lt}
 use Rattle.pe_base.specs.Tree.Dim.{IsDim}

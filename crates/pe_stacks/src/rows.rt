@@ -1,5 +1,5 @@
 //! Worked rows of depots, and a caller that knows a depot by its bound alone.
-ghost use Rattle.std.specs.Prelude.{◌≡◌, ℕ, ◌+◌, ◌^◌, ◌<◌, [], ◌∷◌, drop, true, false, IsSome};
+ghost use Rattle.std.specs.Prelude.{◌≡◌, ℕ, ◌+◌, ◌*◌, ◌^◌, ◌<◌, [], ◌∷◌, drop, true, false, IsSome};
 ghost use Rattle.std.specs.Option.{option_map};
 ghost use Rattle.pe_stacks.specs.declared.record.Vertex.{Vertex as AVertex};
 ghost use Rattle.pe_stacks.specs.Corners.{vertex_at, with_vertex};
@@ -107,7 +107,9 @@ fn a_vertex_in_a_corner(rt: HostRuntime) -> Result<(), Fail> {
     let dim = Dim::new(2).ok_or("a dimension")?;
     let mut corners = Corners::empty(dim);
     corners.put(3, Vertex::new(State::Unrefined, Kind::Kept, 5));
-    depart_at(&mut corners, 3, State::Refined);
+    depart_at(&mut corners, 3, State::Unrefined);
+    depart_in_place(&mut corners, 0, State::Refined);
+    assert!(rt; corners.quad(0).p3.is_some());
     *corners.at_mut(3).payload_mut() = 6;
     assert!(rt; corners.at(3).is_old() && corners.at(3).is_new());
     let mut v = corners.take(3);

@@ -1,8 +1,8 @@
 -- The parts that were read are those of one saved grid.
-use Rattle.std.proofs.Common.{◌≡◌, ℕ, zero, suc, ◌+◌, ◌-◌, ◌*◌, ◌^◌, ◌<◌, ◌≤◌, List, [], ◌∷◌, ◌++◌, length, take, drop, get_or, All, refl, sym, ap, subst, ◌∙◌, append_assoc, arith}
+use Rattle.std.proofs.Common.{◌≡◌, ℕ, ◌+◌, ◌*◌, ◌^◌, ◌<◌, ◌≤◌, List, [], ◌∷◌, ◌++◌, length, take, drop, refl, sym, ap, subst, ◌∙◌, arith}
 use Rattle.std.specs.Prelude.{slice_index}
 use Rattle.std.specs.List.{flat_map}
-use Rattle.std.proofs.lemmas.List.{length-take, length-drop, take_all, take_rest, take-append-drop, drop-drop, get_or-drop}
+use Rattle.std.proofs.lemmas.List.{length-drop, take_all, take-append-drop, drop-drop, get_or-drop}
 use Rattle.std.proofs.Math.Seq.{take-add}
 use Rattle.pe_base.specs.declared.fields.Fields.{Fields}
 use Rattle.pe_stream.specs.declared.fault.HeaderField.{HeaderField}
@@ -10,11 +10,11 @@ use Rattle.pe_stream.specs.declared.fault.HeaderField.TheVariants.{Dim, MaxLevel
 use Rattle.pe_stream.specs.declared.header.Header.{Header}
 use Rattle.pe_stream.specs.declared.saved.SavedVertex.{SavedVertex}
 use Rattle.pe_stream.specs.declared.saved.Saved.{Saved}
-use Rattle.pe_stream.specs.Layout.{number_bytes, fields_bytes, fields_size, vertex_bytes, vertex_size, magic, version, header_bytes, stream_bytes}
-use Rattle.pe_stream.specs.Ranges.{limits, IsIn, field_of, IsInRanges}
+use Rattle.pe_stream.specs.Layout.{number_bytes, fields_bytes, fields_size, vertex_bytes, vertex_size, magic, version, stream_bytes}
+use Rattle.pe_stream.specs.Ranges.{limits, IsIn, IsInRanges}
 use Rattle.pe_stream.specs.Faults.{found, vertices_found, vertices_at, length_of, first_unsaved, first_unsaved_of}
 use Rattle.pe_stream.specs.Header.{BeginsWith}
-use Rattle.pe_stream.specs.Parts.{IsReadPayload, IsReadVertex, AreVertices, AreCells, AreOf}
+use Rattle.pe_stream.specs.Parts.{IsReadPayload, AreVertices, AreCells, AreOf}
 use Rattle.pe_stream.proofs.Pieces.{Splits}
 
 -- the first eight, one by one
@@ -58,11 +58,11 @@ header_is : (bytes : List ℕ) (header : Header) → BeginsWith bytes header →
 header_is bytes header begins =
     let two = ap (λ l. l ++ (take 8 (drop 8 bytes) ++ (take 8 (drop 16 bytes) ++ (take 8 (drop 24 bytes) ++ take 8 (drop 32 bytes))))) begins.magic_is in
     let pieces : take 40 bytes ≡ take 8 bytes ++ (take 8 (drop 8 bytes) ++ (take 8 (drop 16 bytes) ++ (take 8 (drop 24 bytes) ++ take 8 (drop 32 bytes)))) =
-        take-add 8 32 bytes
-        ∙ ap (λ l. take 8 bytes ++ l) (take-add 8 24 (drop 8 bytes)
-        ∙ ap (λ l. take 8 (drop 8 bytes) ++ l) (ap (take 24) (drop-drop 8 8 bytes) ∙ take-add 8 16 (drop 16 bytes)
-        ∙ ap (λ l. take 8 (drop 16 bytes) ++ l) (ap (take 16) (drop-drop 8 16 bytes) ∙ take-add 8 8 (drop 24 bytes)
-        ∙ ap (λ l. take 8 (drop 24 bytes) ++ take 8 l) (drop-drop 8 24 bytes)))) in
+    take-add 8 32 bytes
+    ∙ ap (λ l. take 8 bytes ++ l) (take-add 8 24 (drop 8 bytes)
+    ∙ ap (λ l. take 8 (drop 8 bytes) ++ l) (ap (take 24) (drop-drop 8 8 bytes) ∙ take-add 8 16 (drop 16 bytes)
+    ∙ ap (λ l. take 8 (drop 16 bytes) ++ l) (ap (take 16) (drop-drop 8 16 bytes) ∙ take-add 8 8 (drop 24 bytes)
+    ∙ ap (λ l. take 8 (drop 24 bytes) ++ take 8 l) (drop-drop 8 24 bytes)))) in
     ap (λ l. magic ++ (l ++ (number_bytes header.finished ++ (number_bytes header.vertices ++ number_bytes header.cells)))) (single_bytes bytes header begins)
     ∙ ap (λ l. magic ++ (take 8 (drop 8 bytes) ++ (l ++ (number_bytes header.vertices ++ number_bytes header.cells)))) begins.finished_bytes
     ∙ ap (λ l. magic ++ (take 8 (drop 8 bytes) ++ (take 8 (drop 16 bytes) ++ (l ++ number_bytes header.cells)))) begins.vertices_bytes
@@ -109,8 +109,18 @@ module _ (bytes : List ℕ) (header : Header) (globals root vertices cells : Lis
       let a = ap length parts.globals_cut.back_is in
       let b = ap length parts.root_cut.back_is in
       let c = ap length parts.cells_cut in
-      omega (arith, size, size_is, a, b, c, length-drop 40 bytes, length-drop (fields_size header.global_fields) (drop 40 bytes),
-      length-drop (fields_size header.cell_fields) parts.behind_globals, length-drop (header.vertices * vertex_size header.vertex_fields) vertices)
+      omega (
+        arith,
+        size,
+        size_is,
+        a,
+        b,
+        c,
+        length-drop 40 bytes,
+        length-drop (fields_size header.global_fields) (drop 40 bytes),
+        length-drop (fields_size header.cell_fields) parts.behind_globals,
+        length-drop (header.vertices * vertex_size header.vertex_fields) vertices,
+      )
 
   in_limits : (field : HeaderField) (n : ℕ) → n ≡ found bytes field → IsIn (limits field) n
   in_limits field n is = subst (IsIn (limits field)) (sym is) (begins.in_limits field)
@@ -128,8 +138,17 @@ module _ (bytes : List ℕ) (header : Header) (globals root vertices cells : Lis
   -- a saved grid of a header and of what was read behind it
   abbrev pub grid_of : Fields → Fields → List SavedVertex → List Fields → Saved
   grid_of g r vs cs = record {
-    dim = header.dim; max_level = header.max_level; vertex_fields = header.vertex_fields; cell_fields = header.cell_fields; global_fields = header.global_fields;
-    finished = header.finished; globals = g; root = r; vertices = vs; cell_count = header.cells; cells = cs;
+    dim = header.dim;
+    max_level = header.max_level;
+    vertex_fields = header.vertex_fields;
+    cell_fields = header.cell_fields;
+    global_fields = header.global_fields;
+    finished = header.finished;
+    globals = g;
+    root = r;
+    vertices = vs;
+    cell_count = header.cells;
+    cells = cs;
   }
 
   spelled : (g r : Fields) (vs : List SavedVertex) (cs : List Fields) → length bytes ≡ length_of bytes
@@ -140,10 +159,10 @@ module _ (bytes : List ℕ) (header : Header) (globals root vertices cells : Lis
       let behind = fields_bytes header.global_fields g ++ (fields_bytes header.cell_fields r ++ (flat_map (vertex_bytes header.vertex_fields) vs ++ flat_map (fields_bytes header.cell_fields) cs)) in
       let last : cells ≡ flat_map (fields_bytes header.cell_fields) cs = sym (cs_are.bytes_are ∙ take_all (header.cells * fields_size header.cell_fields) cells (cells_end size)) in
       let ends : vertices ≡ flat_map (vertex_bytes header.vertex_fields) vs ++ flat_map (fields_bytes header.cell_fields) cs =
-          sym (take-append-drop m vertices) ∙ ap (λ l. l ++ drop m vertices) (sym vs_are.bytes_are) ∙ ap (λ l. flat_map (vertex_bytes header.vertex_fields) vs ++ l) (sym parts.cells_cut ∙ last) in
+      sym (take-append-drop m vertices) ∙ ap (λ l. l ++ drop m vertices) (sym vs_are.bytes_are) ∙ ap (λ l. flat_map (vertex_bytes header.vertex_fields) vs ++ l) (sym parts.cells_cut ∙ last) in
       let body : drop 40 bytes ≡ behind =
-          cut _ (drop 40 bytes) globals parts.behind_globals parts.globals_cut ∙ ap (λ l. l ++ parts.behind_globals) (sym g_is)
-          ∙ ap (λ l. fields_bytes header.global_fields g ++ l) (cut _ parts.behind_globals root vertices parts.root_cut ∙ ap (λ l. l ++ vertices) (sym r_is) ∙ ap (λ l. fields_bytes header.cell_fields r ++ l) ends) in
+      cut _ (drop 40 bytes) globals parts.behind_globals parts.globals_cut ∙ ap (λ l. l ++ parts.behind_globals) (sym g_is)
+      ∙ ap (λ l. fields_bytes header.global_fields g ++ l) (cut _ parts.behind_globals root vertices parts.root_cut ∙ ap (λ l. l ++ vertices) (sym r_is) ∙ ap (λ l. fields_bytes header.cell_fields r ++ l) ends) in
       sym (take-append-drop 40 bytes) ∙ ap (λ l. l ++ drop 40 bytes) (sym (header_is bytes header begins)) ∙ ap (λ l. bytes_of_header header ++ l) body
       ∙ ap (λ n. (magic ++ ((version ∷ header.dim ∷ header.max_level ∷ header.vertex_fields ∷ header.cell_fields ∷ header.global_fields ∷ 0 ∷ 0 ∷ []) ++ (number_bytes header.finished ++ (number_bytes n ++ number_bytes header.cells)))) ++ behind) (sym vs_are.count_is)
 

@@ -1,5 +1,5 @@
 -- The fields of a header, one after another.
-use Rattle.std.proofs.Common.{◌≡◌, ℕ, zero, suc, ◌+◌, ◌<◌, ◌≤◌, List, [], ◌∷◌, ◌++◌, length, take, map, get_or, Option, Some, None, refl, ap, sym, subst, ◌∙◌, arith}
+use Rattle.std.proofs.Common.{◌≡◌, ℕ, zero, suc, ◌+◌, ◌<◌, ◌≤◌, List, [], ◌∷◌, ◌++◌, length, take, map, get_or, Some, None, refl, ap, sym, subst, ◌∙◌, arith}
 use Rattle.std.specs.List.{AllByRecursion}
 use Rattle.std.proofs.lemmas.List.{take_more, take_all}
 use Rattle.pe_stream.specs.declared.fault.HeaderField.{HeaderField}
@@ -7,7 +7,7 @@ use Rattle.pe_stream.specs.declared.fault.HeaderField.TheVariants.{Dim, MaxLevel
 use Rattle.pe_stream.specs.declared.fault.StreamFault.{StreamFault}
 use Rattle.pe_stream.specs.declared.range.Range.{Range}
 use Rattle.pe_stream.specs.Ranges.{IsIn, limits}
-use Rattle.pe_stream.specs.Faults.{found, first_of, out_of_range, header_fields, AreFoundIn, first_out_of_range}
+use Rattle.pe_stream.specs.Faults.{found, first_of, out_of_range, header_fields, first_out_of_range}
 
 -- a field is in its range
 pub record Passes (ranges : HeaderField → Range) (bytes : List ℕ) (field : HeaderField) : Type 0 where

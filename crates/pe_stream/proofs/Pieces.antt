@@ -1,7 +1,7 @@
 -- Things that are read and written, one after another.
-use Rattle.std.proofs.Common.{◌≡◌, ℕ, suc, ◌+◌, ◌-◌, ◌*◌, ◌<◌, ◌≤◌, Bool, true, List, [], ◌∷◌, ◌++◌, length, take, drop, get_or, All, sym, ap, subst, ◌∙◌, append_assoc, arith, mul-le-mul_right}
+use Rattle.std.proofs.Common.{◌≡◌, ℕ, ◌+◌, ◌*◌, ◌≤◌, List, [], ◌∷◌, ◌++◌, length, take, drop, get_or, All, sym, ap, subst, ◌∙◌, append_assoc, arith}
 use Rattle.std.specs.List.{flat_map}
-use Rattle.std.proofs.lemmas.List.{take_more, length-append, length-drop, drop-drop, get_or-drop, get_or-take}
+use Rattle.std.proofs.lemmas.List.{length-append, drop-drop, get_or-drop, get_or-take}
 use Rattle.std.proofs.lemmas.List.Elements.{All-push}
 use Rattle.std.proofs.Math.Seq.{take-add}
 use Rattle.std.specs.Prelude.{slice_index}
@@ -17,12 +17,6 @@ pub record IsReadSoFar {X : Type 0} (spelled : X → List ℕ) (Is : X → Type 
   pub rest_is : rest ≡ drop (i * size) bytes
   pub count_is : length items ≡ i
   pub each : All Is items
-
--- there is room for one more
-pub room_for : (size count i : ℕ) (bytes rest : List ℕ) → i < count → count * size ≤ length bytes → rest ≡ drop (i * size) bytes → size ≤ length rest
-room_for size count i bytes rest below long is =
-    let some : (i + 1) * size ≤ count * size = mul-le-mul_right size (omega arith) in
-    omega (arith, some, row_more i size, length-drop (i * size) bytes, ap length is)
 
 -- what is read next: the front of what is left, of the size of one thing
 pub record Splits (size : ℕ) (rest front back : List ℕ) : Type 0 where
@@ -52,15 +46,6 @@ read_one_more spelled Is size bytes items after rest front back i x split is spe
 pub next_state : (size i : ℕ) (bytes rest front back : List ℕ) → 1 ≤ size → Splits size rest front back → rest ≡ drop (i * size) bytes → slice_index front 0 ≡ state_at size bytes i
 next_state size i bytes rest front back some split is =
     ap (λ l. get_or l 0 0) split.front_is ∙ get_or-take size rest 0 0 (omega arith) ∙ ap (λ l. get_or l 0 0) is ∙ get_or-drop (i * size) bytes 0 0 ∙ ap (λ n. get_or bytes n 0) (omega arith)
-
--- one more has its bytes at the end
-pub written_one_more : {X : Type 0} (spelled : X → List ℕ) (items : List X) (i : ℕ) (d x : X) (old out new : List ℕ) → i < length items → x ≡ get_or items i d
-    → out ≡ old ++ flat_map spelled (take i items) → new ≡ out ++ spelled x → new ≡ old ++ flat_map spelled (take (i + 1) items)
-written_one_more spelled items i d x old out new inside here so_far next =
-    next ∙ ap (λ front. front ++ spelled x) so_far
-    ∙ append_assoc old (flat_map spelled (take i items)) (spelled x)
-    ∙ ap (λ end. old ++ end)
-    (sym (ap (flat_map spelled) (take_more items i d inside ∙ ap (λ y. take i items ++ y ∷ []) (sym here)) ∙ flat_map-push spelled (take i items) x))
 
 -- five pieces that are written one behind another
 pub five_written : (old a b c d e one two three four five : List ℕ) → one ≡ old ++ a → two ≡ one ++ b → three ≡ two ++ c → four ≡ three ++ d → five ≡ four ++ e

@@ -1,5 +1,5 @@
 -- How many bytes things have, and where those of vertices lie.
-use Rattle.std.proofs.Common.{◌≡◌, ℕ, zero, suc, ◌+◌, ◌-◌, ◌*◌, ◌<◌, ◌≤◌, ℤ, Bool, true, IsTrue, List, [], ◌∷◌, ◌++◌, length, take, drop, get_or, All, refl, sym, ap, ◌∙◌, append_assoc, arith}
+use Rattle.std.proofs.Common.{◌≡◌, ℕ, zero, suc, ◌+◌, ◌*◌, ◌<◌, ◌≤◌, true, IsTrue, List, [], ◌∷◌, ◌++◌, length, take, All, refl, ap, ◌∙◌, append_assoc, arith}
 use Rattle.std.specs.Prelude.{slice_index}
 use Rattle.std.specs.List.{flat_map, AllByRecursion}
 use Rattle.std.proofs.lemmas.List.{length-take, length-append, get_or-append-add}
@@ -13,7 +13,7 @@ use Rattle.pe_stream.specs.declared.saved.SavedVertex.{SavedVertex}
 use Rattle.pe_stream.specs.Layout.{signed_bytes, fields_bytes, fields_size, vertex_bytes, vertex_size}
 use Rattle.pe_stream.specs.Saved.{is_at_rest, IsPayload}
 use Rattle.pe_stream.specs.Faults.{is_saved_state, state_at}
-use Rattle.pe_stream.specs.Parts.{IsReadPayload, IsReadVertex}
+use Rattle.pe_stream.specs.Parts.{IsReadVertex}
 
 length_list : {X : Type 0} (spelled : X → List ℕ) (size : ℕ) (xs : List X) → AllByRecursion (λ x. length (spelled x) ≡ size) xs → length (flat_map spelled xs) ≡ length xs * size
 length_list spelled size [] all = omega arith
@@ -51,8 +51,8 @@ states_list count [] tail k few all below = absurd (omega arith)
 states_list count (v ∷ vs) tail zero few all below =
     let start : 0 * vertex_size count ≡ 0 = omega arith in
     let front : slice_index (flat_map (vertex_bytes count) (v ∷ vs) ++ tail) (0 * vertex_size count) ≡ state_number v.state =
-        ap (λ l. slice_index (l ++ tail) (0 * vertex_size count)) (flat_map-cons (vertex_bytes count) v vs)
-        ∙ ap (λ n. slice_index ((vertex_bytes count v ++ flat_map (vertex_bytes count) vs) ++ tail) n) start in
+    ap (λ l. slice_index (l ++ tail) (0 * vertex_size count)) (flat_map-cons (vertex_bytes count) v vs)
+    ∙ ap (λ n. slice_index ((vertex_bytes count v ++ flat_map (vertex_bytes count) vs) ++ tail) n) start in
     ap is_saved_state front ∙ saved_state v.state all.0.saved.state
 states_list count (v ∷ vs) tail (suc k) few all below =
     let size = vertex_size count in
@@ -60,9 +60,9 @@ states_list count (v ∷ vs) tail (suc k) few all below =
     let long = length_vertex count v few all.0.payload in
     let place : suc k * size ≡ length (vertex_bytes count v) + k * size = (let row : suc k * size ≡ size + k * size = grind arith in omega (arith, row, long)) in
     let moved : slice_index (flat_map (vertex_bytes count) (v ∷ vs) ++ tail) (suc k * size) ≡ slice_index rest (k * size) =
-        ap (λ l. slice_index l (suc k * size)) (ap (λ l. l ++ tail) (flat_map-cons (vertex_bytes count) v vs) ∙ append_assoc (vertex_bytes count v) (flat_map (vertex_bytes count) vs) tail)
-        ∙ ap (λ n. slice_index (vertex_bytes count v ++ rest) n) place
-        ∙ get_or-append-add (vertex_bytes count v) rest (k * size) 0 in
+    ap (λ l. slice_index l (suc k * size)) (ap (λ l. l ++ tail) (flat_map-cons (vertex_bytes count) v vs) ∙ append_assoc (vertex_bytes count v) (flat_map (vertex_bytes count) vs) tail)
+    ∙ ap (λ n. slice_index (vertex_bytes count v ++ rest) n) place
+    ∙ get_or-append-add (vertex_bytes count v) rest (k * size) 0 in
     ap is_saved_state moved ∙ states_list count vs tail k few all.1 (omega arith)
 
 -- the states of vertices are found where they lie

@@ -1,11 +1,11 @@
 -- No bytes are those of two saved grids.
-use Rattle.std.proofs.Common.{◌≡◌, ℕ, zero, suc, ◌+◌, ◌-◌, ◌^◌, ◌<◌, ◌≤◌, ℤ, pos, FitsSigned, List, [], ◌∷◌, ◌++◌, length, take, drop, get_or, All, refl, sym, ap, subst, ◌∙◌, append_assoc, arith}
+use Rattle.std.proofs.Common.{◌≡◌, ℕ, zero, suc, ◌^◌, ◌<◌, ℤ, pos, FitsSigned, List, [], ◌∷◌, ◌++◌, length, take, drop, All, refl, sym, ap, ◌∙◌, append_assoc, arith}
 use Rattle.std.specs.List.{flat_map, AllByRecursion}
 use Rattle.std.specs.Int.{w64, cast_unsigned, cast_signed}
 use Rattle.std.specs.Prelude.{slice_index}
 use Rattle.std.proofs.Math.Facts.{Fits-of_z, to_z-of_z}
-use Rattle.std.proofs.lemmas.List.{append-nil, length-take, length-drop, take-append-drop}
-use Rattle.std.proofs.lemmas.List.Elements.{All-take, All-drop, recursion_from_All}
+use Rattle.std.proofs.lemmas.List.{length-take, length-drop, take-append-drop}
+use Rattle.std.proofs.lemmas.List.Elements.{All-take, recursion_from_All}
 use Rattle.std.proofs.lemmas.List.Concat.{flat_map-cons}
 use Rattle.byteorder.specs.Endian.{little_number}
 use Rattle.byteorder.specs.Numbers.{little_number-reads_back}
@@ -15,7 +15,6 @@ use Rattle.pe_base.specs.declared.state.State.TheVariants.{Unrefined, Refinement
 use Rattle.pe_base.specs.Life.Numbers.{state_number}
 use Rattle.pe_stream.specs.declared.saved.SavedVertex.{SavedVertex}
 use Rattle.pe_stream.specs.Layout.{number_bytes, signed_bytes, fields_bytes, vertex_bytes}
-use Rattle.pe_stream.specs.Saved.{IsPayload}
 use Rattle.pe_stream.specs.Parts.{IsReadPayload, IsReadVertex}
 
 -- what a front of the bytes says, and what is left of them, is said but once
@@ -38,7 +37,7 @@ list_once spelled Is once [] (y ∷ ys) r t len xs_are ys_are e = absurd (omega 
 list_once spelled Is once (x ∷ xs) [] r t len xs_are ys_are e = absurd (omega (arith, len))
 list_once spelled Is once (x ∷ xs) (y ∷ ys) r t len xs_are ys_are e =
     let moved = sym (append_assoc (spelled x) (flat_map spelled xs) r) ∙ ap (λ l. l ++ r) (sym (flat_map-cons spelled x xs)) ∙ e
-        ∙ ap (λ l. l ++ t) (flat_map-cons spelled y ys) ∙ append_assoc (spelled y) (flat_map spelled ys) t in
+    ∙ ap (λ l. l ++ t) (flat_map-cons spelled y ys) ∙ append_assoc (spelled y) (flat_map spelled ys) t in
     let first = once x y (flat_map spelled xs ++ r) (flat_map spelled ys ++ t) xs_are.0 ys_are.0 moved in
     let rest = list_once spelled Is once xs ys r t (omega (arith, len)) xs_are.1 ys_are.1 first.1 in
     (ap (λ z. z ∷ xs) first.0 ∙ ap (λ l. y ∷ l) rest.0, rest.1)
@@ -61,10 +60,10 @@ fields_once count f g r t f_is g_is e =
     let Zero : ℤ → Type 0 = λ z. z ≡ pos 0 in
     let lengths : length f.a ≡ length g.a = f_is.payload.eight ∙ sym g_is.payload.eight in
     let both = all_once signed_bytes (FitsSigned w64) signed_once (take count f.a) (take count g.a) r t
-        (omega (arith, length-take count f.a, length-take count g.a, lengths))
-        (All-take (FitsSigned w64) count f.a f_is.payload.fit) (All-take (FitsSigned w64) count g.a g_is.payload.fit) e in
+    (omega (arith, length-take count f.a, length-take count g.a, lengths))
+    (All-take (FitsSigned w64) count f.a f_is.payload.fit) (All-take (FitsSigned w64) count g.a g_is.payload.fit) e in
     let rest = zeros_once (drop count f.a) (drop count g.a) (omega (arith, length-drop count f.a, length-drop count g.a, lengths))
-        (recursion_from_All Zero (drop count f.a) f_is.padded) (recursion_from_All Zero (drop count g.a) g_is.padded) in
+    (recursion_from_All Zero (drop count f.a) f_is.padded) (recursion_from_All Zero (drop count g.a) g_is.padded) in
     let numbers : f.a ≡ g.a = sym (take-append-drop count f.a) ∙ ap (λ l. l ++ drop count f.a) both.0 ∙ ap (λ l. take count g.a ++ l) rest ∙ take-append-drop count g.a in
     (ap (λ a. let fields : Fields = record { a = a } in fields) numbers, both.1)
 
@@ -89,6 +88,8 @@ state_in-state_number Erasing = refl
 pub vertex_once : (count : ℕ) → SaidOnce (vertex_bytes count) (IsReadVertex count)
 vertex_once count v w r t v_is w_is e =
     let state : v.state ≡ w.state = sym (state_in-state_number v.state) ∙ ap (λ l. state_in (slice_index l 0)) e ∙ state_in-state_number w.state in
-    let both = fields_once count v.fields w.fields r t (record { padded = v_is.saved.fields; payload = v_is.payload }) (record { padded = w_is.saved.fields; payload = w_is.payload }) (ap (drop 1) e) in
-    (ap (λ s. let vertex : SavedVertex = record { state = s; fields = v.fields } in vertex) state
-    ∙ ap (λ f. let vertex : SavedVertex = record { state = w.state; fields = f } in vertex) both.0, both.1)
+    let both = fields_once count v.fields w.fields r t (record { padded = v_is.saved.fields; payload = v_is.payload }) (record { padded = w_is.saved.fields; payload = w_is.payload }) (ap (drop 1) e) in (
+      ap (λ s. let vertex : SavedVertex = record { state = s; fields = v.fields } in vertex) state
+          ∙ ap (λ f. let vertex : SavedVertex = record { state = w.state; fields = f } in vertex) both.0,
+      both.1,
+    )

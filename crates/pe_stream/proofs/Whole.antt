@@ -1,10 +1,9 @@
 -- A saved grid is the only one of its bytes, and its bytes have no fault.
-use Rattle.std.proofs.Common.{◌≡◌, ℕ, zero, suc, ◌+◌, ◌-◌, ◌*◌, ◌^◌, ◌<◌, ◌≤◌, Bool, true, false, not, cond, eqb, ltb, List, [], ◌∷◌, ◌++◌, length, take, drop, get_or, map, All, Option, Some, None, option_map, refl, sym, ap, subst, ◌∙◌, append_assoc, arith}
+use Rattle.std.proofs.Common.{◌≡◌, ℕ, zero, suc, ◌+◌, ◌*◌, ◌<◌, ◌≤◌, true, not, cond, eqb, List, [], ◌∷◌, ◌++◌, length, drop, get_or, map, All, Option, None, option_map, refl, sym, ap, subst, ◌∙◌, arith}
 use Rattle.std.specs.Prelude.{slice_index}
-use Rattle.std.specs.List.{flat_map, AllByRecursion}
+use Rattle.std.specs.List.{flat_map}
 use Rattle.std.proofs.lemmas.Bool.{le-leb, eq-eqb, ne_eqb}
 use Rattle.std.proofs.lemmas.List.{append-nil, length-append, drop_at, drop-drop}
-use Rattle.byteorder.specs.Endian.{little_number}
 use Rattle.byteorder.specs.Numbers.{little_number-reads_back}
 use Rattle.pe_base.specs.declared.fields.Fields.{Fields}
 use Rattle.pe_stream.specs.declared.expect.Expect.{Expect}
@@ -15,9 +14,9 @@ use Rattle.pe_stream.specs.declared.fault.StreamFault.TheVariants as faults
 use Rattle.pe_stream.specs.declared.range.Range.{Range}
 use Rattle.pe_stream.specs.declared.saved.SavedVertex.{SavedVertex}
 use Rattle.pe_stream.specs.declared.saved.Saved.{Saved}
-use Rattle.pe_stream.specs.Layout.{number_bytes, fields_bytes, fields_size, vertex_bytes, vertex_size, stream_bytes}
+use Rattle.pe_stream.specs.Layout.{fields_bytes, fields_size, vertex_bytes, vertex_size, stream_bytes}
 use Rattle.pe_stream.specs.Ranges.{is_in, IsIn, range_of, field_of, IsInRanges}
-use Rattle.pe_stream.specs.Saved.{IsSaved, IsHeld, IsSavedVertex, IsPadded, IsPayload}
+use Rattle.pe_stream.specs.Saved.{IsSaved, IsHeld}
 use Rattle.pe_stream.specs.Faults.{found, vertices_found, cells_found, vertices_at, length_of, is_saved_state, state_at, unless, short, out_of_range, other_start, other_length, first_unsaved, first_of, other_header, first_out_of_range, first_fault, header_fields}
 use Rattle.pe_stream.specs.Parts.{IsReadPayload, IsReadVertex}
 use Rattle.pe_stream.proofs.Firsts.{first_none, find-none}
@@ -55,13 +54,22 @@ body_once gf cf vf s t s_is t_is vertices cells e =
     let b = fields_once cf s.root t.root _ _ s_is.root t_is.root a.1 in
     let c = all_once (vertex_bytes vf) (IsReadVertex vf) (vertex_once vf) s.vertices t.vertices _ _ vertices s_is.vertices t_is.vertices b.1 in
     let d = all_once (fields_bytes cf) (IsReadPayload cf) (fields_once cf) s.cells t.cells [] [] cells s_is.cells t_is.cells
-        (append-nil (flat_map (fields_bytes cf) s.cells) ∙ c.1 ∙ sym (append-nil (flat_map (fields_bytes cf) t.cells))) in
+    (append-nil (flat_map (fields_bytes cf) s.cells) ∙ c.1 ∙ sym (append-nil (flat_map (fields_bytes cf) t.cells))) in
     record { globals = a.0; root = b.0; vertices = c.0; cells = d.0 }
 
 made : (dim max_level vertex_fields cell_fields global_fields finished : ℕ) → Fields → Fields → List SavedVertex → ℕ → List Fields → Saved
 made dim max_level vertex_fields cell_fields global_fields finished globals root vertices cell_count cells = record {
-  dim = dim; max_level = max_level; vertex_fields = vertex_fields; cell_fields = cell_fields; global_fields = global_fields; finished = finished;
-  globals = globals; root = root; vertices = vertices; cell_count = cell_count; cells = cells;
+  dim = dim;
+  max_level = max_level;
+  vertex_fields = vertex_fields;
+  cell_fields = cell_fields;
+  global_fields = global_fields;
+  finished = finished;
+  globals = globals;
+  root = root;
+  vertices = vertices;
+  cell_count = cell_count;
+  cells = cells;
 }
 
 same_made : (a b c d e f a' b' c' d' e' f' : ℕ) (g r g' r' : Fields) (v v' : List SavedVertex) (n n' : ℕ) (l l' : List Fields)
@@ -81,10 +89,10 @@ saved_once s t s_is s_held t_is t_held e =
     let gf : s.global_fields ≡ t.global_fields = ap (λ b. slice_index b 13) e in
     let kept : length s.cells ≡ length t.cells = s_is.cell_count ∙ ap (λ n. cond (eqb n 0) 0 s.cell_count) cf ∙ ap (λ n. cond (eqb t.cell_fields 0) 0 n) cells.0 ∙ sym t_is.cell_count in
     let t_body : IsBody s.global_fields s.cell_fields s.vertex_fields t =
-        subst (λ n. IsBody n s.cell_fields s.vertex_fields t) (sym gf)
-        (subst (λ n. IsBody t.global_fields n s.vertex_fields t) (sym cf) (subst (λ n. IsBody t.global_fields t.cell_fields n t) (sym vf) (body_of t t_is t_held))) in
+    subst (λ n. IsBody n s.cell_fields s.vertex_fields t) (sym gf)
+    (subst (λ n. IsBody t.global_fields n s.vertex_fields t) (sym cf) (subst (λ n. IsBody t.global_fields t.cell_fields n t) (sym vf) (body_of t t_is t_held))) in
     let same : body_bytes t.global_fields t.cell_fields t.vertex_fields t ≡ body_bytes s.global_fields s.cell_fields s.vertex_fields t =
-        ap (λ n. body_bytes n t.cell_fields t.vertex_fields t) (sym gf) ∙ ap (λ n. body_bytes s.global_fields n t.vertex_fields t) (sym cf) ∙ ap (λ n. body_bytes s.global_fields s.cell_fields n t) (sym vf) in
+    ap (λ n. body_bytes n t.cell_fields t.vertex_fields t) (sym gf) ∙ ap (λ n. body_bytes s.global_fields n t.vertex_fields t) (sym cf) ∙ ap (λ n. body_bytes s.global_fields s.cell_fields n t) (sym vf) in
     let body = body_once s.global_fields s.cell_fields s.vertex_fields s t (body_of s s_is s_held) t_body vertices.0 kept (cells.1 ∙ same) in
     same_made s.dim s.max_level s.vertex_fields s.cell_fields s.global_fields s.finished t.dim t.max_level t.vertex_fields t.cell_fields t.global_fields t.finished
     s.globals s.root t.globals t.root s.vertices t.vertices s.cell_count t.cell_count s.cells t.cells
@@ -152,8 +160,8 @@ length_passes : (s : Saved) → IsSaved s → IsHeld s → other_length (stream_
 length_passes s saved held =
     let b = stream_bytes s in
     let size : length_of b ≡ ((40 + fields_size s.global_fields) + fields_size s.cell_fields) + length s.vertices * vertex_size s.vertex_fields + s.cell_count * fields_size s.cell_fields =
-        ap (λ n. ((40 + fields_size s.global_fields) + fields_size s.cell_fields) + n * vertex_size s.vertex_fields + cells_found b * fields_size s.cell_fields) (vertices_found-is s held)
-        ∙ ap (λ n. ((40 + fields_size s.global_fields) + fields_size s.cell_fields) + length s.vertices * vertex_size s.vertex_fields + n * fields_size s.cell_fields) (cells_found-is s held) in
+    ap (λ n. ((40 + fields_size s.global_fields) + fields_size s.cell_fields) + n * vertex_size s.vertex_fields + cells_found b * fields_size s.cell_fields) (vertices_found-is s held)
+    ∙ ap (λ n. ((40 + fields_size s.global_fields) + fields_size s.cell_fields) + length s.vertices * vertex_size s.vertex_fields + n * fields_size s.cell_fields) (cells_found-is s held) in
     ap (λ t. unless t (faults.Length (length_of b) (length b))) (eq-eqb (length b) (length_of b) (length-stream s saved held ∙ sym size))
 
 states_pass : (s : Saved) → IsSaved s → IsHeld s → first_unsaved (stream_bytes s) ≡ None
@@ -164,14 +172,14 @@ states_pass s saved held =
     let cf = s.cell_fields in
     let tail = flat_map (fields_bytes cf) s.cells in
     let lie : drop (vertices_at b) b ≡ flat_map (vertex_bytes vf) s.vertices ++ tail =
-        sym (drop-drop (fields_size cf) (40 + fields_size gf) b)
-        ∙ ap (drop (fields_size cf)) (sym (drop-drop (fields_size gf) 40 b)
-            ∙ drop_at (fields_bytes gf s.globals) (fields_bytes cf s.root ++ (flat_map (vertex_bytes vf) s.vertices ++ tail)) (fields_size gf) (length_fields gf s.globals (saved.header GlobalFields).1 held.globals))
-        ∙ drop_at (fields_bytes cf s.root) (flat_map (vertex_bytes vf) s.vertices ++ tail) (fields_size cf) (length_fields cf s.root (saved.header CellFields).1 held.root) in
+    sym (drop-drop (fields_size cf) (40 + fields_size gf) b)
+    ∙ ap (drop (fields_size cf)) (sym (drop-drop (fields_size gf) 40 b)
+    ∙ drop_at (fields_bytes gf s.globals) (fields_bytes cf s.root ++ (flat_map (vertex_bytes vf) s.vertices ++ tail)) (fields_size gf) (length_fields gf s.globals (saved.header GlobalFields).1 held.globals))
+    ∙ drop_at (fields_bytes cf s.root) (flat_map (vertex_bytes vf) s.vertices ++ tail) (fields_size cf) (length_fields cf s.root (saved.header CellFields).1 held.root) in
     let body = body_of s saved held in
     let each : (k : ℕ) → k < vertices_found b → is_saved_state (state_at (vertex_size vf) (drop (vertices_at b) b) k) ≡ true =
-        λ k below. ap (λ l. is_saved_state (state_at (vertex_size vf) l k)) lie
-            ∙ saved_states vf s.vertices tail k (saved.header VertexFields).1 body.vertices (omega (arith, below, vertices_found-is s held)) in
+    λ k below. ap (λ l. is_saved_state (state_at (vertex_size vf) l k)) lie
+    ∙ saved_states vf s.vertices tail k (saved.header VertexFields).1 body.vertices (omega (arith, below, vertices_found-is s held)) in
     ap (option_map (λ k. faults.State k (state_at (vertex_size vf) (drop (vertices_at b) b) k)))
     (find-none (λ k. not (is_saved_state (state_at (vertex_size vf) (drop (vertices_at b) b) k))) 0 (vertices_found b) (λ k above below. ap not (each k (omega arith))))
 

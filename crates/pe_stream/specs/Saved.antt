@@ -1,5 +1,5 @@
 -- What a saved grid is, so that it has bytes of its own.
-use Rattle.std.specs.Prelude.{◌≡◌, ℕ, ℤ, pos, ◌^◌, ◌<◌, ◌≤◌, ◌==◌, Bool, true, false, IsTrue, List, length, drop, All, FitsSigned, if◌then◌else◌, Option}
+use Rattle.std.specs.Prelude.{◌≡◌, ℕ, pos, ◌^◌, ◌<◌, ◌≤◌, ◌==◌, Bool, true, false, IsTrue, List, length, drop, All, FitsSigned, if◌then◌else◌, Option}
 use Rattle.std.specs.Int.{w64}
 use Rattle.pe_base.specs.declared.fields.Fields.{Fields}
 use Rattle.pe_base.specs.declared.state.State.{State}

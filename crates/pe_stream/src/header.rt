@@ -99,11 +99,7 @@ pub(crate) fn check_start(bytes: &[u8]) -> Result<(), StreamFault>
 }
 
 /// Looks whether a field is in its range.
-fn check_field(
-    field: HeaderField,
-    bytes: &[u8],
-    expect: Option<&Expect>,
-) -> Result<(), StreamFault>
+fn check_field(field: HeaderField, bytes: &[u8], expect: Option<&Expect>) -> Result<(), StreamFault>
     requires { header_size ≤ length bytes.now }
     ensures test { Tests (out_of_range (range_of (option_copied expect.entry)) bytes.now field) result }
     ensures expected { OnOk result (IsIn (range_of (option_copied expect.entry) field) (found bytes.now field)) }

@@ -11,17 +11,13 @@ mod opening;
 mod parts;
 mod range;
 mod reading;
-
-
 mod saved;
 #[cfg(test)]
 mod tests;
 mod writing;
 
-
 pub use expect::Expect;
 pub use fault::{HeaderField, StreamFault};
-
 pub use laws::one_spelling;
 pub use reading::read_stream;
 pub use saved::{Saved, SavedVertex};

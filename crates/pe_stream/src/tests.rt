@@ -115,13 +115,19 @@ fn other_lengths(rt: HostRuntime) {
     let bytes = plain();
     for n in 0..69 {
         let expected = if n < 40 { 40 } else { 69 };
-        assert_eq!(rt; fault_of(alloc, &bytes[..n], None), length(expected, n as u64));
+        assert_eq!(rt;
+            fault_of(alloc, &bytes[..n], None),
+            length(expected, n as u64)
+        );
     }
     let mut longer = [0; 70];
     longer[..69].copy_from_slice(&bytes);
     assert_eq!(rt; fault_of(alloc, &longer, None), length(69, 70));
     let many = with_number(24, u64::MAX);
-    assert_eq!(rt; fault_of(alloc, &many, None), length(18_446_744_073_709_551_655, 69));
+    assert_eq!(rt;
+        fault_of(alloc, &many, None),
+        length(18_446_744_073_709_551_655, 69)
+    );
 }
 
 #[test]
@@ -168,7 +174,10 @@ fn headers_out_of_their_limits(rt: HostRuntime) {
         let mut bytes = plain();
         assert!(rt; place < 69);
         bytes[place] = byte;
-        assert_eq!(rt; fault_of(alloc, &bytes, None), header(field, u64::from(byte)));
+        assert_eq!(rt;
+            fault_of(alloc, &bytes, None),
+            header(field, u64::from(byte))
+        );
     }
     let mut bytes = plain();
     bytes[14] = 1;

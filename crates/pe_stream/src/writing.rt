@@ -56,7 +56,9 @@ fn size_of(saved: &Saved) -> usize {
     let numbers = fields_size(saved.global_fields) + fields_size(saved.cell_fields);
     let vertices = vertex_size(saved.vertex_fields).saturating_mul(saved.vertices.as_slice().len());
     let cells = fields_size(saved.cell_fields).saturating_mul(saved.cells.as_slice().len());
-    (HEADER_SIZE + numbers).saturating_add(vertices).saturating_add(cells)
+    (HEADER_SIZE + numbers)
+        .saturating_add(vertices)
+        .saturating_add(cells)
 }
 
 /// The bytes of a saved grid, in time and memory that are linear in them.

@@ -24,3 +24,5 @@ pub mod Apart
 pub mod Streams
 -- what is moved
 pub mod Traffic
+-- how long a stack is at most
+pub mod Short

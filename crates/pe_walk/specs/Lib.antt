@@ -16,7 +16,7 @@ pub mod Outlooks
 pub mod StreamLaws
 -- what is moved, and how much is out
 pub mod Traffic
--- grids for the worked rows
+-- grids and streams for the worked rows
 pub mod Grids
 -- the walk on stacks as a machine of lists
 pub mod Machine

@@ -10,8 +10,8 @@ use Rattle.pe_base.specs.Steps.Stacks.{is_stack}
 use Rattle.pe_base.specs.Walk.Streams.{walked_children, walked_cells}
 use Rattle.pe_stacks.specs.Holdings.{Holdings, stack_at, stack_count, items_at, len_at}
 use Rattle.pe_walk.specs.Laws.{IsCell}
-use Rattle.pe_walk.specs.Tokens.{Outlook, Tokens, source, target, cell_source, cell_target, load, store, walk, traverse}
-use Rattle.pe_walk.specs.Takings.{loads_of, stores_of, left_cells, Grown}
+use Rattle.pe_walk.specs.Tokens.{Outlook, Tokens, source, target, cell_source, cell_target, load, store, walk, begun, traverse}
+use Rattle.pe_walk.specs.Takings.{loads_of, stores_of, left_cells, Grown, MayTraverse}
 use Rattle.pe_walk.specs.Apart.{IsApart}
 
 module _ (o : Outlook) where
@@ -124,6 +124,9 @@ pub record KeepsCounting (o : Outlook) : Type 0 where
 
 abbrev pub StepsKeepCounting : Type 0
 StepsKeepCounting = (o : Outlook) → IsDim o.axes → KeepsCounting o
+
+abbrev pub BeginsCounting : Type 0
+BeginsCounting = (o : Outlook) (greatest : ℕ) (t : Tokens) → MayTraverse o greatest t → OnlyCounting o (begun o t)
 
 abbrev pub StacksAreShort : Type 0
 StacksAreShort = (o : Outlook) (walked : Place → Bool) (greatest : ℕ) (t : Tokens) → IsDim o.axes → Grown o walked greatest → IsApart o t → OnlyCounting o t

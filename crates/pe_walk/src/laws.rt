@@ -14,6 +14,7 @@ ghost use Rattle.pe_walk.specs.Laws.{NeighboursAgree, FacesAreOneWay, OneFaceOnE
 ghost use Rattle.pe_walk.specs.TokenLaws.{WalkOfACell, LoadsAreDue, LoadedAround, WholeTraversal, TurningRound, TurningAround};
 ghost use Rattle.pe_walk.specs.Outlooks.{ForecastFits, StoredFits};
 ghost use Rattle.pe_walk.specs.StreamLaws.{FitsTurned, StreamsAreOne, ReadsAreStreams, NextIsFormed, WritesAreStreams};
+ghost use Rattle.pe_walk.specs.Traffic.{TrafficOfACell, TrafficOfATraversal, LoadsPerCell, CountsPerCell, FewVertices, StepsKeepCounting, BeginsCounting, StacksAreShort};
 ghost use Rattle.pe_walk.specs.Apart.{StepsKeepApart, BeginsApart, CornersByCounting};
 
 /// The cells of the tree are the places of cells.
@@ -130,4 +131,21 @@ pub fn streams_of_grids()
     ensures reads { ReadsAreStreams }
     ensures formed { NextIsFormed }
     ensures writes { WritesAreStreams }
+{}
+
+/// What the walk of a cell and a traversal move, make and give up, by their loads and stores; how much is out at most; and
+/// no count rises by more than one for each corner of each walked cell.
+pub fn traffic()
+    ensures cell { TrafficOfACell }
+    ensures traversal { TrafficOfATraversal }
+    ensures loads { LoadsPerCell }
+    ensures counts { CountsPerCell }
+{}
+
+/// Vertices that count are at most as many as the walked cells, and no stack is longer.
+pub fn stacks_are_short()
+    ensures few { FewVertices }
+    ensures kept { StepsKeepCounting }
+    ensures begun { BeginsCounting }
+    ensures short { StacksAreShort }
 {}

@@ -32,10 +32,10 @@ use Rattle.pe_walk.proofs.Tokens.Traversals.{lent_items, lent_stacks}
 abbrev pub one_if : Bool → ℕ
 one_if b = cond b 1 0
 
-abbrev there : Place → Stack Place → ℕ
+abbrev pub there : Place → Stack Place → ℕ
 there place stack = count_by (λ other. is_same other place) stack.items
 
-set_past : {X : Type 0} (xs : List X) (i : ℕ) (y : X) → length xs ≤ i → set xs i y ≡ xs
+pub set_past : {X : Type 0} (xs : List X) (i : ℕ) (y : X) → length xs ≤ i → set xs i y ≡ xs
 set_past [] i y h = refl
 set_past (x ∷ xs) zero y h = absurd (omega arith)
 set_past (x ∷ xs) (suc i) y h = ap (λ ys. x ∷ ys) (set_past xs i y (omega arith))

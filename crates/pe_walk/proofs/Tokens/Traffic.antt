@@ -455,7 +455,7 @@ flat_length f g k (x ∷ xs) h =
 corners_of : (axes : ℕ) (cell : Place) → length (corner_touches axes cell) ≡ 2 ^ axes
 corners_of axes cell = length-map (range_with_len 0 (2 ^ axes)) (λ k. record { vertex = corner axes cell k; cell = cell }) ∙ length-range_with_len 0 (2 ^ axes)
 
-loads_length : (o : Outlook) (levels : ℕ) (cell : Place) → length (loads_of o levels cell) ≡ 2 ^ o.axes * length (walked_cells o.axes o.way o.walks levels cell)
+pub loads_length : (o : Outlook) (levels : ℕ) (cell : Place) → length (loads_of o levels cell) ≡ 2 ^ o.axes * length (walked_cells o.axes o.way o.walks levels cell)
 loads_length o zero cell = length-reverse (corner_touches o.axes cell) ∙ corners_of o.axes cell ∙ sym (mul-one (2 ^ o.axes))
 loads_length o (suc levels) cell =
     let kids = walked_children o.axes o.way o.walks cell in
@@ -547,7 +547,7 @@ given_up_counts (k ∷ ks) held =
     let more = given_up_counts ks (given_up held) in
     record { same = more.same; fresh = more.fresh; spent = omega (arith, more.spent); out = omega (arith, more.out); most = more.most }
 
-count_none : {X : Type 0} (p : X → Bool) (xs : List X) → Each (λ x. p x ≡ false) xs → count_by p xs ≡ 0
+pub count_none : {X : Type 0} (p : X → Bool) (xs : List X) → Each (λ x. p x ≡ false) xs → count_by p xs ≡ 0
 count_none p [] e = refl
 count_none p (x ∷ xs) e = sum_by-cons (λ y. cond (p y) 1 0) x xs ∙ omega (arith, ap one_if e.0, count_none p xs e.1)
 
@@ -596,10 +596,27 @@ module _ (o : Outlook) (walked : Place → Bool) (greatest : ℕ) (dim : IsDim o
           pushes = λ s. ap (λ xs. (get_or xs s new_stack).pushes) gone.same ∙ run.moved.pushes s
               ∙ ap₂ (λ a b. a + b) (ap (λ xs. (get_or xs s new_stack).pushes) made.same) (sym (ap (count_by (gives_to o s)) stores ∙ sum_by-append (λ x. cond (gives_to o s x) 1 0) (flat_map (stores_of o l) kids) own
               ∙ omega (arith, count_none (gives_to o s) own (unwritten (λ t. is_stack s (target o t))))));
-          fresh = omega (arith, gone.fresh, run.moved.fresh, made.fresh, many, back, ap (count_by (makes o)) loads,
-              behind_all (makes o) (reverse own) (flat_map (loads_of o l) kids) (Each-weaker _ _ (λ t c. ap (λ b. not (b && not (is_none (source o t)))) c) (reverse own) (root_corners o walked greatest dim grown)));
-          spent = omega (arith, gone.spent, run.moved.spent, made.spent, many, owns, ap (count_by (ends o)) stores, sum_by-append (λ x. cond (ends o x) 1 0) (flat_map (stores_of o l) kids) own,
-              count_all (ends o) own (Each-weaker _ _ (λ t c. ap (λ b. not (b && not (is_none (target o t)))) c) own uncounted));
+          fresh = omega (
+            arith,
+            gone.fresh,
+            run.moved.fresh,
+            made.fresh,
+            many,
+            back,
+            ap (count_by (makes o)) loads,
+            behind_all (makes o) (reverse own) (flat_map (loads_of o l) kids) (Each-weaker _ _ (λ t c. ap (λ b. not (b && not (is_none (source o t)))) c) (reverse own) (root_corners o walked greatest dim grown)),
+          );
+          spent = omega (
+            arith,
+            gone.spent,
+            run.moved.spent,
+            made.spent,
+            many,
+            owns,
+            ap (count_by (ends o)) stores,
+            sum_by-append (λ x. cond (ends o x) 1 0) (flat_map (stores_of o l) kids) own,
+            count_all (ends o) own (Each-weaker _ _ (λ t c. ap (λ b. not (b && not (is_none (target o t)))) c) own uncounted),
+          );
           cell_stacks = run.moved.cell_stacks;
           cell_pops = run.moved.cell_pops;
           cell_pushes = run.moved.cell_pushes;

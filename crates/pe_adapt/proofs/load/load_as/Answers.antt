@@ -69,7 +69,7 @@ returns-in-Stream-from-clause-follows g c = λ cells.
     let set = setting_of g.M.Effects.rules old c.args.start_level 0 c.args.traversal in
     let family = family_in_hand numbers c.args.parents.now c.args.parent.now old.list in
     let found = stored-top (seen_vertex numbers.vertex) set c.args.input c.args.at.now holds family
-        c.args.kind (stack_of c.args.from) c.in_default.not-Hanging c.in_default.not-Born (ap stack_of c.in-Stream-from.is) c.requires.fits in
+    c.args.kind (stack_of c.args.from) c.in_default.not-Hanging c.in_default.not-Born (ap stack_of c.in-Stream-from.is) c.requires.fits in
     loaded-stored (seen_vertex numbers.vertex) set c.args.input c.args.at.now holds family
     c.args.kind (stack_of c.args.from) (g.DV.Depot.holds c.load_stored.new.dv) found.0
     (λ v. (seen_vertex numbers.vertex v, family_in_hand numbers c.load_stored.new.parents c.load_stored.new.parent new.list))

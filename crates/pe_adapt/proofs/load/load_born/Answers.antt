@@ -26,20 +26,20 @@ returns-clause-follows g c = λ vertices cells.
     let family = family_in_hand numbers c.args.parents.now c.args.parent.now before.list in
     let it : VertexRecord × Family = (seen_vertex numbers.vertex c.lend-v.result, family_in_hand numbers c.args.parents.now c.args.parent.now fresh.list) in
     let made = born-is set numbers at c.args.parents.now c.args.parent.now before.list fresh.list c.in-Ok.payload c.start_state-state.result c.new.result c.lend-v.result
-        c.in-Ok.ensures.answer.payload c.in-Ok.ensures.answer.list c.start_state-state.ensures c.new.ensures c.lend-v.ensures.handed in
+    c.in-Ok.ensures.answer.payload c.in-Ok.ensures.answer.list c.start_state-state.ensures c.new.ensures c.lend-v.ensures.handed in
     let it' : VertexRecord × Family = (seen_vertex numbers.vertex c.vertex_event.new.vertex, family_in_hand numbers c.vertex_event.new.parents c.vertex_event.new.parent fired.list) in
     let again = setting-kept rules fresh fired 0 0 c.args.traversal c.in-Ok-vertex_event.ensures.keeps ∙ setting-kept rules before fresh 0 0 c.args.traversal c.in-Ok.ensures.keeps in
     let first = vertex_event-follows numbers set CreateInnerVertex at fresh fired vertices cells c.lend-v.result c.vertex_event.new.vertex c.args.parents.now c.vertex_event.new.parents c.args.parent.now c.vertex_event.new.parent (Ok tt) c.in-Ok.ensures.keeps.plan c.in-Ok-vertex_event.ensures.answer in
     follows-found _ _ _ _ _ _ (sym c.in-Ok.ensures.told) (roomier-held before fresh vertices cells c.in-Ok.ensures.keeps)
     (subst
-      (λ start. Follows (and_then (vertex_event set CreateInnerVertex at start) (vertex_event set TouchVertexFirstTime at))
-        (λ v. (seen_vertex numbers.vertex v, family_in_hand numbers c.fire.new.parents c.fire.new.parent after.list))
-        (read_by failure_of c.fire.result) (found_of fresh vertices cells) after.told)
-      made
-      (follows-then (vertex_event set CreateInnerVertex at it) (vertex_event set TouchVertexFirstTime at) (λ (u : Unit {0}). it') tt _ _
-        (found_of fresh vertices cells) (found_of fired vertices cells) after.told first (roomier-held fresh fired vertices cells c.in-Ok-vertex_event.ensures.keeps)
-        (subst
-          (λ s. Follows (vertex_event s TouchVertexFirstTime at it')
-            (λ v. (seen_vertex numbers.vertex v, family_in_hand numbers c.fire.new.parents c.fire.new.parent after.list))
-            (read_by failure_of c.fire.result) (found_of fired vertices cells) after.told)
-          again (c.fire.ensures.follows vertices cells))))
+    (λ start. Follows (and_then (vertex_event set CreateInnerVertex at start) (vertex_event set TouchVertexFirstTime at))
+    (λ v. (seen_vertex numbers.vertex v, family_in_hand numbers c.fire.new.parents c.fire.new.parent after.list))
+    (read_by failure_of c.fire.result) (found_of fresh vertices cells) after.told)
+    made
+    (follows-then (vertex_event set CreateInnerVertex at it) (vertex_event set TouchVertexFirstTime at) (λ (u : Unit {0}). it') tt _ _
+    (found_of fresh vertices cells) (found_of fired vertices cells) after.told first (roomier-held fresh fired vertices cells c.in-Ok-vertex_event.ensures.keeps)
+    (subst
+    (λ s. Follows (vertex_event s TouchVertexFirstTime at it')
+    (λ v. (seen_vertex numbers.vertex v, family_in_hand numbers c.fire.new.parents c.fire.new.parent after.list))
+    (read_by failure_of c.fire.result) (found_of fired vertices cells) after.told)
+    again (c.fire.ensures.follows vertices cells))))

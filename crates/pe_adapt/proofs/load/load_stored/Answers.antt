@@ -15,9 +15,9 @@ returns-clause-follows g c = λ vertices cells found top.
     let new = g.M.Mapping.held c.fire.new.m in
     let set = setting_of_events g.M.Effects.rules old c.args.traversal in
     let read = read-is set numbers.vertex c.args.kind c.pop-v.result c.arrive.new.self found c.state.result c.first_touch-state.result
-        (sym top ∙ c.pop-v.ensures.handed) c.state.ensures c.first_touch-state.ensures c.arrive.ensures in
+    (sym top ∙ c.pop-v.ensures.handed) c.state.ensures c.first_touch-state.ensures c.arrive.ensures in
     subst
     (λ it. Follows (vertex_event set TouchVertexFirstTime c.args.at.now (it, family_in_hand numbers c.args.parents.now c.args.parent.now old.list))
-      (λ v. (seen_vertex numbers.vertex v, family_in_hand numbers c.fire.new.parents c.fire.new.parent new.list))
-      (read_by failure_of c.fire.result) (found_of old vertices cells) new.told)
+    (λ v. (seen_vertex numbers.vertex v, family_in_hand numbers c.fire.new.parents c.fire.new.parent new.list))
+    (read_by failure_of c.fire.result) (found_of old vertices cells) new.told)
     read (c.fire.ensures.follows vertices cells)

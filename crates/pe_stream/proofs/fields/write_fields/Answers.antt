@@ -1,4 +1,4 @@
-use Rattle.std.proofs.Common.{FitsSigned, pos, arith, rules, get_or, length, take, ◌<◌}
+use Rattle.std.proofs.Common.{FitsSigned, pos, rules, get_or, length, take, ◌<◌}
 use Rattle.std.specs.Int.{w64}
 use Rattle.std.proofs.Math.Facts.{to_z-of_z}
 use Rattle.pe_stream.proofs.Payloads.{written_more}

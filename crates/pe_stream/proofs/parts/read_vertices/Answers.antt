@@ -1,4 +1,4 @@
-use Rattle.std.proofs.Common.{◌≡◌, ℕ, Bool, true, false, not, Some, option_map, ap, sym, ◌∙◌, arith, below_more}
+use Rattle.std.proofs.Common.{◌≡◌, true, not, Some, option_map, ap, sym, ◌∙◌, arith, below_more}
 use Rattle.pe_stream.specs.declared.fault.StreamFault.TheVariants.{State}
 use Rattle.pe_stream.specs.Layout.{vertex_bytes, vertex_size}
 use Rattle.pe_stream.specs.Faults.{is_saved_state, state_at}
@@ -16,7 +16,7 @@ returns-in_default-clause-test c =
     let split = splits_at c.vertex_size-size.result size rest _ _ c.vertex_size-size.ensures c.split_at.ensures.front c.split_at.ensures.back in
     let same = next_state size i bytes rest _ _ (omega arith) split c.loop-index.invariant.read.rest_is in
     let first = find-first (λ k. not (is_saved_state (state_at size bytes k))) 0 c.args.count i (omega arith) (omega arith)
-        (λ k above below. ap not (c.loop-index.invariant.states k below)) (ap not (ap is_saved_state (sym same) ∙ sym c.in_default.ensures.variant)) in
+    (λ k above below. ap not (c.loop-index.invariant.states k below)) (ap not (ap is_saved_state (sym same) ∙ sym c.in_default.ensures.variant)) in
     ap (option_map (λ k. State k (state_at size bytes k))) first ∙ ap (λ b. Some (State i b)) (sym same)
 
 pub loop-index-preserved : goal.loop-index-preserved

@@ -1,10 +1,10 @@
-use Rattle.std.proofs.Common.{◌≡◌, ◌*◌, Err, refl, sym, ap, subst, ◌∙◌, drop}
+use Rattle.std.proofs.Common.{◌≡◌, ◌*◌, refl, sym, ap, subst, ◌∙◌, drop}
 use Rattle.std.proofs.lemmas.List.{take_rest}
 use Rattle.std.proofs.lemmas.Result.{err_from_is_err_and}
 use Rattle.pe_stream.specs.Layout.{fields_size, vertex_size}
 use Rattle.pe_stream.specs.Faults.{IsRefusal}
 use Rattle.pe_stream.proofs.Pieces.{splits_at}
-use Rattle.pe_stream.proofs.Assembled.{AreParts, cut_into, unsaved_is, assembled}
+use Rattle.pe_stream.proofs.Assembled.{cut_into, unsaved_is, assembled}
 use Rattle.pe_stream.proofs.reading.read_parts.Goals as goal
 
 pub returns-in_err-vertices-clause-test : goal.returns-in_err-vertices-clause-test

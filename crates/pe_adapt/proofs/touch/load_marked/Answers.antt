@@ -1,0 +1,42 @@
+use Rattle.pe_adapt.proofs.Fitting.{load_as-fits}
+use Rattle.pe_adapt.proofs.InsideLaws.{kind-inside}
+use Rattle.std.proofs.Common.{◌≡◌, sym, ap, subst, ◌∙◌}
+use Rattle.pe_mapping.specs.Sights.{seen_vertex}
+use Rattle.pe_hang.specs.InHand.{setting_of}
+use Rattle.pe_hang.specs.Follows.{Follows, Fits, read_by, found_of, held_by}
+use Rattle.pe_adapt.specs.Stops.{failure_of}
+use Rattle.pe_adapt.specs.Spots.{stack_of, desk_in_hand}
+use Rattle.pe_states.proofs.BoundaryLaws.{small_corner}
+use Rattle.pe_adapt.proofs.Touching.{load-same}
+use Rattle.pe_adapt.proofs.touch.load_marked.Goals as goal
+
+pub load_as-requires-clause-fits : goal.load_as-requires-clause-fits
+load_as-requires-clause-fits g c =
+    let numbers = g.M.Mapping.numbers in
+    let old = g.M.Mapping.held c.args.m.now in
+    let spot = c.args.spot.now in
+    let set = setting_of g.M.Effects.rules old c.args.start_level 0 spot.traversal in
+    let desk = desk_in_hand numbers (g.DV.Depot.holds c.args.dv.now) c.args.parents.now c.args.parent.now old.list in
+    let same = load-same set c.args.dim spot.input spot.cell spot.corner desk c.kind_at-kind.result (stack_of c.route_in-from.result) c.corner_place-at.result
+    c.requires.dim c.corner_place-at.ensures.place (c.kind_at-kind.ensures ∙ c.requires.kinds spot.corner c.requires.spot.corner) c.route_in-from.ensures in
+    subst (λ course. Fits course) (sym same) c.requires.fits
+
+pub returns-clause-follows : goal.returns-clause-follows
+returns-clause-follows g c = λ cells.
+    let numbers = g.M.Mapping.numbers in
+    let old = g.M.Mapping.held c.args.m.now in
+    let new = g.M.Mapping.held c.load_as.new.m in
+    let spot = c.args.spot.now in
+    let set = setting_of g.M.Effects.rules old c.args.start_level 0 spot.traversal in
+    let holds = g.DV.Depot.holds c.args.dv.now in
+    let desk = desk_in_hand numbers holds c.args.parents.now c.args.parent.now old.list in
+    let same = load-same set c.args.dim spot.input spot.cell spot.corner desk c.kind_at-kind.result (stack_of c.route_in-from.result) c.corner_place-at.result
+    c.requires.dim c.corner_place-at.ensures.place (c.kind_at-kind.ensures ∙ c.requires.kinds spot.corner c.requires.spot.corner) c.route_in-from.ensures in
+    subst
+    (λ course. Follows course
+    (λ v. (seen_vertex numbers.vertex v, desk_in_hand numbers (g.DV.Depot.holds c.load_as.new.dv) c.load_as.new.parents c.load_as.new.parent new.list))
+    (read_by failure_of c.load_as.result) (found_of old (held_by holds (g.DV.Depot.room c.args.dv.now)) cells) new.told)
+    same (c.load_as.ensures.follows cells)
+
+pub kind_at-kind-requires : goal.kind_at-kind-requires
+kind_at-kind-requires g c = small_corner c.args.dim c.args.spot.now.corner c.corners-corners.ensures.range.1 c.requires.spot.corner
