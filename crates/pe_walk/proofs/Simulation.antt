@@ -4,8 +4,6 @@
 pub mod Matching
 -- what the core keeps of the records in hand
 pub mod CoreLaws
--- what holds between the steps
-pub mod Standing
 -- what putting records back changes
 pub mod Putting
 -- the kind of a corner as it is found

@@ -10,12 +10,16 @@
 //! to the lists of faces. `counts` turns loads and stores into pops and pushes, vertex by vertex. On an adaptive grid the same lists hold:
 //! `unwalked_is_empty` leaves out the cells that are not walked, and `leaf_is_corners` is the walk of a cell that has
 //! no walked children.
+ghost use Rattle.pe_walk.specs.CoreKeeps.{CoreKeeps};
+ghost use Rattle.pe_walk.specs.Standing.{KindsAreFound};
 ghost use Rattle.pe_walk.specs.Laws.{NeighboursAgree, FacesAreOneWay, OneFaceOnEach, Composition, BeneathUntouched, StoresAsLoads, Counts, UnwalkedIsEmpty, LeafIsCorners, CellsOfTheTree, StepsCrossFaces, StepsAreCorners, CornersAreSteps, TurnsJoin, StandTogether, CornersCrossOnce, CornersOnStacks};
 ghost use Rattle.pe_walk.specs.TokenLaws.{WalkOfACell, LoadsAreDue, LoadedAround, WholeTraversal, TurningRound, TurningAround};
 ghost use Rattle.pe_walk.specs.Outlooks.{ForecastFits, StoredFits};
 ghost use Rattle.pe_walk.specs.StreamLaws.{FitsTurned, StreamsAreOne, ReadsAreStreams, NextIsFormed, WritesAreStreams};
 ghost use Rattle.pe_walk.specs.Traffic.{TrafficOfACell, TrafficOfATraversal, LoadsPerCell, CountsPerCell, FewVertices, StepsKeepCounting, BeginsCounting, StacksAreShort};
 ghost use Rattle.pe_walk.specs.Apart.{StepsKeepApart, BeginsApart, CornersByCounting};
+
+use pe_base::Effects;
 
 /// The cells of the tree are the places of cells.
 pub fn tree()
@@ -148,4 +152,14 @@ pub fn stacks_are_short()
     ensures kept { StepsKeepCounting }
     ensures begun { BeginsCounting }
     ensures short { StacksAreShort }
+{}
+
+/// The core of a walk keeps kinds, and old and new, of all that its events see, by the law of effects.
+pub fn core_keeps<E: Effects>()
+    ensures alike { CoreKeeps E.Plan }
+{}
+
+/// At a load, the kind of a corner is found by the map as the parent's corners in hand have it: it is the one foreseen.
+pub fn kinds_are_found<E: Effects>()
+    ensures found { KindsAreFound E.Plan }
 {}

@@ -11,26 +11,14 @@ use Rattle.pe_base.specs.Acts.Effects.{VertexRecord, Seen, Fault, Outcome, Rules
 use Rattle.pe_base.specs.Walk.Course.{Ending, done, halts, stuck, Course, and_then, course_map}
 use Rattle.pe_base.specs.Walk.Core.{Setting, Family, Own, ended_by, fire, family_after, vertex_event, cell_event, fresh_vertex, read_vertex, load_touch, given_up, written, store_of, store_touch, enter_touch, leave_touch}
 use Rattle.pe_base.proofs.Walk.TableLaws.{keeps_marks}
+use Rattle.pe_walk.specs.CoreKeeps.{IsAlike, AreAlike, loaded, CoreKeeps}
 use Rattle.pe_walk.proofs.Simulation.Matching.{mapped-done, then-done}
-
--- a vertex as far as old and new go
-pub record IsAlike (before after : VertexRecord) : Type 0 where
-  pub kind : after.kind ≡ before.kind
-  pub old : is_old after.state ≡ is_old before.state
-  pub new : is_new after.state ≡ is_new before.state
 
 pub alike-same : (v : VertexRecord) → IsAlike v v
 alike-same v = record { kind = refl; old = refl; new = refl }
 
 pub alike-then : (a b c : VertexRecord) → IsAlike a b → IsAlike b c → IsAlike a c
 alike-then a b c h k = record { kind = k.kind ∙ h.kind; old = k.old ∙ h.old; new = k.new ∙ h.new }
-
--- vertices one by one
-abbrev pub AreAlike : List VertexRecord → List VertexRecord → Type 0
-AreAlike [] [] = Unit {0}
-AreAlike [] (after ∷ afters) = ⊥
-AreAlike (before ∷ befores) [] = ⊥
-AreAlike (before ∷ befores) (after ∷ afters) = IsAlike before after × AreAlike befores afters
 
 pub all_alike-same : (vs : List VertexRecord) → AreAlike vs vs
 all_alike-same [] = tt
@@ -117,17 +105,9 @@ module _ {Plan : Type 0} (set : Setting Plan) (lawful : AreLawful set.rules) whe
         parents = all_triggered-alike (set.rules.greatest set.plan) (place.level - 1) it.1.parents at.0.seen.parents leaves.parents;
       })
 
-  -- what is loaded, before its events
-  abbrev pub loaded : Kind → Bool → VertexRecord → Place → Family → VertexRecord
-  loaded Hanging first found place family = (fresh_vertex set Hanging place family).0
-  loaded Born true found place family = (fresh_vertex set Born place family).0
-  loaded Kept true found place family = read_vertex set Kept found
-  loaded Dying true found place family = read_vertex set Dying found
-  loaded kind false found place family = found
-
   -- what a load leaves
   pub load_touch-leaves : (kind : Kind) (first : Bool) (found : VertexRecord) (place : Place) (family : Family) (after : VertexRecord × Family)
-      → (load_touch set kind first found place family).ending ≡ done after → LeavesVertex (loaded kind first found place family, family) after
+      → (load_touch set kind first found place family).ending ≡ done after → LeavesVertex (loaded set kind first found place family, family) after
   load_touch-leaves Hanging first found place family after h =
       let e = vertex_event-leaves CreateHangingVertex place (fresh_vertex set Hanging place family) after h in
       record { vertex = e.vertex; parents = e.parents }
@@ -194,3 +174,12 @@ module _ {Plan : Type 0} (set : Setting Plan) (lawful : AreLawful set.rules) whe
   leave_touch-leaves Kept place own family after h = let leaves = cell_event-leaves LeaveCell place (own, family) after h in (leaves.corners, leaves.parents)
   leave_touch-leaves Born place own family after h = let leaves = cell_event-leaves LeaveCell place (own, family) after h in (leaves.corners, leaves.parents)
   leave_touch-leaves Hanging place own family after h = let leaves = cell_event-leaves LeaveCell place (own, family) after h in (leaves.corners, leaves.parents)
+
+-- what the core keeps
+pub core_keeps : {Plan : Type 0} → CoreKeeps Plan
+core_keeps set lawful = record {
+  loads = λ kind first found place family after h. let leaves = load_touch-leaves set lawful kind first found place family after h in (leaves.vertex, leaves.parents);
+  stores = store_touch-leaves set lawful;
+  enters = enter_touch-leaves set lawful;
+  leaves = leave_touch-leaves set lawful;
+}

@@ -21,13 +21,12 @@ use Rattle.pe_base.proofs.Walk.Slots.{Slot, read, slot_if, slot_of, is_hung, rec
 use Rattle.pe_adapt.specs.Touches.{state_in_hand, kind_in_hand}
 use Rattle.pe_walk.specs.Laws.{IsCell}
 use Rattle.pe_walk.specs.Tokens.{Outlook, Tokens}
-use Rattle.pe_walk.specs.Machine.{Ports}
 use Rattle.pe_walk.proofs.Trees.{cell_position}
 use Rattle.pe_walk.proofs.Unwalked.{cell_four}
-use Rattle.pe_walk.proofs.Simulation.Standing.{Foresight, Foresees, IsForeseen, Stands, Fair, IsFair, IsIdle, IsLive}
+use Rattle.pe_walk.specs.Standing.{Foresight, Foresees, IsForeseen, Stands, Fair, IsFair, IsIdle, IsLive, KindsAreFound}
 use Rattle.pe_walk.proofs.Simulation.FoundKinds.{kind_by-foreseen, state_in_hand-corner}
 
-module _ {Plan : Type 0} (set : Setting Plan) (ports : Ports) (o : Outlook) (f : Foresight) (greatest : ℕ) (see : Foresees set ports o f greatest) where
+module _ {Plan : Type 0} (set : Setting Plan) (o : Outlook) (f : Foresight) (see : Foresees set o f) where
   -- what does not count hangs
   pub hangs_if : (vertex : Place) → o.counts vertex ≡ false → f.kind vertex ≡ Hanging
   hangs_if vertex off = by (f.kind vertex) (see.counts vertex)
@@ -98,3 +97,10 @@ module _ {Plan : Type 0} (set : Setting Plan) (ports : Ports) (o : Outlook) (f :
         (in_hand is_old f.old (λ vertex off. (idle_if vertex off).1) (λ vertex it. it.old) (λ it idle. idle.old) long))
         (subst (λ p. (j : ℕ) → j < 2 ^ set.axes → passes is_new (state_in_hand p (records_of set.axes w parent) (corner set.axes p j)) ≡ f.new (corner set.axes p j)) (sym above)
         (in_hand is_new f.new (λ vertex off. (idle_if vertex off).2) (λ vertex it. it.new) (λ it idle. idle.new) long))
+
+-- the kinds as they are found
+pub kinds_are_found : {Plan : Type 0} → KindsAreFound Plan
+kinds_are_found set o f base from most parent cell w t see stands fair is_cell above deep long k small = record {
+  by_map = kind_by_map set o f see base parent cell from most w t stands fair is_cell above deep k small;
+  in_hand = kind_by_hand set o f see base parent cell from most w t stands fair is_cell above deep long k small;
+}

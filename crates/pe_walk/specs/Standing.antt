@@ -2,33 +2,29 @@
 --
 -- A stage is a parent cell whose children are being walked, one of these children, and which of its corners are in hand:
 -- those from a number on. Loads go down from all to none left to load, stores up.
-use Rattle.std.proofs.Common.{◌≡◌, ◌⊎◌, ℕ, ℤ, zero, suc, ◌+◌, ◌-◌, ◌*◌, ◌^◌, ◌<◌, ◌≤◌, ◌≢◌, Bool, true, false, not, ◌&&◌, ◌||◌, ◌==◌, List, [], ◌∷◌, map, length, Option, Some, None}
-use Rattle.std.specs.Prelude.{nat_le, nat_lt, is_some, count_by, if◌then◌else◌}
-use Rattle.std.specs.Option.{unwrap_or}
-use Rattle.std.specs.List.{list_any, range_with_len}
+use Rattle.std.specs.Prelude.{◌≡◌, ◌⊎◌, ◌≢◌, ℕ, ◌+◌, ◌^◌, ◌<◌, ◌≤◌, Bool, true, false, not, ◌&&◌, ◌==◌, nat_le, nat_lt, is_some, count_by, if◌then◌else◌, Option, Some, None, length}
+use Rattle.std.specs.List.{list_any}
 use Rattle.pe_base.specs.declared.place.Place.{Place}
-use Rattle.pe_base.specs.declared.way.Way.{Way}
 use Rattle.pe_base.specs.declared.kind.Kind.{Kind}
 use Rattle.pe_base.specs.declared.kind.Kind.TheVariants.{Kept, Born, Dying, Hanging}
-use Rattle.pe_base.specs.declared.tally.Tally.{Tally}
 use Rattle.pe_base.specs.Tree.Dim.{IsDim}
 use Rattle.pe_base.specs.Tree.Places.{corner, corners, parent_of, is_same}
-use Rattle.pe_base.specs.Life.States.{is_old, is_new}
+use Rattle.pe_base.specs.Life.States.{is_old, is_new, is_stored}
 use Rattle.pe_base.specs.Life.Table.{first_touch, start_state}
 use Rattle.pe_base.specs.Life.Kinds.{kind_from, is_hanging, level_one_kind}
 use Rattle.pe_base.specs.Life.Carriers.{carriers}
 use Rattle.pe_base.specs.Acts.Effects.{VertexRecord, AreLawful}
-use Rattle.pe_base.specs.Walk.Maps.{at}
+use Rattle.pe_base.specs.Walk.Maps.{at, at_corner}
 use Rattle.pe_base.specs.Walk.Core.{Setting, way}
-use Rattle.pe_base.specs.Walk.Working.{Working, vertex_at, cell_at, loads_of, record_at, records_of, family_of}
-use Rattle.pe_base.proofs.Walk.Slots.{Slot, stored, hangs, read, is_hung}
-use Rattle.pe_stacks.specs.Holdings.{Holdings, Stack, stack_at, items_at, stack_count}
+use Rattle.pe_base.specs.Walk.Working.{Working, loads_of, record_at, family_of}
+use Rattle.pe_base.specs.Walk.Touches.{kind_of_vertex}
+use Rattle.pe_stacks.specs.Holdings.{Holdings, stack_at, items_at, stack_count}
 use Rattle.pe_stacks.specs.Grid.{output_stack}
-use Rattle.pe_hang.specs.InHand.{map_holdings}
+use Rattle.pe_adapt.specs.Touches.{kind_in_hand}
 use Rattle.pe_walk.specs.Laws.{IsCell}
 use Rattle.pe_walk.specs.Tokens.{Outlook, Tokens, cells_before}
 use Rattle.pe_walk.specs.Apart.{IsApart, lies}
-use Rattle.pe_walk.specs.Machine.{Machine, Ports}
+use Rattle.pe_walk.specs.Outlooks.{was_stored}
 
 -- What is foreseen of each place: kinds, and old and new from the first touch to the last, of vertices; the kind of the
 -- children of cells; and what the working state holds of a vertex before the first touch.
@@ -49,31 +45,16 @@ IsForeseen set f vertex Born it =
     (it ≡ None) × (is_old (start_state set.traversal vertex.level set.start_level) ≡ f.old vertex) × (is_new (start_state set.traversal vertex.level set.start_level) ≡ f.new vertex)
 IsForeseen set f vertex Hanging it = (it ≡ None) × (f.old vertex ≡ false) × (f.new vertex ≡ false)
 
--- by kind, what is on the input before, and on the output after
-abbrev pub is_read : Kind → Bool
-is_read Kept = true
-is_read Born = false
-is_read Dying = true
-is_read Hanging = false
-
-abbrev pub is_written : Kind → Bool
-is_written Kept = true
-is_written Born = true
-is_written Dying = false
-is_written Hanging = false
-
 -- The foresight is that of the walk over places.
-pub record Foresees {Plan : Type 0} (set : Setting Plan) (ports : Ports) (o : Outlook) (f : Foresight) (greatest : ℕ) : Type 0 where
+pub record Foresees {Plan : Type 0} (set : Setting Plan) (o : Outlook) (f : Foresight) : Type 0 where
   pub dim : IsDim set.axes
   pub axes : o.axes ≡ set.axes
   pub ways : o.way ≡ way set
   pub lawful : AreLawful set.rules
   pub counts : (vertex : Place) → o.counts vertex ≡ not (is_hanging (f.kind vertex))
-  pub reads : (vertex : Place) → o.reads vertex ≡ is_read (f.kind vertex)
-  pub writes : (vertex : Place) → o.writes vertex ≡ is_written (f.kind vertex)
+  pub reads : (vertex : Place) → o.reads vertex ≡ was_stored (f.kind vertex)
+  pub writes : (vertex : Place) → o.writes vertex ≡ is_stored (f.kind vertex)
   pub walks : (cell : Place) → o.walks cell ≡ not (is_hanging (f.below cell))
-  pub reads_cell : (cell : Place) → IsCell set.axes (way set) cell → 1 ≤ cell.level → o.reads_cell cell ≡ is_read (f.below (parent_of cell))
-  pub writes_cell : (cell : Place) → IsCell set.axes (way set) cell → 1 ≤ cell.level → o.writes_cell cell ≡ is_written (f.below (parent_of cell))
   pub level_one : (vertex : Place) → vertex.level ≡ 1 → level_one_kind set.axes set.traversal vertex ≡ f.kind vertex
   pub deeper : (cell : Place) (k : ℕ) → IsCell set.axes (way set) cell → 2 ≤ cell.level → k < 2 ^ set.axes
       → kind_from (list_any f.old (carriers (corner set.axes cell k))) (list_any f.new (carriers (corner set.axes cell k))) ≡ f.kind (corner set.axes cell k)
@@ -125,30 +106,20 @@ pub record Fair (axes : ℕ) (o : Outlook) (f : Foresight) (parent cell : Place)
   pub loads : (vertex : Place) → loads_of w vertex ≡ t.met vertex
   pub unread : (vertex : Place) → t.met vertex ≡ 0 → at w.vertices vertex ≡ f.start vertex
   pub live : (vertex : Place) → o.counts vertex ≡ true → IsLive o t vertex → IsFair f w vertex
-  pub parent_flags : (k : ℕ) → k < 2 ^ axes → is_hung w parent k ≡ not (o.counts (corner axes parent k))
+  pub parent_flags : (k : ℕ) → k < 2 ^ axes → is_some (at_corner w.hanging parent k) ≡ not (o.counts (corner axes parent k))
   pub parents : (k : ℕ) → k < 2 ^ axes → o.counts (corner axes parent k) ≡ false → IsIdle (record_at axes w parent k)
-  pub flags : (x : Place) (k : ℕ) → parent.level < x.level → is_hung w x k ≡ (is_same cell x && nat_le from k && nat_lt k (2 ^ axes) && not (o.counts (corner axes cell k)))
+  pub flags : (x : Place) (k : ℕ) → parent.level < x.level → is_some (at_corner w.hanging x k) ≡ (is_same cell x && nat_le from k && nat_lt k (2 ^ axes) && not (o.counts (corner axes cell k)))
   pub mine : (k : ℕ) → from ≤ k → k < 2 ^ axes → o.counts (corner axes cell k) ≡ false → IsIdle (record_at axes w cell k)
 
--- The tally is within bounds.
-pub record TallyWithin (tally : Tally) (most : ℕ) : Type 0 where
-  pub read : tally.read ≤ most
-  pub written : tally.written ≤ most
-  pub created : tally.created ≤ most
-  pub destroyed : tally.destroyed ≤ most
-  pub hanging : tally.hanging ≤ most
 
--- what a record on a stack shows: before its first load its kind is that of an earlier traversal
-abbrev pub shown : (Place → Kind) → Tokens → Working → Place → VertexRecord
-shown stale t w vertex =
-    let it = vertex_at w vertex in
-    if t.met vertex == 0 then record { state = it.state; kind = stale vertex; numbers = it.numbers } else it
+-- At a load, the kind of a corner as the map has its carriers, and as the parent's corners in hand have them, is the one
+-- foreseen.
+pub record FindsKind {Plan : Type 0} (set : Setting Plan) (f : Foresight) (parent cell : Place) (w : Working) (k : ℕ) : Type 0 where
+  pub by_map : kind_of_vertex set w (corner set.axes cell k) ≡ f.kind (corner set.axes cell k)
+  pub in_hand : kind_in_hand set cell (family_of set.axes w parent).parents (corner set.axes cell k) ≡ f.kind (corner set.axes cell k)
 
--- The image of the working state and the places: what the machine holds.
-abbrev pub image : ℕ → (Place → Kind) → Place → Working → Tokens → Machine
-image axes stale parent w t = record {
-  vertices = map_holdings (shown stale t w) t.vertices;
-  cells = map_holdings (cell_at w) t.cells;
-  family = family_of axes w parent;
-  tally = w.tally;
-}
+abbrev pub KindsAreFound : Type 0 → Type 0
+KindsAreFound Plan = (set : Setting Plan) (o : Outlook) (f : Foresight) (base from most : ℕ) (parent cell : Place) (w : Working) (t : Tokens)
+    → Foresees set o f → Stands set.axes o base parent cell from most t → Fair set.axes o f parent cell from w t
+    → IsCell set.axes (way set) cell → parent_of cell ≡ parent → 1 ≤ cell.level → set.axes ≤ length parent.pos
+    → (k : ℕ) → k < 2 ^ set.axes → FindsKind set f parent cell w k
