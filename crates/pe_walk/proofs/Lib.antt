@@ -27,3 +27,5 @@ pub mod StreamOrders
 -- # The tests
 -- one round of the loops that compute the definitions
 pub mod Computed
+-- the walk on stacks is the image of the walk by address
+pub mod Simulation

@@ -22,3 +22,7 @@ pub mod Grids
 pub mod Machine
 -- traversals of it for the worked rows
 pub mod Examples
+-- what the core keeps of the records in hand
+pub mod CoreKeeps
+-- what holds between the steps of a traversal
+pub mod Standing

@@ -17,12 +17,18 @@
 //! of a traversal does, and what is stored. `places_stand_apart` and `first_and_last` are what the values of vertices need.
 //! `turning_round`, `streams_are_one` and `streams_of_grids` make what is written what is read next. `traffic` and
 //! `stacks_are_short` are the counts.
+//!
+//! Last what the values of the walk by address need: `core_keeps` and `kinds_are_found`.
+ghost use Rattle.pe_walk.specs.CoreKeeps.{CoreKeeps};
+ghost use Rattle.pe_walk.specs.Standing.{KindsAreFound};
 ghost use Rattle.pe_walk.specs.Laws.{NeighboursAgree, FacesAreOneWay, OneFaceOnEach, Composition, BeneathUntouched, StoresAsLoads, Counts, UnwalkedIsEmpty, LeafIsCorners, CellsOfTheTree, StepsCrossFaces, StepsAreCorners, CornersAreSteps, TurnsJoin, StandTogether, CornersCrossOnce, CornersOnStacks};
 ghost use Rattle.pe_walk.specs.TokenLaws.{WalkOfACell, LoadsAreDue, LoadedAround, WholeTraversal, TurningRound, TurningAround};
 ghost use Rattle.pe_walk.specs.Outlooks.{ForecastFits, StoredFits};
 ghost use Rattle.pe_walk.specs.StreamLaws.{FitsTurned, StreamsAreOne, ReadsAreStreams, NextIsFormed, WritesAreStreams};
 ghost use Rattle.pe_walk.specs.Traffic.{TrafficOfACell, TrafficOfATraversal, LoadsPerCell, CountsPerCell, TrafficIsCrossings, HangingLoads, FewVertices, StepsKeepCounting, BeginsCounting, StacksAreShort};
 ghost use Rattle.pe_walk.specs.Apart.{StepsKeepApart, BeginsApart, CornersByCounting};
+
+use pe_base::Effects;
 
 /// The cells of the tree are the places of cells.
 pub fn tree()
@@ -157,4 +163,14 @@ pub fn stacks_are_short()
     ensures kept { StepsKeepCounting }
     ensures begun { BeginsCounting }
     ensures short { StacksAreShort }
+{}
+
+/// The core of a walk keeps kinds, and old and new, of all that its events see, by the law of effects.
+pub fn core_keeps<E: Effects>()
+    ensures alike { CoreKeeps E.Plan }
+{}
+
+/// At a load, the kind of a corner is found by the map as the parent's corners in hand have it: it is the one foreseen.
+pub fn kinds_are_found<E: Effects>()
+    ensures found { KindsAreFound E.Plan }
 {}

@@ -1,0 +1,12 @@
+-- The walk on stacks is the image of the walk by address and of the places on stacks, after every step.
+
+-- steps that match, one after another
+pub mod Matching
+-- what the core keeps of the records in hand
+pub mod CoreLaws
+-- what putting records back changes
+pub mod Putting
+-- the kind of a corner as it is found
+pub mod FoundKinds
+-- at a load it is the one foreseen
+pub mod LoadedKinds

@@ -1,0 +1,185 @@
+-- What the core keeps of the records in hand: kinds, and old and new.
+use Rattle.std.proofs.Common.{◌≡◌, ℕ, ℤ, zero, suc, ◌-◌, Bool, true, false, List, [], ◌∷◌, length, Option, Some, None, refl, sym, ap, subst, ◌∙◌, inl, inr}
+use Rattle.std.specs.Option.{unwrap_or}
+use Rattle.pe_base.specs.declared.place.Place.{Place}
+use Rattle.pe_base.specs.declared.kind.Kind.{Kind}
+use Rattle.pe_base.specs.declared.kind.Kind.TheVariants.{Kept, Born, Dying, Hanging}
+use Rattle.pe_base.specs.declared.event.Event.{Event}
+use Rattle.pe_base.specs.declared.event.Event.TheVariants.{TouchVertexFirstTime, TouchVertexLastTime, CreateInnerVertex, CreateHangingVertex, DestroyVertex, DestroyHangingVertex, CreateCell, DestroyCell, EnterCell, LeaveCell}
+use Rattle.pe_base.specs.Life.States.{is_old, is_new}
+use Rattle.pe_base.specs.Acts.Effects.{VertexRecord, Seen, Fault, Outcome, Rules, IsTriggered, AreTriggered, IsTriggeredIfAny, MayLeave, AreLawful}
+use Rattle.pe_base.specs.Walk.Course.{Ending, done, halts, stuck, Course, and_then, course_map}
+use Rattle.pe_base.specs.Walk.Core.{Setting, Family, Own, ended_by, fire, family_after, vertex_event, cell_event, fresh_vertex, read_vertex, load_touch, given_up, written, store_of, store_touch, enter_touch, leave_touch}
+use Rattle.pe_base.proofs.Walk.TableLaws.{keeps_marks}
+use Rattle.pe_walk.specs.CoreKeeps.{IsAlike, AreAlike, loaded, CoreKeeps}
+use Rattle.pe_walk.proofs.Simulation.Matching.{mapped-done, then-done}
+
+pub alike-same : (v : VertexRecord) → IsAlike v v
+alike-same v = record { kind = refl; old = refl; new = refl }
+
+pub alike-then : (a b c : VertexRecord) → IsAlike a b → IsAlike b c → IsAlike a c
+alike-then a b c h k = record { kind = k.kind ∙ h.kind; old = k.old ∙ h.old; new = k.new ∙ h.new }
+
+pub all_alike-same : (vs : List VertexRecord) → AreAlike vs vs
+all_alike-same [] = tt
+all_alike-same (v ∷ vs) = (alike-same v, all_alike-same vs)
+
+pub all_alike-then : (as' bs cs : List VertexRecord) → AreAlike as' bs → AreAlike bs cs → AreAlike as' cs
+all_alike-then [] [] [] h k = tt
+all_alike-then [] [] (c ∷ cs) h k = absurd k
+all_alike-then [] (b ∷ bs) cs h k = absurd h
+all_alike-then (a ∷ as') [] cs h k = absurd h
+all_alike-then (a ∷ as') (b ∷ bs) [] h k = absurd k
+all_alike-then (a ∷ as') (b ∷ bs) (c ∷ cs) h k = (alike-then a b c h.0 k.0, all_alike-then as' bs cs h.1 k.1)
+
+pub length-alike : (as' bs : List VertexRecord) → AreAlike as' bs → length bs ≡ length as'
+length-alike [] [] h = refl
+length-alike [] (b ∷ bs) h = absurd h
+length-alike (a ∷ as') [] h = absurd h
+length-alike (a ∷ as') (b ∷ bs) h = ap suc (length-alike as' bs h.1)
+
+triggered-alike : (greatest level : ℕ) (before after : VertexRecord) → IsTriggered greatest level before after → IsAlike before after
+triggered-alike greatest level before after h =
+    let marks = keeps_marks greatest level before.kind before.state after.state h.state in
+    record { kind = h.kind; old = marks.old; new = marks.new }
+
+all_triggered-alike : (greatest level : ℕ) (befores afters : List VertexRecord) → AreTriggered greatest level befores afters → AreAlike befores afters
+all_triggered-alike greatest level [] [] h = tt
+all_triggered-alike greatest level [] (a ∷ afters) h = absurd h
+all_triggered-alike greatest level (b ∷ befores) [] h = absurd h
+all_triggered-alike greatest level (b ∷ befores) (a ∷ afters) h = (triggered-alike greatest level b a h.0, all_triggered-alike greatest level befores afters h.1)
+
+vertex-alike : (greatest level : ℕ) (before : VertexRecord) (after : Option VertexRecord) → IsTriggeredIfAny greatest level (Some before) after → IsAlike before (unwrap_or after before)
+vertex-alike greatest level before None h = absurd h
+vertex-alike greatest level before (Some after) h = triggered-alike greatest level before after h
+
+pub done_same : {X : Type 0} (a b : X) → done a ≡ done b → a ≡ b
+done_same a b e = cc
+
+module _ {Plan : Type 0} (set : Setting Plan) (lawful : AreLawful set.rules) where
+  -- an event that is done leaves its outcome
+  fire-done : (event : Event) (list : List ℤ) (seen : Seen) (after : Outcome) → (fire set event list seen).ending ≡ done after → after ≡ set.rules.effect set.plan event set.traversal list seen
+  fire-done event list seen after h = go (set.rules.effect set.plan event set.traversal list seen).fault h
+    where
+      go : (f : Option Fault) → ended_by set event seen.place f (set.rules.effect set.plan event set.traversal list seen) ≡ done after → after ≡ set.rules.effect set.plan event set.traversal list seen
+      go None h = cc
+      go (Some fault) h = absurd cc
+
+  fire-leaves : (event : Event) (list : List ℤ) (seen : Seen) (after : Outcome) → (fire set event list seen).ending ≡ done after → MayLeave (set.rules.greatest set.plan) seen after.seen
+  fire-leaves event list seen after h =
+      subst (λ (o : Outcome). MayLeave (set.rules.greatest set.plan) seen o.seen) (sym (fire-done event list seen after h)) (lawful.effect set.plan event set.traversal list seen)
+
+  -- what an event of a vertex leaves
+  pub record LeavesVertex (before after : VertexRecord × Family) : Type 0 where
+    pub vertex : IsAlike before.0 after.0
+    pub parents : AreAlike before.1.parents after.1.parents
+
+  pub leaves-then : (a b c : VertexRecord × Family) → LeavesVertex a b → LeavesVertex b c → LeavesVertex a c
+  leaves-then a b c h k = record { vertex = alike-then a.0 b.0 c.0 h.vertex k.vertex; parents = all_alike-then a.1.parents b.1.parents c.1.parents h.parents k.parents }
+
+  pub vertex_event-leaves : (event : Event) (place : Place) (it after : VertexRecord × Family) → (vertex_event set event place it).ending ≡ done after → LeavesVertex it after
+  vertex_event-leaves event place it after h =
+      let seen : Seen = record { place = place; vertex = Some it.0; cell = None; corners = []; parents = it.1.parents; parent = it.1.parent } in
+      let at = mapped-done (fire set event it.1.list seen) (λ outcome. (unwrap_or outcome.seen.vertex it.0, family_after set outcome)) after h in
+      let leaves = fire-leaves event it.1.list seen at.0 at.1 in
+      subst (LeavesVertex it) (sym at.2) (record {
+        vertex = vertex-alike (set.rules.greatest set.plan) place.level it.0 at.0.seen.vertex leaves.vertex;
+        parents = all_triggered-alike (set.rules.greatest set.plan) (place.level - 1) it.1.parents at.0.seen.parents leaves.parents;
+      })
+
+  -- what an event of a cell leaves
+  pub record LeavesCell (before after : Own × Family) : Type 0 where
+    pub corners : AreAlike before.0.corners after.0.corners
+    pub parents : AreAlike before.1.parents after.1.parents
+
+  pub leaves_cell-then : (a b c : Own × Family) → LeavesCell a b → LeavesCell b c → LeavesCell a c
+  leaves_cell-then a b c h k = record { corners = all_alike-then a.0.corners b.0.corners c.0.corners h.corners k.corners; parents = all_alike-then a.1.parents b.1.parents c.1.parents h.parents k.parents }
+
+  pub cell_event-leaves : (event : Event) (place : Place) (it after : Own × Family) → (cell_event set event place it).ending ≡ done after → LeavesCell it after
+  cell_event-leaves event place it after h =
+      let seen : Seen = record { place = place; vertex = None; cell = Some it.0.cell; corners = it.0.corners; parents = it.1.parents; parent = it.1.parent } in
+      let at = mapped-done (fire set event it.1.list seen) (λ outcome. (record { cell = unwrap_or outcome.seen.cell it.0.cell; corners = outcome.seen.corners }, family_after set outcome)) after h in
+      let leaves = fire-leaves event it.1.list seen at.0 at.1 in
+      subst (LeavesCell it) (sym at.2) (record {
+        corners = all_triggered-alike (set.rules.greatest set.plan) place.level it.0.corners at.0.seen.corners leaves.corners;
+        parents = all_triggered-alike (set.rules.greatest set.plan) (place.level - 1) it.1.parents at.0.seen.parents leaves.parents;
+      })
+
+  -- what a load leaves
+  pub load_touch-leaves : (kind : Kind) (first : Bool) (found : VertexRecord) (place : Place) (family : Family) (after : VertexRecord × Family)
+      → (load_touch set kind first found place family).ending ≡ done after → LeavesVertex (loaded set kind first found place family, family) after
+  load_touch-leaves Hanging first found place family after h =
+      let e = vertex_event-leaves CreateHangingVertex place (fresh_vertex set Hanging place family) after h in
+      record { vertex = e.vertex; parents = e.parents }
+  load_touch-leaves Born true found place family after h =
+      let born = fresh_vertex set Born place family in
+      let at = then-done (vertex_event set CreateInnerVertex place born) (vertex_event set TouchVertexFirstTime place) after h in
+      let e = leaves-then born at.0 after (vertex_event-leaves CreateInnerVertex place born at.0 at.1) (vertex_event-leaves TouchVertexFirstTime place at.0 after at.2) in
+      record { vertex = e.vertex; parents = e.parents }
+  load_touch-leaves Kept true found place family after h = vertex_event-leaves TouchVertexFirstTime place (read_vertex set Kept found, family) after h
+  load_touch-leaves Dying true found place family after h = vertex_event-leaves TouchVertexFirstTime place (read_vertex set Dying found, family) after h
+  load_touch-leaves Born false found place family after h = subst (LeavesVertex (found, family)) (done_same (found, family) after h) (record { vertex = alike-same found; parents = all_alike-same family.parents })
+  load_touch-leaves Kept false found place family after h = subst (LeavesVertex (found, family)) (done_same (found, family) after h) (record { vertex = alike-same found; parents = all_alike-same family.parents })
+  load_touch-leaves Dying false found place family after h = subst (LeavesVertex (found, family)) (done_same (found, family) after h) (record { vertex = alike-same found; parents = all_alike-same family.parents })
+
+  -- what a store leaves of the parents
+  pub store_touch-leaves : (last : Bool) (place : Place) (vertex : VertexRecord) (family : Family) (after : Option VertexRecord × Family)
+      → (store_touch set last place vertex family).ending ≡ done after → AreAlike family.parents after.1.parents
+  store_touch-leaves last place vertex family after h = by_kind vertex.kind last h
+    where
+      ends_well : (e : Event) (a : VertexRecord × Family → Option VertexRecord × Family) → ((it : VertexRecord × Family) → (a it).1 ≡ it.1)
+          → (course_map a (vertex_event set e place (vertex, family))).ending ≡ done after → AreAlike family.parents after.1.parents
+      ends_well e a keeps k =
+          let at = mapped-done (vertex_event set e place (vertex, family)) a after k in
+          let leaves = vertex_event-leaves e place (vertex, family) at.0 at.1 in
+          subst (λ (f : Family). AreAlike family.parents f.parents) (sym (ap (λ x. x.1) at.2 ∙ keeps at.0)) leaves.parents
+
+      by_kind : (kind : Kind) (last : Bool) → (store_of set kind last place vertex family).ending ≡ done after → AreAlike family.parents after.1.parents
+      by_kind Hanging last k = ends_well DestroyHangingVertex (given_up set) (λ it. refl) k
+      by_kind Dying true k =
+          let both = and_then (vertex_event set TouchVertexLastTime place (vertex, family)) (vertex_event set DestroyVertex place) in
+          let at = mapped-done both (given_up set) after k in
+          let one = then-done (vertex_event set TouchVertexLastTime place (vertex, family)) (vertex_event set DestroyVertex place) at.0 at.1 in
+          let leaves = leaves-then (vertex, family) one.0 at.0 (vertex_event-leaves TouchVertexLastTime place (vertex, family) one.0 one.1) (vertex_event-leaves DestroyVertex place one.0 at.0 one.2) in
+          subst (λ (f : Family). AreAlike family.parents f.parents) (sym (ap (λ x. x.1) at.2)) leaves.parents
+      by_kind Kept true k = ends_well TouchVertexLastTime (written set Kept) (λ it. refl) k
+      by_kind Born true k = ends_well TouchVertexLastTime (written set Born) (λ it. refl) k
+      by_kind Kept false k = subst (λ (x : Option VertexRecord × Family). AreAlike family.parents x.1.parents) (done_same (Some vertex, family) after k) (all_alike-same family.parents)
+      by_kind Born false k = subst (λ (x : Option VertexRecord × Family). AreAlike family.parents x.1.parents) (done_same (Some vertex, family) after k) (all_alike-same family.parents)
+      by_kind Dying false k = subst (λ (x : Option VertexRecord × Family). AreAlike family.parents x.1.parents) (done_same (Some vertex, family) after k) (all_alike-same family.parents)
+
+  -- what entering a cell leaves
+  pub enter_touch-leaves : (kind : Kind) (found : List ℤ) (place : Place) (corners : List VertexRecord) (family : Family) (after : Own × Family)
+      → (enter_touch set kind found place corners family).ending ≡ done after → AreAlike corners after.0.corners × AreAlike family.parents after.1.parents
+  enter_touch-leaves Born found place corners family after h =
+      let fresh = set.rules.fresh_cell set.plan family.list in
+      let made : Own × Family = (record { cell = fresh.numbers; corners = corners }, record family { list = fresh.list }) in
+      let at = then-done (cell_event set CreateCell place made) (cell_event set EnterCell place) after h in
+      let leaves = leaves_cell-then made at.0 after (cell_event-leaves CreateCell place made at.0 at.1) (cell_event-leaves EnterCell place at.0 after at.2) in
+      (leaves.corners, leaves.parents)
+  enter_touch-leaves Kept found place corners family after h =
+      let leaves = cell_event-leaves EnterCell place (record { cell = found; corners = corners }, family) after h in (leaves.corners, leaves.parents)
+  enter_touch-leaves Dying found place corners family after h =
+      let leaves = cell_event-leaves EnterCell place (record { cell = found; corners = corners }, family) after h in (leaves.corners, leaves.parents)
+  enter_touch-leaves Hanging found place corners family after h =
+      let leaves = cell_event-leaves EnterCell place (record { cell = found; corners = corners }, family) after h in (leaves.corners, leaves.parents)
+
+  -- and what leaving it leaves
+  pub leave_touch-leaves : (kind : Kind) (place : Place) (own : Own) (family : Family) (after : Own × Family)
+      → (leave_touch set kind place own family).ending ≡ done after → AreAlike own.corners after.0.corners × AreAlike family.parents after.1.parents
+  leave_touch-leaves Dying place own family after h =
+      let at = then-done (cell_event set LeaveCell place (own, family)) (cell_event set DestroyCell place) after h in
+      let leaves = leaves_cell-then (own, family) at.0 after (cell_event-leaves LeaveCell place (own, family) at.0 at.1) (cell_event-leaves DestroyCell place at.0 after at.2) in
+      (leaves.corners, leaves.parents)
+  leave_touch-leaves Kept place own family after h = let leaves = cell_event-leaves LeaveCell place (own, family) after h in (leaves.corners, leaves.parents)
+  leave_touch-leaves Born place own family after h = let leaves = cell_event-leaves LeaveCell place (own, family) after h in (leaves.corners, leaves.parents)
+  leave_touch-leaves Hanging place own family after h = let leaves = cell_event-leaves LeaveCell place (own, family) after h in (leaves.corners, leaves.parents)
+
+-- what the core keeps
+pub core_keeps : {Plan : Type 0} → CoreKeeps Plan
+core_keeps set lawful = record {
+  loads = λ kind first found place family after h. let leaves = load_touch-leaves set lawful kind first found place family after h in (leaves.vertex, leaves.parents);
+  stores = store_touch-leaves set lawful;
+  enters = enter_touch-leaves set lawful;
+  leaves = leave_touch-leaves set lawful;
+}

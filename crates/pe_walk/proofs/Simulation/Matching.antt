@@ -1,0 +1,112 @@
+-- Steps of a model and of a machine that match: they add one text, and end alike, where the machine is an image of the
+-- model's state. What they log is left out.
+use Rattle.std.proofs.Common.{◌≡◌, ℕ, List, [], ◌∷◌, ◌++◌, refl, sym, ap, ap₂, subst, ◌∙◌, Option, Some, None}
+use Rattle.std.specs.Option.{option_and_then}
+use Rattle.pe_base.proofs.Lists.{Each}
+use Rattle.pe_walk.specs.Tokens.{each_some}
+use Rattle.pe_base.specs.Walk.Course.{Cause, Ending, done, halts, stuck, Push, Course, ends, at_once, behind, from, and_then, course_map, each}
+
+-- an ending with its result turned
+abbrev pub ending_map : {X Y : Type 0} → (X → Y) → Ending X → Ending Y
+ending_map f (done x) = done (f x)
+ending_map f (halts cause) = halts cause
+ending_map f stuck = stuck
+
+pub record Matches {W M : Type 0} (image : W → M) (model : Course W) (machine : Course M) : Type 0 where
+  pub text : machine.text ≡ model.text
+  pub ending : machine.ending ≡ ending_map image model.ending
+
+-- one course is matched as another that is equal to it
+pub matches-same : {W M : Type 0} (image : W → M) (model : Course W) (a b : Course M) → a ≡ b → Matches image model a → Matches image model b
+matches-same image model a b e h = subst (λ c. Matches image model c) e h
+
+module _ {W V M N : Type 0} (image : W → M) (image' : V → N) where
+  from-matches : (f : W → Course V) (g : M → Course N) (e : Ending W) (em : Ending M) → em ≡ ending_map image e
+      → ((w : W) → e ≡ done w → Matches image' (f w) (g (image w))) → Matches image' (from e f) (from em g)
+  from-matches f g (done w) em h next = subst (λ x. Matches image' (f w) (from x g)) (sym h) (next w refl)
+  from-matches f g (halts cause) em h next = subst (λ x. Matches image' (ends (halts cause)) (from x g)) (sym h) (record { text = refl; ending = refl })
+  from-matches f g stuck em h next = subst (λ x. Matches image' (ends stuck) (from x g)) (sym h) (record { text = refl; ending = refl })
+
+  -- two steps that match, and then two that match from every result
+  pub then-matches : (model : Course W) (machine : Course M) (f : W → Course V) (g : M → Course N) → Matches image model machine
+      → ((w : W) → model.ending ≡ done w → Matches image' (f w) (g (image w))) → Matches image' (and_then model f) (and_then machine g)
+  then-matches model machine f g first next =
+      let rest = from-matches f g model.ending machine.ending first.ending next in
+      record { text = ap₂ (λ a b. a ++ b) first.text rest.text; ending = rest.ending }
+
+-- one core, whose result is put back in two ways
+pub core-matches : {R W M : Type 0} (image : W → M) (core : Course R) (a : R → W) (b : R → M) → ((r : R) → core.ending ≡ done r → b r ≡ image (a r))
+    → Matches image (course_map a core) (course_map b core)
+core-matches {R = R} image core a b same = go core.ending refl
+  where
+    go : (e : Ending R) → core.ending ≡ e → Matches image (behind core.text core.log (from e (λ r. at_once (a r)))) (behind core.text core.log (from e (λ r. at_once (b r))))
+    go (done r) h = record { text = refl; ending = ap done (same r h) }
+    go (halts cause) h = record { text = refl; ending = refl }
+    go stuck h = record { text = refl; ending = refl }
+
+-- the result of a course that is put back
+pub mapped-done : {R W : Type 0} (core : Course R) (a : R → W) (w : W) → (course_map a core).ending ≡ done w → (r : R) × (core.ending ≡ done r) × (w ≡ a r)
+mapped-done {R = R} core a w h = go core.ending refl h
+  where
+    go : (e : Ending R) → core.ending ≡ e → (from e (λ r. at_once (a r))).ending ≡ done w → (r : R) × (core.ending ≡ done r) × (w ≡ a r)
+    go (done r) k h = (r, k, cc)
+    go (halts cause) k h = absurd cc
+    go stuck k h = absurd cc
+
+-- the result of two courses, one after the other
+pub then-done : {W V : Type 0} (first : Course W) (next : W → Course V) (v : V) → (and_then first next).ending ≡ done v → (w : W) × (first.ending ≡ done w) × ((next w).ending ≡ done v)
+then-done {W = W} first next v h = go first.ending refl h
+  where
+    go : (e : Ending W) → first.ending ≡ e → (from e next).ending ≡ done v → (w : W) × (first.ending ≡ done w) × ((next w).ending ≡ done v)
+    go (done w) k h = (w, k, h)
+    go (halts cause) k h = absurd cc
+    go stuck k h = absurd cc
+
+-- what tokens give in two steps
+pub both_some : {T U : Type 0} (first : Option T) (next : T → Option U) (u : U) → option_and_then next first ≡ Some u → (t : T) × (first ≡ Some t) × (next t ≡ Some u)
+both_some None next u h = absurd cc
+both_some (Some t) next u h = (t, refl, h)
+
+-- A step of the model, of the machine and of the tokens: where it holds and the tokens go on, model and machine match, and
+-- what holds goes on.
+pub record Steps {V U N : Type 0} (image' : V → U → N) (holds' : V → U → Type 0) (model : Course V) (machine : Course N) (t' : U) : Type 0 where
+  pub same : Matches (λ v. image' v t') model machine
+  pub holds : (v : V) → model.ending ≡ done v → holds' v t'
+
+abbrev pub Sim : {W T M V U N : Type 0} → (W → T → Type 0) → (W → T → M) → (V → U → Type 0) → (V → U → N) → (W → Course V) → (M → Course N) → (T → Option U) → Type 0
+Sim {W} {T} {M} {V} {U} {N} holds image holds' image' model machine tokens =
+    (w : W) (t : T) (t' : U) → holds w t → tokens t ≡ Some t' → Steps image' holds' (model w) (machine (image w t)) t'
+
+-- steps one after another
+pub sim-then : {W T M V U N X S P : Type 0} (holds : W → T → Type 0) (image : W → T → M) (holds' : V → U → Type 0) (image' : V → U → N) (holds'' : X → S → Type 0) (image'' : X → S → P)
+    (model : W → Course V) (machine : M → Course N) (tokens : T → Option U) (model' : V → Course X) (machine' : N → Course P) (tokens' : U → Option S)
+    → Sim holds image holds' image' model machine tokens → Sim holds' image' holds'' image'' model' machine' tokens'
+    → Sim holds image holds'' image'' (λ w. and_then (model w) model') (λ m. and_then (machine m) machine') (λ t. option_and_then tokens' (tokens t))
+sim-then holds image holds' image' holds'' image'' model machine tokens model' machine' tokens' first next w t t'' h k =
+    let mid = both_some (tokens t) tokens' t'' k in
+    let one = first w t mid.0 h mid.1 in
+    record {
+      same = then-matches (λ v. image' v mid.0) (λ x. image'' x t'') (model w) (machine (image w t)) model' machine' one.same
+      (λ v e. (next v mid.0 t'' (one.holds v e) mid.2).same);
+      holds = λ x e. let at = then-done (model w) model' x e in (next at.0 mid.0 t'' (one.holds at.0 at.1) mid.2).holds x at.2;
+    }
+
+-- a step that changes nothing
+pub sim-nothing : {W T M : Type 0} (holds : W → T → Type 0) (image : W → T → M) → Sim holds image holds image (λ w. at_once w) (λ m. at_once m) (λ t. Some t)
+sim-nothing holds image w t t' h k =
+    subst (λ x. Steps image holds (at_once w) (at_once (image w t)) x) (some_same t t' k)
+    (record { same = record { text = refl; ending = refl }; holds = λ v e. subst (λ x. holds x t) (done_same w v e) h })
+  where
+    some_same : {T : Type 0} (a b : T) → Some a ≡ Some b → a ≡ b
+    some_same a b e = cc
+    done_same : {W : Type 0} (a b : W) → done a ≡ done b → a ≡ b
+    done_same a b e = cc
+
+-- a step for each item of a list
+pub sim-each : {A W T M : Type 0} (holds : W → T → Type 0) (image : W → T → M) (model : A → W → Course W) (machine : A → M → Course M) (tokens : A → T → Option T) (items : List A)
+    → Each (λ a. Sim holds image holds image (model a) (machine a) (tokens a)) items
+    → Sim holds image holds image (each model items) (each machine items) (each_some tokens items)
+sim-each holds image model machine tokens [] h = sim-nothing holds image
+sim-each holds image model machine tokens (a ∷ items) h =
+    sim-then holds image holds image holds image (model a) (machine a) (tokens a) (each model items) (each machine items) (each_some tokens items)
+    h.0 (sim-each holds image model machine tokens items h.1)
