@@ -24,7 +24,7 @@ module _ {P : Type 0} (numbers : P → List ℤ) where
   -- the corners after the first of them was asked to erase
   pub corners-first_erased : (corners : CornerList (Held_vertex P)) (v : Held_vertex P) → vertex_at corners 0 ≡ Some v
       → seen_corners numbers (with_vertex corners 0 (Some (erased v))) ≡ first_erased (seen_corners numbers corners)
-  corners-first_erased corners v is = first corners.places is where
+  corners-first_erased corners v is = first corners.slots is where
     first : (places : List (Option (Held_vertex P))) → vertex_at (record corners { places = places }) 0 ≡ Some v
         → seen_corners numbers (with_vertex (record corners { places = places }) 0 (Some (erased v))) ≡ first_erased (seen_corners numbers (record corners { places = places }))
     first [] is = absurd cc
