@@ -25,11 +25,11 @@ module _ {P : Type 0} (numbers : P → List ℤ) where
   pub corners-first_erased : (corners : CornerList (Held_vertex P)) (v : Held_vertex P) → vertex_at corners 0 ≡ Some v
       → seen_corners numbers (with_vertex corners 0 (Some (erased v))) ≡ first_erased (seen_corners numbers corners)
   corners-first_erased corners v is = first corners.slots is where
-    first : (places : List (Option (Held_vertex P))) → vertex_at (record corners { places = places }) 0 ≡ Some v
-        → seen_corners numbers (with_vertex (record corners { places = places }) 0 (Some (erased v))) ≡ first_erased (seen_corners numbers (record corners { places = places }))
+    first : (places : List (Option (Held_vertex P))) → vertex_at (record corners { slots = places }) 0 ≡ Some v
+        → seen_corners numbers (with_vertex (record corners { slots = places }) 0 (Some (erased v))) ≡ first_erased (seen_corners numbers (record corners { slots = places }))
     first [] is = absurd cc
     first (None ∷ places) is = absurd cc
-    first (Some w ∷ places) is = ap (λ there. first_erased (seen_vertex numbers (option_map_or (λ x. x) there v) ∷ seen_corners numbers (record corners { places = places }))) (sym is)
+    first (Some w ∷ places) is = ap (λ there. first_erased (seen_vertex numbers (option_map_or (λ x. x) there v) ∷ seen_corners numbers (record corners { slots = places }))) (sym is)
 
 quiet : (held : Held ℕ) (event : Event) (traversal : ℕ) (seen : Seen) → outcome_of ledger_rules held event traversal seen ≡ nothing_done held.list seen None → IsOutcome (outcome_of ledger_rules held event traversal seen) None held held seen
 quiet held event traversal seen is = record {
