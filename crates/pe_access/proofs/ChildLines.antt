@@ -2,8 +2,7 @@
 use Rattle.std.specs.Prelude.{ℕ, zero, suc, ◌+◌, ◌/◌, ◌%◌, List, [], ◌∷◌, map, sum}
 use Rattle.pe_base.specs.declared.way.Way.{Way}
 use Rattle.pe_base.specs.Steps.Routes.{way_turns}
-use Rattle.pe_access.specs.declared.line.Line.{Line}
-use Rattle.pe_access.specs.Lines.{root_line, child_line}
+use Rattle.pe_access.specs.Lines.{Line, root_line, child_line}
 
 -- the position of the parent
 abbrev pub parent_pos : List ℕ → List ℕ

@@ -11,14 +11,10 @@ use Rattle.pe_base.proofs.Steps.Spans.{Spot, fits, fits_all, coarse, two, two_on
 use Rattle.pe_base.proofs.Steps.Levels.{entry, or_else, fits-parents}
 use Rattle.pe_base.proofs.Steps.Rounds.{spots}
 use Rattle.pe_base.proofs.Steps.StackLaws.{length-parents}
-use Rattle.pe_access.specs.declared.face.Face.{Face}
-use Rattle.pe_access.specs.declared.face.Relation.{Relation}
-use Rattle.pe_access.specs.declared.face.Relation.TheVariants.{Earlier, Later, Outside}
-use Rattle.pe_access.specs.declared.line.Line.{Line}
 use Rattle.pe_access.specs.declared.route.Route.TheVariants.{Temp}
-use Rattle.pe_access.specs.declared.route.Choice.{Choice}
-use Rattle.pe_access.specs.Lines.{bit_of, is_relation, root_line, root_face, child_line, near_face, far_face, face_at, faster, fastest}
+use Rattle.pe_access.specs.Lines.{Face, Relation, Earlier, Later, Outside, Line, bit_of, is_relation, root_line, root_face, child_line, near_face, far_face, face_at}
 use Rattle.pe_access.specs.States.{route_of}
+use Rattle.pe_access.proofs.Choices.{Choice, faster, fastest}
 use Rattle.pe_access.proofs.ChildLines.{child_lines, lines_of}
 use Rattle.pe_access.proofs.LineLaws.{length-lines_of}
 

@@ -19,10 +19,7 @@ use Rattle.pe_base.proofs.Steps.Levels.{cells}
 use Rattle.pe_base.proofs.Steps.Rounds.{order-cells, cells-long}
 use Rattle.pe_base.proofs.Steps.SlowerLaws.{times, count-tally, threes-times}
 use Rattle.pe_base.proofs.Steps.StackLaws.{length-parents, is_same_pos-refl}
-use Rattle.pe_access.specs.declared.face.Face.{Face}
-use Rattle.pe_access.specs.declared.face.Relation.TheVariants.{Earlier, Later, Outside}
-use Rattle.pe_access.specs.declared.line.Line.{Line}
-use Rattle.pe_access.specs.Lines.{bit_of, root_line, root_face, near_face, far_face}
+use Rattle.pe_access.specs.Lines.{Face, Earlier, Later, Outside, Line, bit_of, root_line, root_face, near_face, far_face}
 use Rattle.pe_access.specs.Faces.{relation_to, face_of, line_of}
 use Rattle.pe_access.proofs.ChildLines.{child_lines, lines_of}
 use Rattle.pe_access.proofs.LineLaws.{length-lines_of, lines_of-odd}

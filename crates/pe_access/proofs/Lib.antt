@@ -6,7 +6,10 @@ pub mod ChildLines
 -- lines from a cell to its child, and the flips of a cell
 pub mod LineLaws
 -- # Routes
--- the fastest face at a corner is that across which the cell is entered, or left
+-- the fastest face at a corner, by relations and levels, and by numbers
+pub mod Choices
+pub mod NumberLaws
+-- the fastest face is that across which the cell is entered, or left
 pub mod FaceLaws
 -- the routes of a state are those around the vertex
 pub mod RouteProofs
@@ -17,3 +20,8 @@ pub mod OrderLaws
 pub mod HeldLaws
 -- states that hold what the order of the walk says, by the lines from parent to child
 pub mod StateLaws
+-- # Rows of children
+-- the numbers of a row, and of a child in it
+pub mod RowLaws
+-- from child to child of a row
+pub mod StepLaws

@@ -1,6 +1,6 @@
 -- Lines from a cell to its child, and the flips of a cell.
 use Rattle.std.proofs.Common.{◌≡◌, ℕ, zero, suc, ◌+◌, ◌*◌, ◌/◌, ◌%◌, ◌^◌, ◌<◌, true, false, List, [], ◌∷◌, map, length, get_or, sym, ap, ◌∙◌, subst, refl, inl, inr, arith, pow-suc}
-use Rattle.std.specs.Prelude.{◌==◌, if◌then◌else◌, sum, slice_index}
+use Rattle.std.specs.Prelude.{◌==◌, if◌then◌else◌, sum, sum_by, slice_index}
 use Rattle.std.proofs.lemmas.Bool.{eqb-true, eqb-false, cases_lt}
 use Rattle.pe_base.specs.declared.way.Way.{Way}
 use Rattle.pe_base.specs.Tree.Places.{finer}
@@ -10,11 +10,8 @@ use Rattle.pe_base.proofs.Tree.PlaceLaws.{four}
 use Rattle.pe_base.proofs.Steps.RouteLaws.{Below}
 use Rattle.pe_base.proofs.Steps.StackLaws.{Below-parents, length-parents}
 use Rattle.std.proofs.lemmas.List.{length-map, get_or-map}
-use Rattle.pe_access.specs.declared.face.Face.{Face}
-use Rattle.pe_access.specs.declared.face.Relation.TheVariants.{Earlier, Later}
-use Rattle.pe_access.specs.declared.line.Line.{Line}
-use Rattle.pe_access.specs.Lines.{bit_of, root_line, child_line}
-use Rattle.pe_access.specs.States.{odd_count}
+use Rattle.pe_access.specs.Lines.{Face, Earlier, Later, Line, bit_of, root_line, child_line}
+use Rattle.pe_access.specs.declared.numbers.Axis.{Axis}
 use Rattle.pe_access.proofs.ChildLines.{parent_pos, child_lines, lines_of}
 
 pub child_line-parity : (level a b k : ℕ) (line : Line) → a % 2 ≡ b % 2 → child_line level a k line ≡ child_line level b k line
@@ -113,7 +110,7 @@ four_lines (x ∷ y ∷ z ∷ w ∷ v ∷ rest) d e = absurd (omega arith)
 abbrev Descends : List ℕ → List ℕ → List Line → Type 0
 Descends pos ks lines =
     (way : Way) (level t b₀ b₁ b₂ b₃ : ℕ) (d l₀ l₁ l₂ l₃ : Line) → Below 3 ks → length pos ≡ length ks → map (λ line. bit_of line.odd) lines ≡ map (λ x. x % 2) pos
-    → t ≡ way_turns way + odd_count lines
+    → t ≡ way_turns way + sum_by (λ line. bit_of line.odd) lines
     → b₀ ≡ bit_of (get_or lines 0 d).odd → b₁ ≡ bit_of (get_or lines 1 d).odd → b₂ ≡ bit_of (get_or lines 2 d).odd → b₃ ≡ bit_of (get_or lines 3 d).odd
     → l₀ ≡ child_line (level + 1) (t + b₀) (get_or ks 0 0) (get_or lines 0 d)
     → l₁ ≡ child_line (level + 1) (t + get_or ks 0 0 + b₁) (get_or ks 1 0) (get_or lines 1 d)
@@ -161,8 +158,8 @@ pub Below-all : (bound : ℕ) (pos : List ℕ) → ((i : ℕ) → slice_index po
 Below-all bound [] h = tt
 Below-all bound (x ∷ pos) h = (h 0, Below-all bound pos (λ i. h (suc i)))
 
--- the parity of a line
-pub odd-at : (lines : List Line) (pos : List ℕ) (i : ℕ) (d : Line) → i < length lines → map (λ line. bit_of line.odd) lines ≡ map (λ x. x % 2) pos → bit_of (get_or lines i d).odd ≡ slice_index pos i % 2
-odd-at lines pos i d h e =
-    let same : length lines ≡ length pos = sym (length-map lines (λ line. bit_of line.odd)) ∙ ap length e ∙ length-map pos (λ x. x % 2) in
-    sym (get_or-map (λ line. bit_of line.odd) lines i d 0 h) ∙ ap (λ xs. get_or xs i 0) e ∙ get_or-map (λ x. x % 2) pos i 0 0 (omega arith)
+-- the parity along an axis
+pub odd-at : (along : List Axis) (pos : List ℕ) (i : ℕ) (d : Axis) → i < length along → map (λ axis. bit_of axis.odd) along ≡ map (λ x. x % 2) pos → bit_of (get_or along i d).odd ≡ slice_index pos i % 2
+odd-at along pos i d h e =
+    let same : length along ≡ length pos = sym (length-map along (λ axis. bit_of axis.odd)) ∙ ap length e ∙ length-map pos (λ x. x % 2) in
+    sym (get_or-map (λ axis. bit_of axis.odd) along i d 0 h) ∙ ap (λ xs. get_or xs i 0) e ∙ get_or-map (λ x. x % 2) pos i 0 0 (omega arith)

@@ -14,10 +14,7 @@ use Rattle.pe_base.proofs.Steps.RouteLaws.{Below}
 use Rattle.pe_base.proofs.Steps.Spans.{is_even, parents, or_none}
 use Rattle.pe_base.proofs.Steps.Levels.{kids, cells}
 use Rattle.pe_base.proofs.Steps.StackLaws.{Member, Member-cells, Below-parents, length-parents, same_pos, is_same_pos-refl}
-use Rattle.pe_access.specs.declared.face.Face.{Face}
-use Rattle.pe_access.specs.declared.face.Relation.TheVariants.{Earlier, Later}
-use Rattle.pe_access.specs.declared.line.Line.{Line}
-use Rattle.pe_access.specs.Lines.{root_face, near_face, far_face}
+use Rattle.pe_access.specs.Lines.{Face, Earlier, Later, Line, root_face, near_face, far_face}
 use Rattle.pe_access.proofs.ChildLines.{child_lines, lines_of}
 use Rattle.pe_access.proofs.LineLaws.{length-lines_of}
 

@@ -18,13 +18,10 @@ use Rattle.pe_base.proofs.Steps.Spans.{fits_all, parents}
 use Rattle.pe_base.proofs.Steps.Levels.{entry}
 use Rattle.pe_base.proofs.Steps.Rounds.{spots}
 use Rattle.pe_base.proofs.Steps.StackLaws.{Touches, stack_in-entry, stack_out-entry, length-parents}
-use Rattle.pe_access.specs.declared.face.Relation.{Relation}
-use Rattle.pe_access.specs.declared.face.Relation.TheVariants.{Earlier, Later, Outside}
-use Rattle.pe_access.specs.declared.line.Line.{Line}
 use Rattle.pe_access.specs.declared.route.Route.TheVariants.{Stream, Temp}
-use Rattle.pe_access.specs.declared.route.Choice.{Choice}
-use Rattle.pe_access.specs.Lines.{bit_of, is_relation, root_line, root_face, child_line, faster, fastest}
+use Rattle.pe_access.specs.Lines.{Relation, Earlier, Later, Outside, Line, bit_of, is_relation, root_line, root_face, child_line}
 use Rattle.pe_access.specs.States.{route_of}
+use Rattle.pe_access.proofs.Choices.{Choice, faster, fastest}
 use Rattle.pe_access.proofs.ChildLines.{child_lines, lines_of}
 use Rattle.pe_access.proofs.LineLaws.{length-lines_of, lines_of-odd}
 use Rattle.pe_access.proofs.FaceLaws.{Sees, pick, marks, choice_of, fastest-pick, pick-entry}
@@ -123,7 +120,7 @@ bits-more (suc axes) n k h =
     ap (λ (m : ℕ). bits m k) count ∙ bits-suc (axes + n) k ∙ ap (λ bs. (k % 2) ∷ bs) (bits-more axes n (k / 2) half)
     ∙ ap (λ bs. bs ++ replicate n 0) (sym (bits-suc axes k))
 
-bits-small : (axes k : ℕ) → Below 2 (bits axes k)
+pub bits-small : (axes k : ℕ) → Below 2 (bits axes k)
 bits-small zero k = tt
 bits-small (suc axes) k =
     let P : List ℕ → Type 0 = λ bs. Below 2 bs in

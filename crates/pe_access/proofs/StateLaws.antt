@@ -10,8 +10,7 @@ use Rattle.pe_base.specs.Steps.Routes.{way_turns}
 use Rattle.pe_base.proofs.Tree.PlaceLaws.{IsPosition-below, IsCellPlace-child_at}
 use Rattle.pe_base.proofs.Tree.CurveLaws.{slice_get-append_left}
 use Rattle.pe_base.proofs.Steps.RouteLaws.{Below, length-front, padded-front}
-use Rattle.pe_access.specs.declared.line.Line.{Line}
-use Rattle.pe_access.specs.Lines.{bit_of, child_line, near_face}
+use Rattle.pe_access.specs.Lines.{Line, bit_of, child_line, near_face}
 use Rattle.pe_access.specs.Faces.{line_of}
 use Rattle.pe_access.specs.States.{HoldsCell, IsIdle}
 use Rattle.pe_access.proofs.ChildLines.{lines_of}
@@ -120,3 +119,41 @@ idle-rest zero (line ∷ lines) h =
     (first.closed, idle-rest zero lines (λ i k. h (suc i) (omega arith)))
 idle-rest (suc n) [] h = tt
 idle-rest (suc n) (line ∷ lines) h = idle-rest n lines (λ i k. h (suc i) (omega arith))
+
+lines_at-alike : (level turns : ℕ) (ps ks ks' : List ℕ) (lines : List Line) (axis : ℕ) → length ks ≡ length ks' → ((i : ℕ) → i ≤ axis → slice_index ks i ≡ slice_index ks' i) → slice_get (lines_at level turns ps ks lines) axis ≡ slice_get (lines_at level turns ps ks' lines) axis
+lines_at-alike level turns [] ks ks' lines axis e same = refl
+lines_at-alike level turns (p ∷ ps) [] [] lines axis e same = refl
+lines_at-alike level turns (p ∷ ps) [] (k' ∷ ks') lines axis e same = absurd (omega arith)
+lines_at-alike level turns (p ∷ ps) (k ∷ ks) [] lines axis e same = absurd (omega arith)
+lines_at-alike level turns (p ∷ ps) (k ∷ ks) (k' ∷ ks') [] axis e same = refl
+lines_at-alike level turns (p ∷ ps) (k ∷ ks) (k' ∷ ks') (line ∷ lines) zero e same =
+    let first : k ≡ k' = same 0 (omega arith) in
+    ap (λ (d : ℕ). Some (child_line level (turns + p) d line)) first
+lines_at-alike level turns (p ∷ ps) (k ∷ ks) (k' ∷ ks') (line ∷ lines) (suc axis) e same =
+    let first : k ≡ k' = same 0 (omega arith) in
+    ap (λ (d : ℕ). slice_get (lines_at level (turns + d) ps ks lines) axis) first
+    ∙ lines_at-alike level (turns + k') ps ks ks' lines axis (omega arith) (λ i h. same (suc i) (omega arith))
+
+-- a child's line along an axis, from its parent's position
+line_of-child : (axes : ℕ) (way : Way) (cell : Place) (digits : Digits) (axis : ℕ) → axes ≤ 4 → IsCellPlace axes cell → cell.level < 20 → IsDigits axes digits → axis < axes
+    → slice_get (lines_at (cell.level + 1) (way_turns way + sum cell.pos) cell.pos digits.k (lines_of way cell.level cell.pos)) axis ≡ Some (line_of axes way (child_at cell digits) axis)
+line_of-child axes way cell digits axis few place level-below d within =
+    let level = cell.level in
+    let pos = cell.pos in
+    let ks = digits.k in
+    let all = way_turns way + sum pos in
+    let same : length pos ≡ length ks = place.pos.four ∙ sym d.four in
+    let below : Below 3 ks = Below-all 3 ks (IsPosition-below axes 3 ks (omega arith) d) in
+    let next : lines_at (level + 1) all pos ks (lines_of way level pos) ≡ lines_of way (level + 1) (finer pos ks) =
+    ap (λ (n : ℕ). lines_at n all pos ks (lines_of way level pos)) (add-one level) ∙ sym (lines_of-finer way level pos ks same below) ∙ ap (λ (n : ℕ). lines_of way n (finer pos ks)) (sym (add-one level)) in
+    ap (λ xs. slice_get xs axis) next ∙ held axes way (child_at cell digits) axis few (IsCellPlace-child_at axes cell digits place level-below d) within
+
+-- children whose digits agree up to an axis have one line there
+pub line_of-alike : (axes : ℕ) (way : Way) (cell : Place) (digits digits' : Digits) (axis : ℕ) → axes ≤ 4 → IsCellPlace axes cell → cell.level < 20 → IsDigits axes digits → IsDigits axes digits' → axis < axes
+    → ((i : ℕ) → i ≤ axis → slice_index digits.k i ≡ slice_index digits'.k i) → line_of axes way (child_at cell digits) axis ≡ line_of axes way (child_at cell digits') axis
+line_of-alike axes way cell digits digits' axis few place level-below d d' within same =
+    let one : Some (line_of axes way (child_at cell digits) axis) ≡ Some (line_of axes way (child_at cell digits') axis) =
+    sym (line_of-child axes way cell digits axis few place level-below d within)
+    ∙ lines_at-alike (cell.level + 1) (way_turns way + sum cell.pos) cell.pos digits.k digits'.k (lines_of way cell.level cell.pos) axis (d.four ∙ sym d'.four) same
+    ∙ line_of-child axes way cell digits' axis few place level-below d' within in
+    cc

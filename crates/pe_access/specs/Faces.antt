@@ -2,11 +2,8 @@
 use Rattle.std.specs.Prelude.{ℕ, ◌%◌, ◌==◌, if◌then◌else◌, Option, Some, None, slice_index}
 use Rattle.pe_base.specs.declared.place.Place.{Place}
 use Rattle.pe_base.specs.declared.way.Way.{Way}
+use Rattle.pe_access.specs.Lines.{Face, Relation, Earlier, Later, Outside, Line}
 use Rattle.pe_base.specs.Steps.Neighbours.{neighbour, comes_first, face_level}
-use Rattle.pe_access.specs.declared.face.Face.{Face}
-use Rattle.pe_access.specs.declared.face.Relation.{Relation}
-use Rattle.pe_access.specs.declared.face.Relation.TheVariants.{Earlier, Later, Outside}
-use Rattle.pe_access.specs.declared.line.Line.{Line}
 
 -- when a neighbour comes
 abbrev pub relation_to : ℕ → Way → Place → Option Place → Relation

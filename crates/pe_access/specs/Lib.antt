@@ -2,7 +2,11 @@
 
 -- cells along one axis: their parities and their faces, from parent to child
 pub mod Lines
+-- the numbers of faces
+pub mod Numbers
 -- what a state holds of each face, by the order of the walk
 pub mod Faces
 -- what a state is of a cell
 pub mod States
+-- the numbers of the corners of a row of children
+pub mod Rows

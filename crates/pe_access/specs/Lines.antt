@@ -1,11 +1,22 @@
 -- Cells along one axis: their parities and their faces, from parent to child.
-use Rattle.std.specs.Prelude.{ℕ, ◌+◌, ◌*◌, ◌%◌, Bool, true, false, ◌&&◌, ◌==◌, nat_lt, if◌then◌else◌, List, [], ◌∷◌}
-use Rattle.pe_access.specs.declared.face.Face.{Face}
-use Rattle.pe_access.specs.declared.face.Relation.{Relation}
-use Rattle.pe_access.specs.declared.face.Relation.TheVariants.{Earlier, Later, Outside}
-use Rattle.pe_access.specs.declared.line.Line.{Line}
-use Rattle.pe_access.specs.declared.route.Route.TheVariants.{Stream, Temp}
-use Rattle.pe_access.specs.declared.route.Choice.{Choice}
+use Rattle.std.specs.Prelude.{ℕ, ◌+◌, ◌%◌, Bool, true, false, ◌==◌, if◌then◌else◌}
+
+-- when the walk visits the neighbour across a face: before the cell, after it, or never, since it is outside the root
+pub data Relation : Type 0 where
+  Earlier : Relation
+  Later : Relation
+  Outside : Relation
+
+-- a face of a cell: when the neighbour across it comes, and the least level on which its plane bounds a cell around it
+pub record Face : Type 0 where
+  pub relation : Relation
+  pub level : ℕ
+
+-- a cell along one axis: whether its position is odd, and its two faces normal to the axis
+pub record Line : Type 0 where
+  pub odd : Bool
+  pub near : Face
+  pub far : Face
 
 -- the parity as a number
 abbrev pub bit_of : Bool → ℕ
@@ -43,17 +54,3 @@ child_line level turns k line = record {
 -- the face at a side
 abbrev pub face_at : Line → ℕ → Face
 face_at line side = if side == 0 then line.near else line.far
-
--- the face with a greater level, and of equal ones that of the axes behind
-abbrev pub faster : Relation → ℕ → ℕ → Line → Choice → Choice
-faster relation axis side line behind =
-    let face = face_at line side in
-    if is_relation face.relation relation && nat_lt behind.level face.level
-    then record { route = Temp (2 * axis + (bit_of line.odd + side) % 2); level = face.level }
-    else behind
-
--- the best face at a corner, with a side for each axis
-abbrev pub fastest : Relation → ℕ → List ℕ → List Line → Choice
-fastest relation axis [] lines = record { route = Stream; level = 0 }
-fastest relation axis (side ∷ sides) [] = record { route = Stream; level = 0 }
-fastest relation axis (side ∷ sides) (line ∷ lines) = faster relation axis side line (fastest relation (axis + 1) sides lines)

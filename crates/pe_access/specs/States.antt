@@ -3,12 +3,13 @@ use Rattle.std.specs.Prelude.{◌≡◌, ℕ, ◌<◌, ◌≤◌, false, List, s
 use Rattle.pe_base.specs.declared.place.Place.{Place}
 use Rattle.pe_base.specs.declared.way.Way.{Way}
 use Rattle.pe_base.specs.Tree.Dim.{IsDim}
-use Rattle.pe_access.specs.declared.line.Line.{Line}
+use Rattle.pe_access.specs.declared.numbers.Axis.{Axis}
 use Rattle.pe_access.specs.declared.state.CellState.{CellState}
 use Rattle.pe_access.specs.declared.route.Route.{Route}
 use Rattle.pe_access.specs.declared.route.Route.TheVariants.{Stream, Temp}
-use Rattle.pe_access.specs.Lines.{bit_of, root_face}
+use Rattle.pe_access.specs.Lines.{Line, bit_of, root_face}
 use Rattle.pe_access.specs.Faces.{line_of}
+use Rattle.pe_access.specs.Numbers.{axes_from}
 
 -- the number of axes of the grid of a state
 abbrev pub axes_of : CellState → ℕ
@@ -28,17 +29,19 @@ pub record HoldsCell (axes : ℕ) (way : Way) (cell : Place) (lines : List Line)
   pub grid_axes : (axis : ℕ) → axis < axes → slice_get lines axis ≡ Some (line_of axes way cell axis)
   pub others : (axis : ℕ) → axes ≤ axis → IfSome (slice_get lines axis) IsIdle
 
--- the state stands for a cell of a grid in a way
+-- the state stands for a cell of a grid in a way: its numbers are those of lines that hold the cell
 pub record StandsFor (axes : ℕ) (way : Way) (cell : Place) (state : CellState) : Type 0 where
   pub grid : IsDim axes
   pub same_axes : state.axes ≡ axes
   pub same_way : state.way ≡ way
   pub same_level : state.level ≡ cell.level
-  pub lines : HoldsCell axes way cell state.lines
+  pub lines : List Line
+  pub held : HoldsCell axes way cell lines
+  pub numbers : state.along ≡ axes_from 0 lines
 
--- how many of some lines are odd
-abbrev pub odd_count : List Line → ℕ
-odd_count lines = sum_by (λ line. bit_of line.odd) lines
+-- along how many axes the position is odd
+abbrev pub odd_count : List Axis → ℕ
+odd_count along = sum_by (λ axis. bit_of axis.odd) along
 
 -- the route of a stack, if there is one
 abbrev pub route_of : Option ℕ → Route

@@ -3,14 +3,15 @@
 //! [`CellState`] stands for a cell without its position, and tells the [`Route`] of each corner. Nothing here takes memory.
 #![tactic(auto)]
 
-mod face;
 mod laws;
-mod line;
+mod numbers;
 mod route;
+mod row;
 #[cfg(test)]
 mod rows;
 mod state;
 
-pub use laws::order_around;
+pub use laws::{order_around, rows_of_children};
 pub use route::Route;
+pub use row::Row;
 pub use state::CellState;

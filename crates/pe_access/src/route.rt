@@ -6,10 +6,3 @@ pub enum Route {
     /// The temporary stack of this number: `2 i + b` where the vertex crosses axis i at a coordinate of parity b.
     Temp(u8),
 }
-
-/// The best route so far, and the level of its face; level 0 for the stream.
-#[derive(Clone, Copy, Debug, PartialEq, Eq)]
-pub struct Choice {
-    pub route: Route,
-    pub level: u8,
-}

@@ -49,6 +49,21 @@ fn the_middle_cell_of_the_plane(rt: HostRuntime) -> Result<(), Fail> {
     Ok(())
 }
 
+#[test]
+fn a_row_of_children(rt: HostRuntime) -> Result<(), Fail> {
+    let dim = Dim::new(2).ok_or("a dimension")?;
+    let root = CellState::root(dim, Way::Forward);
+    let mut child = root.descend(Digits { k: [1, 0, 0, 0] });
+    let row = child.row();
+    root.step(&mut child, Digits { k: [1, 1, 0, 0] });
+    // The middle cell takes corner 3 from the stack of axis 1 and hands it to that of axis 0.
+    assert_eq!(rt; child.coming_in(&row, 3), 8 + 2);
+    assert_eq!(rt; child.going_in(&row, 3), 8);
+    assert_eq!(rt; child.coming(3), 8 + 2);
+    assert_eq!(rt; child.going(3), 8);
+    Ok(())
+}
+
 // Where each vertex of a level waits: not touched yet, on a stack (its number and one), or back on the stream.
 const UNTOUCHED: u8 = 0;
 

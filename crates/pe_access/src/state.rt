@@ -1,15 +1,18 @@
-ghost use Rattle.std.specs.Prelude.{◌≡◌, ℕ, ◌+◌, ◌<◌, ◌^◌, length};
+ghost use Rattle.std.specs.Prelude.{◌≡◌, ℕ, ◌+◌, ◌-◌, ◌/◌, ◌%◌, ◌<◌, ◌^◌, max, slice_index};
 ghost use Rattle.pe_base.specs.declared.place.Place.{Place as APlace};
+ghost use Rattle.pe_base.specs.declared.place.Digits.{Digits as SomeDigits};
 ghost use Rattle.pe_base.specs.declared.way.Way.{Way as AWay};
+ghost use Rattle.pe_base.specs.Tree.Dim.{IsDim};
 ghost use Rattle.pe_base.specs.Tree.Places.{IsDigits, IsCellPlace, IsInside, bits, child_at, corner as corner_at, root};
 ghost use Rattle.pe_base.specs.Tree.Curve.{flips};
 ghost use Rattle.pe_base.specs.Steps.Routes.{stack_in, stack_out, way_turns};
-ghost use Rattle.pe_access.specs.Lines.{fastest};
+ghost use Rattle.pe_access.specs.Numbers.{stack_of};
+ghost use Rattle.pe_access.specs.Rows.{IsRow, front_of, side_of};
 ghost use Rattle.pe_access.specs.States.{StandsFor, axes_of, level_of, odd_count, route_of};
 
-use crate::face::Relation;
-use crate::line::{Line, bit};
-use crate::route::{Choice, Route};
+use crate::numbers::{Axis, bit};
+use crate::route::Route;
+use crate::row::Row;
 use pe_base::{Digits, Dim, Way};
 
 /// What the walk knows of a cell besides its record: parities and faces, and no position.
@@ -18,7 +21,7 @@ pub struct CellState {
     axes: u8,
     way: Way,
     level: u8,
-    lines: [Line; 4],
+    along: [Axis; 4],
 }
 
 impl CellState {
@@ -31,7 +34,7 @@ impl CellState {
             axes: dim.axes(),
             way,
             level: 0,
-            lines: [Line::root(), Line::root(), Line::root(), Line::root()],
+            along: [Axis::root(), Axis::root(), Axis::root(), Axis::root()],
         }
     }
 
@@ -44,30 +47,57 @@ impl CellState {
         ensures axes { axes_of result ≡ axes_of self.now }
         ensures level { level_of result ≡ level_of self.now + 1 }
     {
-        let [x, y, z, w] = self.lines;
+        let [x, y, z, w] = self.along;
         let [i, j, k, l] = k.k;
         let level = self.level + 1;
         let turns = self.turns();
-        let lines = [
-            x.child(level, turns + bit(x.odd), i),
-            y.child(level, turns + i + bit(y.odd), j),
-            z.child(level, turns + i + j + bit(z.odd), k),
-            w.child(level, turns + i + j + k + bit(w.odd), l),
+        let along = [
+            x.child(0, level, turns + bit(x.odd), i),
+            y.child(1, level, turns + i + bit(y.odd), j),
+            z.child(2, level, turns + i + j + bit(z.odd), k),
+            w.child(3, level, turns + i + j + k + bit(w.odd), l),
         ];
         CellState {
             axes: self.axes,
             way: self.way,
             level,
-            lines,
+            along,
         }
+    }
+
+    /// Makes the state of a child that of the child at these digits, which differ from its own on the last axis alone.
+    ///
+    /// That is what `descend` gives, with less to do along a row of children.
+    pub fn step(&self, child: &mut CellState, digits: Digits)
+        requires level { level_of self.now < 20 }
+        requires digits { IsDigits (axes_of self.now) digits }
+        requires axes { IsDim (axes_of self.now) }
+        ensures stands { (axes : ℕ) (way : AWay) (cell : APlace) (from : SomeDigits) → IsCellPlace axes cell → IsDigits axes from
+            → StandsFor axes way cell self.now → StandsFor axes way (child_at cell from) child.old
+            → ((i : ℕ) → i < axes - 1 → slice_index from.k i ≡ slice_index digits.k i) → StandsFor axes way (child_at cell digits) child.new }
+        ensures axes { axes_of child.new ≡ axes_of child.old }
+        ensures level { level_of child.new ≡ level_of child.old }
+        ensures front { axes_of child.old ≡ axes_of self.now → front_of child.new ≡ front_of child.old }
+    {
+        let [i, j, k, _] = digits.k;
+        let before = match self.axes {
+            2 => i,
+            3 => i + j,
+            _ => i + j + k,
+        };
+        let axis = self.axes - 1;
+        let last = axis as usize;
+        let parent = self.along[last];
+        let turns = self.turns() + before + bit(parent.odd);
+        child.along[last] = parent.child(axis, self.level + 1, turns, digits.k[last]);
     }
 
     // The turns of every axis: one where the walk is inverted, and one for each odd position.
     fn turns(&self) -> u8
-        ensures value { result ≡ way_turns self.now.way + odd_count self.now.lines }
+        ensures value { result ≡ way_turns self.now.way + odd_count self.now.along }
         ensures small { result < 6 }
     {
-        let [x, y, z, w] = self.lines;
+        let [x, y, z, w] = self.along;
         let inverted = match self.way {
             Way::Forward => 0,
             Way::Inverted => 1,
@@ -80,12 +110,90 @@ impl CellState {
         ensures { (axes : ℕ) (way : AWay) (cell : APlace) → IsCellPlace axes cell → StandsFor axes way cell self.now
             → bits axes result ≡ flips axes cell.pos }
     {
-        let [x, y, z, w] = self.lines;
+        let [x, y, z, w] = self.along;
         let sum = bit(x.odd) + bit(y.odd) + bit(z.odd) + bit(w.odd);
         (sum + bit(x.odd)) % 2
             + 2 * ((sum + bit(y.odd)) % 2)
             + 4 * ((sum + bit(z.odd)) % 2)
             + 8 * ((sum + bit(w.odd)) % 2)
+    }
+
+    /// The number of the face by which the cell takes its corner: 0 where it is the first of the vertex's cells, else
+    /// eight times the face's level, and the stack.
+    ///
+    /// `corner` is below `2^d`, and that corner lies strictly inside the root cube.
+    pub fn coming(&self, corner: u8) -> u32
+        requires { corner < 2 ^ axes_of self.now }
+        ensures { (axes : ℕ) (way : AWay) (cell : APlace) → IsCellPlace axes cell → StandsFor axes way cell self.now
+            → let vertex = corner_at axes cell corner in IsInside axes vertex → stack_of result ≡ stack_in axes way vertex cell }
+    {
+        let [x, y, z, w] = self.along;
+        let last = z.at(corner / 4 % 2).coming.max(w.at(corner / 8 % 2).coming);
+        let behind = y.at(corner / 2 % 2).coming.max(last);
+        x.at(corner % 2).coming.max(behind)
+    }
+
+    /// The number of the face by which the cell hands its corner on: 0 where it is the last of the vertex's cells, else
+    /// eight times the face's level, and the stack.
+    ///
+    /// `corner` is below `2^d`, and that corner lies strictly inside the root cube.
+    pub fn going(&self, corner: u8) -> u32
+        requires { corner < 2 ^ axes_of self.now }
+        ensures { (axes : ℕ) (way : AWay) (cell : APlace) → IsCellPlace axes cell → StandsFor axes way cell self.now
+            → let vertex = corner_at axes cell corner in IsInside axes vertex → stack_of result ≡ stack_out axes way vertex cell }
+    {
+        let [x, y, z, w] = self.along;
+        let last = z.at(corner / 4 % 2).going.max(w.at(corner / 8 % 2).going);
+        let behind = y.at(corner / 2 % 2).going.max(last);
+        x.at(corner % 2).going.max(behind)
+    }
+
+    /// The numbers of the row of children that the cell is in.
+    pub fn row(&self) -> Row
+        requires { IsDim (axes_of self.now) }
+        ensures { IsRow (axes_of self.now) (front_of self.now) result }
+    {
+        let [x, y, z, _] = self.along;
+        Row {
+            coming: greatest(
+                self.axes,
+                (x.near.coming, x.far.coming),
+                (y.near.coming, y.far.coming),
+                (z.near.coming, z.far.coming),
+            ),
+            going: greatest(
+                self.axes,
+                (x.near.going, x.far.going),
+                (y.near.going, y.far.going),
+                (z.near.going, z.far.going),
+            ),
+        }
+    }
+
+    /// The number by which the cell takes its corner, as `coming` tells it, from the row that the cell is in.
+    pub fn coming_in(&self, row: &Row, corner: u8) -> u32
+        requires corner { corner < 2 ^ axes_of self.now }
+        requires row { IsRow (axes_of self.now) (front_of self.now) row.now }
+        requires axes { IsDim (axes_of self.now) }
+        ensures { (axes : ℕ) (way : AWay) (cell : APlace) → IsCellPlace axes cell → StandsFor axes way cell self.now
+            → let vertex = corner_at axes cell corner in IsInside axes vertex → stack_of result ≡ stack_in axes way vertex cell }
+    {
+        let last = self.axes - 1;
+        let here = self.along[last as usize].at((corner >> last) % 2).coming;
+        here.max(row.coming[(corner % (1 << last)) as usize])
+    }
+
+    /// The number by which the cell hands its corner on, as `going` tells it, from the row that the cell is in.
+    pub fn going_in(&self, row: &Row, corner: u8) -> u32
+        requires corner { corner < 2 ^ axes_of self.now }
+        requires row { IsRow (axes_of self.now) (front_of self.now) row.now }
+        requires axes { IsDim (axes_of self.now) }
+        ensures { (axes : ℕ) (way : AWay) (cell : APlace) → IsCellPlace axes cell → StandsFor axes way cell self.now
+            → let vertex = corner_at axes cell corner in IsInside axes vertex → stack_of result ≡ stack_out axes way vertex cell }
+    {
+        let last = self.axes - 1;
+        let here = self.along[last as usize].at((corner >> last) % 2).going;
+        here.max(row.going[(corner % (1 << last)) as usize])
     }
 
     /// Where the cell takes its corner from: the stream exactly where no other cell comes before it around the
@@ -97,7 +205,7 @@ impl CellState {
         ensures { (axes : ℕ) (way : AWay) (cell : APlace) → IsCellPlace axes cell → StandsFor axes way cell self.now
             → let vertex = corner_at axes cell corner in IsInside axes vertex → result ≡ route_of (stack_in axes way vertex cell) }
     {
-        self.route(Relation::Earlier, corner)
+        route_of(self.coming(corner))
     }
 
     /// Where the cell puts its corner: the stream exactly where no other cell comes after it around the vertex,
@@ -109,22 +217,44 @@ impl CellState {
         ensures { (axes : ℕ) (way : AWay) (cell : APlace) → IsCellPlace axes cell → StandsFor axes way cell self.now
             → let vertex = corner_at axes cell corner in IsInside axes vertex → result ≡ route_of (stack_out axes way vertex cell) }
     {
-        self.route(Relation::Later, corner)
+        route_of(self.going(corner))
     }
+}
 
-    // The route across the fastest face at a corner whose neighbour has this relation.
-    fn route(&self, relation: Relation, corner: u8) -> Route
-        ensures fastest { result ≡ (fastest relation 0 (bits 4 corner) self.now.lines).route }
-        ensures four { length self.now.lines ≡ 4 }
-    {
-        let [x, y, z, w] = self.lines;
-        let none = Choice {
-            route: Route::Stream,
-            level: 0,
-        };
-        let last = w.faster(relation, 3, corner / 8 % 2, none);
-        let third = z.faster(relation, 2, corner / 4 % 2, last);
-        let second = y.faster(relation, 1, corner / 2 % 2, third);
-        x.faster(relation, 0, corner % 2, second).route
+// The route that a face's number tells.
+fn route_of(number: u32) -> Route
+    ensures { result ≡ route_of (stack_of number) }
+{
+    match number {
+        0 => Route::Stream,
+        _ => Route::Temp((number % 8) as u8),
     }
+}
+
+// The greatest number at each corner along all axes but the last, of the numbers of both sides on axes 0 to 2.
+fn greatest(axes: u8, x: (u32, u32), y: (u32, u32), z: (u32, u32)) -> [u32; 8]
+    requires { IsDim axes }
+    ensures two { axes ≡ 2 → (corner : ℕ) → corner < 2 → slice_index result corner ≡ side_of x corner }
+    ensures three { axes ≡ 3 → (corner : ℕ) → corner < 4 → slice_index result corner ≡ max (side_of x (corner % 2)) (side_of y (corner / 2)) }
+    ensures four { axes ≡ 4 → (corner : ℕ) → corner < 8
+        → slice_index result corner ≡ max (side_of x (corner % 2)) (max (side_of y (corner / 2 % 2)) (side_of z (corner / 4))) }
+{
+    if axes == 2 {
+        return [x.0, x.1, 0, 0, 0, 0, 0, 0];
+    }
+    let plane = [x.0.max(y.0), x.1.max(y.0), x.0.max(y.1), x.1.max(y.1)];
+    let [a, b, c, d] = plane;
+    if axes == 3 {
+        return [a, b, c, d, 0, 0, 0, 0];
+    }
+    [
+        a.max(z.0),
+        b.max(z.0),
+        c.max(z.0),
+        d.max(z.0),
+        a.max(z.1),
+        b.max(z.1),
+        c.max(z.1),
+        d.max(z.1),
+    ]
 }

@@ -14,3 +14,5 @@ pub mod Lines
 pub mod Walk
 -- the walk of level 1 alone
 pub mod LevelOne
+-- how a list and a box lie in a type that holds itself through them
+pub mod formers

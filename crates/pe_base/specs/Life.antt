@@ -8,3 +8,5 @@ pub mod Kinds
 pub mod Table
 -- the vertices on whose account a vertex is stored, and its kind by them
 pub mod Carriers
+-- the numbers of states and kinds
+pub mod Numbers

@@ -8,3 +8,5 @@ pub mod Places
 pub mod Ways
 -- the order of cells along the curve
 pub mod Curve
+-- the order of places
+pub mod Order

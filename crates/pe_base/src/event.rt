@@ -1,5 +1,5 @@
 ghost use Rattle.std.specs.Prelude.{◌≡◌, IfSome, Some};
-ghost use Rattle.pe_base.specs.Acts.Events.{name_of, sort_of, event_named};
+ghost use Rattle.pe_base.specs.Acts.Events.{name_of, number_of, sort_of, event_named};
 
 /// What an event is told: nothing but the traversal, a vertex, or a cell.
 #[derive(Clone, Copy, Debug, PartialEq, Eq)]
@@ -70,6 +70,13 @@ impl Event {
         ensures value { result ≡ event_named name.now }
     {
         spelled(name)
+    }
+
+    /// The place of the event among the twelve, counted from 0.
+    pub fn number(self) -> u8
+        ensures { result ≡ number_of self }
+    {
+        self as u8
     }
 
     /// What the event is told.

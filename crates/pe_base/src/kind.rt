@@ -1,3 +1,6 @@
+ghost use Rattle.std.specs.Prelude.{◌≡◌};
+ghost use Rattle.pe_base.specs.Life.Numbers.{kind_number};
+
 /// What a vertex or a cell is to one traversal.
 ///
 /// The order is that of the kinds' numbers, 0 to 3, in the event language.
@@ -11,4 +14,13 @@ pub enum Kind {
     Dying,
     /// Stored neither before nor after: made anew for each cell that touches it.
     Hanging,
+}
+
+impl Kind {
+    /// The number of the kind, 0 to 3.
+    pub fn number(self) -> u8
+        ensures { result ≡ kind_number self }
+    {
+        self as u8
+    }
 }

@@ -2,6 +2,7 @@
 //! and the definitions that every contract above is written in.
 #![tactic(auto)]
 
+mod boxed;
 mod dim;
 mod effects;
 mod event;
@@ -9,6 +10,7 @@ mod fields;
 mod kind;
 pub mod laws;
 mod list;
+mod order;
 mod place;
 #[cfg(test)]
 mod rows;
@@ -21,12 +23,14 @@ mod text;
 mod walk_rows;
 mod way;
 
+pub use boxed::Boxed;
 pub use dim::Dim;
 pub use effects::Effects;
 pub use event::{Event, Sort};
 pub use fields::Fields;
 pub use kind::Kind;
 pub use list::List;
+pub use order::order_of_places;
 pub use place::{Digits, Place};
 pub use setup::{Names, Setup};
 pub use state::State;

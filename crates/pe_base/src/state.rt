@@ -1,3 +1,6 @@
+ghost use Rattle.std.specs.Prelude.{◌≡◌};
+ghost use Rattle.pe_base.specs.Life.Numbers.{state_number};
+
 /// The state of a vertex, which says whether the cells around it are refined.
 ///
 /// The order is that of the states' numbers, 0 to 5, in the event language and in saved streams.
@@ -15,4 +18,13 @@ pub enum State {
     EraseTriggered,
     /// It erases in this traversal.
     Erasing,
+}
+
+impl State {
+    /// The number of the state, 0 to 5.
+    pub fn number(self) -> u8
+        ensures { result ≡ state_number self }
+    {
+        self as u8
+    }
 }

@@ -1,5 +1,6 @@
 -- What a mapping holds, and how the text that it tells grows.
 use Rattle.std.specs.Prelude.{◌≡◌, ◌⊎◌, ℕ, ℤ, ◌-◌, ◌^◌, ◌<◌, ◌≤◌, Bool, List, ◌++◌, Option, Some, None}
+use Rattle.std.specs.Borrow.{GName}
 use Rattle.pe_base.specs.declared.event.Event.{Event}
 use Rattle.pe_base.specs.Acts.Effects.{Seen, Outcome, Fresh, Rules}
 
@@ -8,14 +9,15 @@ pub record Told : Type 0 where
   pub text : Option (List ℕ)
   pub faults : ℕ
 
--- a mapping: the plan that its effects are said of, its list, what it told, the dimension that it is for, and whether
--- it never wants memory
+-- a mapping: the plan that its effects are said of, its list, what it told, the dimension that it is for, whether it
+-- never wants memory, and what it holds by reference, as a sink, by the references' names
 pub record Held (Plan : Type 0) : Type 0 where
   pub plan : Plan
   pub list : List ℤ
   pub told : Told
   pub dim : ℕ
   pub sure : Bool
+  pub lent : List GName
 
 -- the greatest level of the grid, below which vertices may be triggered to refine
 abbrev pub max_level : {Plan : Type 0} → Rules Plan → Held Plan → ℕ
@@ -58,3 +60,4 @@ pub record Keeps {Plan : Type 0} (old new : Held Plan) : Type 0 where
   pub plan : new.plan ≡ old.plan
   pub dim : new.dim ≡ old.dim
   pub sure : new.sure ≡ old.sure
+  pub lent : new.lent ≡ old.lent

@@ -2,8 +2,6 @@
 //! the event sees.
 #![tactic(auto)]
 
-#[cfg(test)]
-mod callers;
 mod mapping;
 
 pub use mapping::Mapping;

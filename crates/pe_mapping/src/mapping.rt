@@ -18,8 +18,8 @@ use std::alloc::AllocError;
 /// Payloads are seen as lists of whole numbers. They have no bounds: nothing but a mapping makes, reads or
 /// changes them. An event changes numbers and triggers vertices; kinds stay, and corners stay full.
 ///
-/// No call changes the plan, the dimension or whether the mapping is sure. A mapping that is sure never
-/// wants memory.
+/// No call changes the plan, the dimension, whether the mapping is sure, or which values it holds by reference. A
+/// mapping that is sure never wants memory.
 pub trait Mapping: Effects {
     /// The payload of a vertex.
     type V;

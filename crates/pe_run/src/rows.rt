@@ -5,7 +5,7 @@ ghost use Rattle.pe_stacks.specs.VecDepot.{holdings_of};
 
 use crate::peano;
 use pe_base::Fields;
-use pe_io::{MemShelf, MemSink};
+use pe_io::{MemShelf, MemSink, SureShelf, SureSink};
 use pe_stacks::{CellRec, Depot, VecDepot, Vertex};
 use std::alloc::{AllocError, Global};
 use std::process::Abort;
@@ -311,6 +311,26 @@ fn the_first_hanging_vertices(rt: HostRuntime) -> Result<(), Fail> {
     );
     assert_eq!(rt; status, 0);
     assert!(rt; sink.text().starts_with(HANGING.as_bytes()));
+    Ok(())
+}
+
+#[test]
+fn edges_that_never_fail(rt: HostRuntime) -> Result<(), Fail> {
+    let alloc = rt.alloc();
+    let mut shelf = SureShelf::new(alloc)?;
+    shelf.add(alloc, "S", PLAIN)?;
+    let mut sink = SureSink::new();
+    let words = words_of(alloc, RUN)?;
+    let mut depots = new_depots(alloc)?;
+    let status = peano(
+        alloc,
+        words.as_slice(),
+        &mut shelf,
+        &mut sink,
+        &mut depots.vertices,
+        &mut depots.cells,
+    );
+    assert_eq!(rt; status, 0);
     Ok(())
 }
 

@@ -1,5 +1,5 @@
 -- The corners of a cell with a vertex in every slot.
-use Rattle.std.proofs.Common.{◌≡◌, ℕ, zero, suc, ◌^◌, ◌<◌, List, [], ◌∷◌, ◌++◌, map, length, get_or, set, replicate, refl, ap, subst, sym, arith, ◌∙◌, Option, None, Some, IsSome, true, false}
+use Rattle.std.proofs.Common.{◌≡◌, ℕ, zero, suc, ◌^◌, ◌<◌, List, [], ◌∷◌, ◌++◌, map, length, get_or, set, replicate, refl, ap, arith, ◌∙◌, Option, None, Some, IsSome, true, false}
 use Rattle.std.specs.Prelude.{slice_get}
 use Rattle.std.specs.List.{filter_map}
 use Rattle.std.proofs.lemmas.List.{length-set}

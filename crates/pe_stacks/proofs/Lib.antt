@@ -10,5 +10,7 @@ pub mod Stacks
 -- # The corners of a cell
 -- lists of slots of which only the first ones are seen
 pub mod CornerSlots
+-- four of them at once
+pub mod QuadSlots
 -- a cell with a vertex in every slot
 pub mod FullCorners

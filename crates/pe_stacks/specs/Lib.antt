@@ -10,6 +10,8 @@ pub mod Streams
 -- # The corners of a cell
 -- for each corner by its number the vertex there, if there is one
 pub mod Corners
+-- four corners, and what changing them makes of all
+pub mod Quads
 -- sixteen slots as a list
 pub mod Slots
 -- how the corners lie in sixteen slots

@@ -1,6 +1,8 @@
--- Sixteen slots as a list.
+-- Sixteen slots, four by four, as a list.
 use Rattle.std.specs.Prelude.{List, Option, [], ◌∷◌}
 use Rattle.pe_stacks.specs.declared.slots.Slots.TheInside.{Inside}
 
 abbrev pub listed : {X : Type 0} → Inside X → List (Option X)
-listed it = it.p0 ∷ it.p1 ∷ it.p2 ∷ it.p3 ∷ it.p4 ∷ it.p5 ∷ it.p6 ∷ it.p7 ∷ it.p8 ∷ it.p9 ∷ it.p10 ∷ it.p11 ∷ it.p12 ∷ it.p13 ∷ it.p14 ∷ it.p15 ∷ []
+listed it =
+    it.q0.p0 ∷ it.q0.p1 ∷ it.q0.p2 ∷ it.q0.p3 ∷ it.q1.p0 ∷ it.q1.p1 ∷ it.q1.p2 ∷ it.q1.p3
+    ∷ it.q2.p0 ∷ it.q2.p1 ∷ it.q2.p2 ∷ it.q2.p3 ∷ it.q3.p0 ∷ it.q3.p1 ∷ it.q3.p2 ∷ it.q3.p3 ∷ []

@@ -1,12 +1,15 @@
-ghost use Rattle.std.specs.Prelude.{◌≡◌, ◌^◌, ◌<◌, None, Some, IsSome};
+ghost use Rattle.std.specs.Prelude.{◌≡◌, ◌*◌, ◌^◌, ◌<◌, None, Some, IsSome};
 ghost use Rattle.std.specs.Borrow.{Lends, sem};
 ghost use Rattle.std.specs.contracts.option.Option.{the_row as option_row};
 ghost use Rattle.pe_stacks.specs.contracts.corners.Corners.{the_row};
 ghost use Rattle.pe_stacks.specs.contracts.record.Vertex.{the_row as vertex_row};
+ghost use Rattle.pe_stacks.specs.contracts.quad.Quad.{the_row as quad_row};
 ghost use Rattle.pe_stacks.specs.Corners.{no_vertices, vertex_at, with_vertex};
+ghost use Rattle.pe_stacks.specs.Quads.{quad_at, with_quad};
 
 use crate::Vertex;
-use crate::slots::{Slots, close_slot, filled_mut};
+use crate::quad::{Quad, close_slot, filled_mut};
+use crate::slots::Slots;
 use pe_base::Dim;
 use std::marker::Model;
 use std::mem;
@@ -88,6 +91,24 @@ impl<P> Corners<P> {
         // From the fields it is known that a full slot is one of the dimension's.
         let _dim = self.dim;
         filled_mut(self.slot_mut(k))
+    }
+
+    /// Four corners: quad `q` has those numbered `4 q` to `4 q + 3`.
+    pub fn quad(&self, q: u8) -> &Quad<Vertex<P>>
+        requires { 4 * q < 2 ^ self.now.dim }
+        ensures { result.now ≡ quad_at self.now q }
+    {
+        self.slots.quad(q)
+    }
+
+    /// Four corners, to be touched in place.
+    pub fn quad_mut(&mut self, q: u8) -> &mut Quad<Vertex<P>>
+        requires { 4 * q < 2 ^ self.old.dim }
+        ensures value { result.now ≡ quad_at self.old q }
+        ensures* writes_back { sem 𝓛 (Lends (the_row P.row) (quad_row (vertex_row P.row)) self.entry result
+            (with_quad self.old q)) }
+    {
+        self.slots.quad_mut(q)
     }
 
     /// Ends corners whose slots are all empty.

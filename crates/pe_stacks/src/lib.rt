@@ -5,6 +5,7 @@
 mod corners;
 mod depot;
 mod grid;
+mod quad;
 mod record;
 #[cfg(test)]
 mod rows;
@@ -15,5 +16,6 @@ mod vec_stack;
 pub use corners::Corners;
 pub use depot::{Depot, Shown};
 pub use grid::Grid;
+pub use quad::Quad;
 pub use record::{CellRec, Vertex};
 pub use vec_depot::VecDepot;

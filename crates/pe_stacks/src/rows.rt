@@ -1,5 +1,5 @@
 //! Worked rows of depots, and a caller that knows a depot by its bound alone.
-ghost use Rattle.std.specs.Prelude.{◌≡◌, ℕ, ◌+◌, ◌^◌, ◌<◌, [], ◌∷◌, drop, true, false, IsSome};
+ghost use Rattle.std.specs.Prelude.{◌≡◌, ℕ, ◌+◌, ◌*◌, ◌^◌, ◌<◌, [], ◌∷◌, drop, true, false, IsSome};
 ghost use Rattle.std.specs.Option.{option_map};
 ghost use Rattle.pe_stacks.specs.declared.record.Vertex.{Vertex as AVertex};
 ghost use Rattle.pe_stacks.specs.Corners.{vertex_at, with_vertex};
@@ -37,6 +37,19 @@ fn depart_at<P>(corners: &mut Corners<P>, k: u8, state: State)
     ensures { corners.new ≡ with_vertex corners.old k (option_map (λ (v : AVertex P). record v { state = state }) (vertex_at corners.old k)) }
 {
     corners.at_mut(k).depart(state);
+}
+
+// Changes the state of one corner in its quad, and nothing else.
+fn depart_in_place<P>(corners: &mut Corners<P>, q: u8, state: State)
+    requires quad { 4 * q < 2 ^ corners.old.dim }
+    requires full { IsSome (vertex_at corners.old (4 * q + 3)) }
+    ensures { corners.new ≡ with_vertex corners.old (4 * q + 3) (option_map (λ (v : AVertex P). record v { state = state }) (vertex_at corners.old (4 * q + 3))) }
+{
+    let quad = corners.quad_mut(q);
+    match &mut quad.p3 {
+        Some(v) => v.depart(state),
+        None => unreachable!(),
+    }
 }
 
 // Before the first traversal a grid's streams are empty, and after it the other stack is the input.
@@ -94,7 +107,9 @@ fn a_vertex_in_a_corner(rt: HostRuntime) -> Result<(), Fail> {
     let dim = Dim::new(2).ok_or("a dimension")?;
     let mut corners = Corners::empty(dim);
     corners.put(3, Vertex::new(State::Unrefined, Kind::Kept, 5));
-    depart_at(&mut corners, 3, State::Refined);
+    depart_at(&mut corners, 3, State::Unrefined);
+    depart_in_place(&mut corners, 0, State::Refined);
+    assert!(rt; corners.quad(0).p3.is_some());
     *corners.at_mut(3).payload_mut() = 6;
     assert!(rt; corners.at(3).is_old() && corners.at(3).is_new());
     let mut v = corners.take(3);

@@ -1,6 +1,6 @@
 -- Marks along several axes in turn, from the fastest bit of a corner's number on.
-use Rattle.std.proofs.Common.{◌≡◌, ℕ, zero, suc, ◌+◌, ◌-◌, ◌*◌, ◌/◌, ◌%◌, ◌^◌, ◌<◌, ◌≤◌, Bool, true, false, ◌&&◌, ◌||◌, List, [], ◌∷◌, map, take, length, refl, sym, ap, ap₂, ◌∙◌, subst, arith, pow-suc}
-use Rattle.std.specs.List.{list_any, list_all}
+use Rattle.std.proofs.Common.{◌≡◌, ℕ, zero, suc, ◌+◌, ◌-◌, ◌*◌, ◌/◌, ◌^◌, ◌<◌, ◌≤◌, List, [], ◌∷◌, map, take, length, refl, sym, ap, ◌∙◌, subst, arith, pow-suc}
+use Rattle.std.specs.List.{list_any}
 use Rattle.std.specs.Prelude.{slice_index}
 use Rattle.std.proofs.lemmas.List.{length-take-le}
 use Rattle.pe_base.specs.declared.place.Digits.{Digits}
@@ -9,7 +9,7 @@ use Rattle.pe_base.specs.Life.Carriers.{thirds, carrier_positions}
 use Rattle.pe_base.proofs.Tree.Corners.{IsBits}
 use Rattle.pe_states.specs.Carriers.{number_of, carrier_numbers}
 use Rattle.pe_states.specs.Marks.{is_marked, is_old_at, is_new_at, some_carrier}
-use Rattle.pe_states.specs.Sides.{on_side, IsSpread, AreSpread, IsRow, is_between, IsTrimmed}
+use Rattle.pe_states.specs.Sides.{on_side, IsSpread, AreSpread, IsRow}
 use Rattle.pe_states.proofs.Bits.{or_none}
 use Rattle.pe_states.proofs.Numbers.{IsBits-bits, number_of-bits}
 use Rattle.pe_states.proofs.Tests.{any_same, any_map, any_flat_map, any_swap}

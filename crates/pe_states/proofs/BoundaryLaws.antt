@@ -1,7 +1,7 @@
 -- Marks without those on the root's boundary.
-use Rattle.std.proofs.Common.{◌≡◌, ℕ, zero, suc, ◌+◌, ◌-◌, ◌*◌, ◌/◌, ◌%◌, ◌^◌, ◌<◌, ◌≤◌, Bool, true, false, not, ◌&&◌, List, [], ◌∷◌, map, take, drop, length, refl, sym, ap, ap₂, ◌∙◌, subst, arith, pow-suc, IsTrue}
-use Rattle.std.specs.Prelude.{◌==◌, bit_and, nat_lt, slice_index}
-use Rattle.std.specs.Int.{bit_at, bit_not, w32}
+use Rattle.std.proofs.Common.{◌≡◌, ℕ, zero, suc, ◌+◌, ◌-◌, ◌*◌, ◌/◌, ◌^◌, ◌<◌, ◌≤◌, Bool, true, false, not, ◌&&◌, List, [], ◌∷◌, take, length, refl, sym, ap, ◌∙◌, subst, arith, pow-suc, IsTrue}
+use Rattle.std.specs.Prelude.{◌==◌, bit_and, slice_index}
+use Rattle.std.specs.Int.{bit_at, w32}
 use Rattle.std.specs.List.{list_all}
 use Rattle.std.proofs.Math.Nat.{pow-le-pow_right}
 use Rattle.std.proofs.lemmas.List.{length-take-le}
@@ -14,9 +14,9 @@ use Rattle.pe_base.proofs.Tree.Corners.{IsBits}
 use Rattle.pe_states.specs.Carriers.{number_of}
 use Rattle.pe_states.specs.Marks.{is_marked, is_old_at, is_new_at, is_first_old, is_first_new}
 use Rattle.pe_states.specs.Sides.{are_near, on_side, is_between, IsTrimmed}
-use Rattle.pe_states.proofs.Bits.{marked_and, and_true, and_false}
+use Rattle.pe_states.proofs.Bits.{marked_and, and_true}
 use Rattle.pe_states.proofs.Numbers.{IsBits-bits, number_of-bits}
-use Rattle.pe_states.proofs.SideLaws.{near_side, side_of, on_near, on_far, OnNear, OnFar}
+use Rattle.pe_states.proofs.SideLaws.{near_side, side_of, on_near, on_far}
 use Rattle.pe_states.proofs.AxisLaws.{spot, spot-cons, spot-next, spot-plain, within_run, halves}
 
 -- the bits that another number does not have

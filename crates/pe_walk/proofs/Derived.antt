@@ -1,10 +1,9 @@
 -- The laws, from the lemmas on lists of faces.
-use Rattle.std.proofs.Common.{◌≡◌, ℕ, zero, suc, ◌+◌, ◌-◌, ◌^◌, ◌<◌, ◌≤◌, Bool, List, [], ◌∷◌, take, length, slice_index, refl, sym, ap, ◌∙◌, subst, length-set, ◌⊎◌, inl, inr, slice_set, arith}
-use Rattle.std.specs.List.{flat_map}
+use Rattle.std.proofs.Common.{◌≡◌, ℕ, zero, suc, ◌+◌, ◌-◌, ◌^◌, ◌<◌, ◌≤◌, Bool, List, [], ◌∷◌, length, slice_index, refl, sym, ap, ◌∙◌, subst, length-set, ◌⊎◌, inl, inr, slice_set, arith}
 use Rattle.pe_base.specs.declared.place.Place.{Place}
 use Rattle.pe_base.specs.declared.way.Way.{Way}
 use Rattle.pe_base.specs.Tree.Ways.{opposite}
-use Rattle.pe_base.specs.Steps.Faces.{across, arriving, leaving, steps_to, steps_from, facing, ShareFace}
+use Rattle.pe_base.specs.Steps.Faces.{across, arriving, leaving, facing, ShareFace}
 use Rattle.pe_base.proofs.Faces.FaceLists.{face_of, across-up, leaving-up, leaving-down, leaving_is}
 use Rattle.pe_base.specs.Tree.Places.{bits}
 use Rattle.pe_base.proofs.Tree.Corners.{bits_in}

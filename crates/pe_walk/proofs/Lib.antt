@@ -13,7 +13,15 @@ pub mod Steps
 pub mod Stores
 -- each law
 pub mod Derived
+-- # The walk over places on stacks
+-- its steps, the walk of a cell, traversals
+pub mod Tokens
+-- what makes a walk: carriers
+pub mod Outlooks
+-- what is foreseen of a traversal, and what is stored
+pub mod Forecasts
+-- streams in the order of grids
+pub mod StreamOrders
 -- # The tests
 -- one round of the loops that compute the definitions
 pub mod Computed
-pub mod Tokens

@@ -1,18 +1,18 @@
 -- The steps around a vertex, and the corners of the cells on both sides of each.
-use Rattle.std.proofs.Common.{◌≡◌, ◌≢◌, ℕ, zero, suc, ◌+◌, ◌-◌, ◌^◌, ◌<◌, ◌≤◌, ◌⊎◌, Bool, true, ◌&&◌, ◌||◌, ◌==◌, List, [], ◌∷◌, map, filter, reverse, drop, replicate, length, slice_index, refl, sym, ap, ap₂, ◌∙◌, subst, true≢false, inl, inr, length-set, arith}
+use Rattle.std.proofs.Common.{◌≡◌, ℕ, zero, suc, ◌+◌, ◌-◌, ◌^◌, ◌<◌, ◌≤◌, ◌⊎◌, Bool, true, ◌&&◌, ◌||◌, ◌==◌, List, [], ◌∷◌, map, filter, reverse, drop, replicate, length, slice_index, refl, sym, ap, ap₂, ◌∙◌, subst, inl, inr, length-set, arith}
 use Rattle.std.specs.List.{Contains}
-use Rattle.std.proofs.lemmas.List.{get_or-set_same, get_or-set_other}
+use Rattle.std.proofs.lemmas.List.{get_or-set_same}
 use Rattle.std.proofs.lemmas.Bool.Decides.{nat_tests}
 use Rattle.pe_base.specs.declared.place.Place.{Place}
 use Rattle.pe_base.specs.declared.way.Way.{Way}
-use Rattle.pe_base.specs.Tree.Places.{IsInside, moved, is_same}
+use Rattle.pe_base.specs.Tree.Places.{IsInside, moved}
 use Rattle.pe_base.specs.Tree.Curve.{children, order}
-use Rattle.pe_base.specs.Steps.Around.{is_corner_pos, is_corner, around, steps}
+use Rattle.pe_base.specs.Steps.Around.{is_corner_pos, is_corner}
 use Rattle.pe_base.specs.Steps.Faces.{Face, Touch, beside, across, is_step, corner_touches, comes_across, goes_across, at_face, in_corners, out_corners, IsFace, facing, ShareFace}
 use Rattle.pe_base.proofs.Lists.{Each, Each-all, Each-weaker, Each-filter, In, In-map, In-flat_map, In-filter, In-reverse, Each-In, Each-flat_map, Each-reverse}
 use Rattle.pe_base.proofs.Tree.Corners.{IsBits, bit_lists, own_corners, slice_index-moved}
 use Rattle.pe_base.proofs.Faces.FaceLists.{face_of, up_cell, across-up, leaving_is}
-use Rattle.pe_base.proofs.Tree.Ranks.{OnLevel, order_on_level, steps_within, list_any-Each, is_same-true, and_left, and_right}
+use Rattle.pe_base.proofs.Tree.Ranks.{OnLevel, order_on_level, and_left, and_right}
 use Rattle.pe_base.proofs.Steps.Counts.{OnGrid, root_on_grid, children_on_grid}
 use Rattle.pe_base.proofs.Steps.Crossing.{step_neighbours}
 use Rattle.pe_walk.specs.Laws.{Crosses}
@@ -24,7 +24,7 @@ pub inside_on_grid : (axes : ℕ) (vertex : Place) → IsInside axes vertex → 
 inside_on_grid axes vertex inside = (refl, inside.pos.four, zeros_behind axes vertex.pos inside.pos.rest ∙ ap (λ n. replicate (n - axes) 0) inside.pos.four)
 
 -- the bits by which a vertex is a corner of a cell
-corner_bits : (n : ℕ) (pos q : List ℕ) → n ≤ length pos → length q ≡ length pos → drop n q ≡ drop n pos → is_corner_pos q pos ≡ true → (bs : List ℕ) × In bs (bit_lists n) × IsBits n bs × (moved pos bs ≡ q)
+pub corner_bits : (n : ℕ) (pos q : List ℕ) → n ≤ length pos → length q ≡ length pos → drop n q ≡ drop n pos → is_corner_pos q pos ≡ true → (bs : List ℕ) × In bs (bit_lists n) × IsBits n bs × (moved pos bs ≡ q)
 corner_bits zero pos q l m e t = ([], inl refl, tt, plain pos ∙ sym e)
   where
     plain : (p : List ℕ) → moved p [] ≡ p

@@ -10,3 +10,19 @@ pub mod Turning
 pub mod Passages
 -- the walk of a cell
 pub mod Walks
+-- each load is due
+pub mod Dues
+-- traversals
+pub mod Traversals
+-- what each step keeps
+pub mod Keeping
+-- first and last by counting
+pub mod Counting
+-- where a place is
+pub mod Apart
+-- streams
+pub mod Streams
+-- what is moved
+pub mod Traffic
+-- how long a stack is at most
+pub mod Short

@@ -13,7 +13,7 @@ use Rattle.pe_base.proofs.Lists.{Each, Each-weaker, Each-filter, In, In-map, In-
 use Rattle.pe_base.proofs.Tree.Mirrors.{Digits3, digit_lists_below}
 use Rattle.pe_base.proofs.Tree.Children.{child_of, children_are, reverse-children}
 use Rattle.pe_base.proofs.Tree.Corners.{own_corners}
-use Rattle.pe_base.proofs.Faces.FaceLists.{is_child_at, at_face_parts, leaving_is, opposite-opposite}
+use Rattle.pe_base.proofs.Faces.FaceLists.{is_child_at, at_face_parts, leaving_is}
 use Rattle.pe_base.proofs.Tree.Ranks.{OnLevel, order_on_level, child_four, steps_within, list_any-Each, is_same-true, and_left, and_right}
 use Rattle.pe_base.proofs.Faces.Quiet.{at_face_none, false_unless}
 use Rattle.pe_base.proofs.Faces.Waits.{digits_in, InTree, child_in_tree}
@@ -45,7 +45,7 @@ cell_four axes way cell four is = (Each-In (OnLevel cell.level) cell (order axes
 child_contained : (axes : ℕ) (way : Way) (cell : Place) (ts : List ℕ) → Digits3 axes ts → Contains (children axes way cell) (child_of axes way cell ts)
 child_contained axes way cell ts d = in_contains (children axes way cell) (child_of axes way cell ts) (subst (In (child_of axes way cell ts)) (sym (children_are axes way cell)) (In-map (child_of axes way cell) ts (digit_lists axes) (digits_in axes ts d)))
 
-contained_either : (axes : ℕ) (either way : Way) (cell child : Place) → Contains (children axes either cell) child → Contains (children axes way cell) child
+pub contained_either : (axes : ℕ) (either way : Way) (cell child : Place) → Contains (children axes either cell) child → Contains (children axes way cell) child
 contained_either axes Forward Forward cell child c = c
 contained_either axes Inverted Inverted cell child c = c
 contained_either axes Forward Inverted cell child c = in_contains (children axes Inverted cell) child (subst (In child) (reverse-children axes Forward cell) (In-reverse child (children axes Forward cell) (contains_in (children axes Forward cell) child c)))

@@ -2,7 +2,7 @@
 --
 -- They hold for each number of axes from two to four, each way, each number of levels below a cell, and each choice of
 -- the vertices that count. In a walk the vertices that are not hanging count.
-use Rattle.std.specs.Prelude.{◌≡◌, ◌⊎◌, ℕ, suc, ◌+◌, ◌-◌, ◌*◌, ◌^◌, ◌<◌, ◌≤◌, Bool, true, false, List, [], ◌++◌, take, length, slice_index_or}
+use Rattle.std.specs.Prelude.{◌≡◌, ◌⊎◌, ℕ, suc, ◌+◌, ◌*◌, ◌^◌, ◌<◌, ◌≤◌, Bool, true, false, List, [], ◌++◌, take, length, slice_index_or}
 use Rattle.std.specs.List.{flat_map, list_any, All, Contains}
 use Rattle.pe_base.specs.declared.place.Place.{Place}
 use Rattle.pe_base.specs.declared.way.Way.{Way}
@@ -12,7 +12,7 @@ use Rattle.pe_base.specs.Tree.Curve.{children, order}
 use Rattle.pe_base.specs.Steps.Around.{around, steps}
 use Rattle.pe_base.specs.Steps.Routes.{stack_in, stack_out}
 use Rattle.pe_base.specs.Steps.Stacks.{AcrossNone, AcrossOne, ComeByFaces, GoByFaces}
-use Rattle.pe_base.specs.Steps.Faces.{Face, Touch, IsFace, facing, ShareFace, across, stack_of, face_on, loads, stores, arriving, leaving, in_corners, out_corners, is_touched, is_step, Turns, TurnsApart, Turn, cell_turns, touched_for, steps_to, steps_from}
+use Rattle.pe_base.specs.Steps.Faces.{Face, IsFace, facing, ShareFace, across, stack_of, face_on, loads, stores, arriving, leaving, in_corners, out_corners, is_touched, is_step, Turns, TurnsApart, Turn, cell_turns, touched_for, steps_to, steps_from}
 
 -- a cell of the tree
 abbrev pub IsCell : ℕ → Way → Place → Type 0

@@ -6,7 +6,17 @@ pub mod Laws
 pub mod Tokens
 -- what the walk of a cell takes off each stack, and what it gives
 pub mod Takings
--- grids for the worked rows
+-- the laws of that walk
+pub mod TokenLaws
+-- a place is on one stack, or held, or nowhere
+pub mod Apart
+-- what the walk over places asks of a grid
+pub mod Outlooks
+-- streams in the order of grids
+pub mod StreamLaws
+-- what is moved, and how much is out
+pub mod Traffic
+-- grids and streams for the worked rows
 pub mod Grids
 -- the walk on stacks as a machine of lists
 pub mod Machine

@@ -1,15 +1,17 @@
 -- What the walk of a cell takes off each stack of places, and what it gives to each.
-use Rattle.std.specs.Prelude.{◌≡◌, ℕ, zero, suc, ◌+◌, ◌≤◌, ◌<◌, Bool, true, false, ◌&&◌, ◌==◌, List, [], ◌∷◌, ◌++◌, map, filter, reverse, if◌then◌else◌, is_none}
+use Rattle.std.specs.Prelude.{◌≡◌, ℕ, zero, suc, ◌≤◌, ◌<◌, Bool, true, false, ◌&&◌, ◌==◌, List, [], ◌∷◌, ◌++◌, map, filter, reverse, if◌then◌else◌, is_none, length}
 use Rattle.std.specs.List.{flat_map, Contains}
 use Rattle.pe_base.specs.declared.place.Place.{Place}
+use Rattle.pe_base.specs.Tree.Places.{root}
 use Rattle.pe_base.specs.Tree.Curve.{children}
+use Rattle.pe_base.specs.Steps.Around.{around}
 use Rattle.pe_base.specs.Steps.Routes.{stack_in, stack_out}
-use Rattle.pe_base.specs.Steps.Faces.{Touch, Turn, Turns, arriving, leaving, is_touched, corner_touches}
-use Rattle.pe_base.specs.Steps.Stacks.{is_stack, on_stack}
-use Rattle.pe_base.specs.Walk.Streams.{if_walks, walked_children, walked_loads, walked_stores, walked_cells, is_first}
+use Rattle.pe_base.specs.Steps.Faces.{Touch, arriving, leaving}
+use Rattle.pe_base.specs.Steps.Stacks.{on_stack}
+use Rattle.pe_base.specs.Walk.Streams.{walked_children, walked_loads, walked_stores, walked_cells}
 use Rattle.pe_stacks.specs.Holdings.{items_at, stack_count}
 use Rattle.pe_stacks.specs.Grid.{input_stack, output_stack, cell_input_stack, cell_output_stack}
-use Rattle.pe_walk.specs.Tokens.{Outlook, Tokens, source, target, one_more, cells_before}
+use Rattle.pe_walk.specs.Tokens.{Outlook, Tokens, one_more, cells_before}
 use Rattle.pe_walk.specs.Laws.{IsCell, IsWalk}
 
 -- The cells of a walk as they are left.
@@ -76,6 +78,8 @@ pub record Grown (o : Outlook) (walked : Place → Bool) (greatest : ℕ) : Type
   pub below : (cell child : Place) → IsCell o.axes o.way cell → Contains (children o.axes o.way cell) child → walked child ≡ o.walks cell
   pub walks_within : (cell : Place) → o.walks cell ≡ true → cell.level < greatest
   pub counts_within : (vertex : Place) → o.counts vertex ≡ true → vertex.level ≤ greatest
+  pub root_unread : o.reads_cell root ≡ false
+  pub root_unwritten : o.writes_cell root ≡ false
 
 -- The walk of a cell may begin: what it takes is on top of each stack, and its loads are due.
 pub record MayBegin (o : Outlook) (levels : ℕ) (cell : Place) (beneath cells_beneath : ℕ → List Place) (t : Tokens) : Type 0 where
@@ -92,4 +96,22 @@ pub record HasEnded (o : Outlook) (levels : ℕ) (cell : Place) (beneath cells_b
   pub gives_vertices : (s : ℕ) → items_at after.vertices s ≡ gives o levels s cell ++ beneath s
   pub gives_cells : (s : ℕ) → items_at after.cells s ≡ cell_gives o levels s cell ++ cells_beneath s
   pub met : after.met ≡ met_after o (loads_of o levels cell) t.met
+  pub held : (place : Place) → after.held place ≡ t.held place
+
+-- A traversal may begin: its input streams hold what it reads, and all other stacks are empty.
+pub record MayTraverse (o : Outlook) (greatest : ℕ) (t : Tokens) : Type 0 where
+  pub stacks : stack_count t.vertices ≡ 10
+  pub cell_stacks : stack_count t.cells ≡ 2
+  pub reads_vertices : (s : ℕ) → items_at t.vertices s ≡ (if s == input_stack o.swapped then reads_of o greatest root else [])
+  pub reads_cells : (s : ℕ) → items_at t.cells s ≡ (if s == cell_input_stack o.swapped then cell_reads_of o greatest root else [])
+  pub nothing_met : (place : Place) → t.met place ≡ 0
+
+-- It has ended: its output streams hold what it writes, and all other stacks are empty; each vertex that counts was met by
+-- all cells around it, and what is held is as it was.
+pub record HasTraversed (o : Outlook) (greatest : ℕ) (t after : Tokens) : Type 0 where
+  pub stacks : stack_count after.vertices ≡ 10
+  pub cell_stacks : stack_count after.cells ≡ 2
+  pub writes_vertices : (s : ℕ) → items_at after.vertices s ≡ (if s == output_stack o.swapped then writes_of o greatest root else [])
+  pub writes_cells : (s : ℕ) → items_at after.cells s ≡ (if s == cell_output_stack o.swapped then cell_writes_of o greatest root else [])
+  pub all_met : (vertex : Place) → o.counts vertex ≡ true → after.met vertex ≡ length (around o.axes o.way vertex)
   pub held : (place : Place) → after.held place ≡ t.held place

@@ -11,6 +11,11 @@
 //! `unwalked_is_empty` leaves out the cells that are not walked, and `leaf_is_corners` is the walk of a cell that has
 //! no walked children.
 ghost use Rattle.pe_walk.specs.Laws.{NeighboursAgree, FacesAreOneWay, OneFaceOnEach, Composition, BeneathUntouched, StoresAsLoads, Counts, UnwalkedIsEmpty, LeafIsCorners, CellsOfTheTree, StepsCrossFaces, StepsAreCorners, CornersAreSteps, TurnsJoin, StandTogether, CornersCrossOnce, CornersOnStacks};
+ghost use Rattle.pe_walk.specs.TokenLaws.{WalkOfACell, LoadsAreDue, LoadedAround, WholeTraversal, TurningRound, TurningAround};
+ghost use Rattle.pe_walk.specs.Outlooks.{ForecastFits, StoredFits};
+ghost use Rattle.pe_walk.specs.StreamLaws.{FitsTurned, StreamsAreOne, ReadsAreStreams, NextIsFormed, WritesAreStreams};
+ghost use Rattle.pe_walk.specs.Traffic.{TrafficOfACell, TrafficOfATraversal, LoadsPerCell, CountsPerCell, FewVertices, StepsKeepCounting, BeginsCounting, StacksAreShort};
+ghost use Rattle.pe_walk.specs.Apart.{StepsKeepApart, BeginsApart, CornersByCounting};
 
 /// The cells of the tree are the places of cells.
 pub fn tree()
@@ -73,4 +78,74 @@ pub fn unwalked_is_empty()
 /// A cell without walked children has its own corners for its lists.
 pub fn leaf_is_corners()
     ensures corners { LeafIsCorners }
+{}
+
+/// Each load of a traversal comes after those of the cells around its vertex that come before, and no others.
+pub fn loads_are_due()
+    ensures due { LoadsAreDue }
+    ensures around { LoadedAround }
+{}
+
+/// The walk of a cell over places on stacks finds each place on top, and leaves its lists on what was beneath.
+pub fn walk_of_a_cell()
+    ensures runs { WalkOfACell }
+{}
+
+/// A traversal over places on stacks makes its output streams of its input streams.
+pub fn whole_traversal()
+    ensures runs { WholeTraversal }
+{}
+
+/// What a walk writes, the last one first, is what the other way reads.
+pub fn turning_round()
+    ensures round { TurningRound }
+    ensures around { TurningAround }
+{}
+
+/// What is foreseen of a traversal of a grid fits a walk, and so does what the grid has stored.
+pub fn grids_fit()
+    ensures forecast { ForecastFits }
+    ensures stored { StoredFits }
+{}
+
+/// A place that counts is on one stack once, or held, or nowhere.
+pub fn places_stand_apart()
+    ensures kept { StepsKeepApart }
+    ensures begun { BeginsApart }
+{}
+
+/// A corner comes from no stack to the first of the cells around it, and goes to none from the last.
+pub fn first_and_last()
+    ensures counted { CornersByCounting }
+{}
+
+/// Walks that read the same read it in one order, and what fits a walk fits it the other way round.
+pub fn streams_are_one()
+    ensures turned { FitsTurned }
+    ensures one { StreamsAreOne }
+{}
+
+/// A traversal reads the streams of the grid before it, and writes, the last one first, those of the grid after it, which
+/// is well-formed.
+pub fn streams_of_grids()
+    ensures reads { ReadsAreStreams }
+    ensures formed { NextIsFormed }
+    ensures writes { WritesAreStreams }
+{}
+
+/// What the walk of a cell and a traversal move, make and give up, by their loads and stores; how much is out at most; and
+/// no count rises by more than one for each corner of each walked cell.
+pub fn traffic()
+    ensures cell { TrafficOfACell }
+    ensures traversal { TrafficOfATraversal }
+    ensures loads { LoadsPerCell }
+    ensures counts { CountsPerCell }
+{}
+
+/// Vertices that count are at most as many as the walked cells, and no stack is longer.
+pub fn stacks_are_short()
+    ensures few { FewVertices }
+    ensures kept { StepsKeepCounting }
+    ensures begun { BeginsCounting }
+    ensures short { StacksAreShort }
 {}

@@ -1,10 +1,13 @@
 //! Worked rows of the lists of faces, in the plane, two levels deep. They come from a plain program that finds, for each
 //! load of a vertex, the cell before it around the vertex, and for each store the cell behind it.
-ghost use Rattle.std.specs.Prelude.{◌≡◌, [], ◌∷◌, map};
+ghost use Rattle.std.specs.Prelude.{◌≡◌, [], ◌∷◌, map, false};
 ghost use Rattle.pe_base.specs.declared.way.Way.TheVariants.{Forward, Inverted};
 ghost use Rattle.pe_base.specs.Tree.Places.{at};
 ghost use Rattle.pe_base.specs.Steps.Faces.{arriving, leaving, face_on};
-ghost use Rattle.pe_walk.specs.Grids.{regular, refined_once, everywhere, mark, on_stack};
+ghost use Rattle.pe_base.specs.Tree.Places.{root};
+ghost use Rattle.pe_walk.specs.Takings.{reads_of, writes_of};
+ghost use Rattle.pe_walk.specs.Outlooks.{outlook};
+ghost use Rattle.pe_walk.specs.Grids.{half_erased, half_erased_streams, half_kept, half_kept_streams, after_traversal, on_outputs, regular, refined_once, everywhere, mark, on_stack};
 
 fn whole_grid_forward()
     ensures arriving_0 { on_stack arriving Forward regular 0 0 ≡
@@ -75,9 +78,25 @@ fn cell_of_space()
         ∷ (2 ∷ 6 ∷ 6 ∷ []) ∷ (1 ∷ 6 ∷ 6 ∷ []) ∷ (1 ∷ 6 ∷ 5 ∷ []) ∷ (1 ∷ 6 ∷ 4 ∷ []) ∷ []) }
 {}
 
+// A traversal with births and deaths, inverted: its streams, and what the places on stacks come to.
+fn half_erased_inverted()
+    ensures reads { reads_of (outlook 1 half_erased false) 2 root ≡ half_erased_streams.read }
+    ensures writes { writes_of (outlook 1 half_erased false) 2 root ≡ half_erased_streams.written }
+    ensures places { after_traversal half_erased half_erased_streams ≡ on_outputs half_erased_streams (29 ∷ 29 ∷ 46 ∷ 46 ∷ 29 ∷ 29 ∷ 46 ∷ 46 ∷ 113 ∷ 113 ∷ 0 ∷ 12 ∷ []) }
+{}
+
+// Another, forward.
+fn half_kept_forward()
+    ensures reads { reads_of (outlook 1 half_kept false) 2 root ≡ half_kept_streams.read }
+    ensures writes { writes_of (outlook 1 half_kept false) 2 root ≡ half_kept_streams.written }
+    ensures places { after_traversal half_kept half_kept_streams ≡ on_outputs half_kept_streams (36 ∷ 33 ∷ 56 ∷ 52 ∷ 36 ∷ 33 ∷ 56 ∷ 52 ∷ 101 ∷ 107 ∷ 0 ∷ 12 ∷ []) }
+{}
+
 #[test]
 fn the_definitions_give_the_rows() {
     whole_grid_forward();
     cell_of_space();
     refined_grid_inverted();
+    half_erased_inverted();
+    half_kept_forward();
 }

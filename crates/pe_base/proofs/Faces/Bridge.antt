@@ -1,7 +1,7 @@
 -- The steps around a corner of a cell, and the stacks by which the corner comes and goes.
-use Rattle.std.proofs.Common.{◌≡◌, ◌≢◌, ℕ, zero, suc, ◌+◌, ◌-◌, ◌*◌, ◌/◌, ◌%◌, ◌^◌, ◌<◌, ◌≤◌, ◌⊎◌, inl, inr, Bool, true, false, ◌&&◌, ◌||◌, ◌==◌, List, [], ◌∷◌, ◌++◌, map, filter, reverse, drop, replicate, length, slice_index, Option, Some, None, find, refl, sym, ap, ap₂, ◌∙◌, subst, true≢false, arith}
+use Rattle.std.proofs.Common.{◌≡◌, ◌≢◌, ℕ, zero, suc, ◌+◌, ◌-◌, ◌*◌, ◌/◌, ◌%◌, ◌^◌, ◌<◌, ◌≤◌, ◌⊎◌, inl, inr, Bool, true, false, ◌&&◌, ◌||◌, ◌==◌, List, [], ◌∷◌, map, filter, reverse, drop, replicate, length, slice_index, Some, refl, sym, ap, ap₂, ◌∙◌, subst, true≢false, arith}
 use Rattle.std.specs.Prelude.{nat_lt, if◌then◌else◌}
-use Rattle.std.specs.List.{list_any, range_with_len}
+use Rattle.std.specs.List.{list_any}
 use Rattle.std.specs.Option.{option_map}
 use Rattle.std.proofs.lemmas.List.{length-set, get_or-set_same, get_or-set_other}
 use Rattle.std.proofs.lemmas.Bool.Decides.{nat_tests}
@@ -12,16 +12,16 @@ use Rattle.pe_base.specs.Tree.Places.{IsPosition, moved, is_same}
 use Rattle.pe_base.specs.Tree.Curve.{order}
 use Rattle.pe_base.specs.Steps.Around.{is_corner_pos, is_corner, around, steps}
 use Rattle.pe_base.specs.Steps.Routes.{axis_between, axis_of, waiting_stack, stack_in, stack_out}
-use Rattle.pe_base.specs.Steps.Faces.{Face, IsFace, facing, ShareFace, Touch, beside, across, plane, stack_of, face_on, in_finest, is_on, is_step, corner_touches, comes_across, in_corners, out_corners}
-use Rattle.pe_base.specs.Steps.Stacks.{is_stack, comes_by, goes_by, on_stack, ComeByFaces, GoByFaces, AcrossNone, AcrossOne}
-use Rattle.pe_base.proofs.Lists.{Each, Each-all, Each-weaker, Each-map, Each-filter, Each-reverse, map-map, map-reverse, filter-map, filter-reverse, filter_same, filter_none}
+use Rattle.pe_base.specs.Steps.Faces.{Face, IsFace, ShareFace, Touch, beside, across, plane, stack_of, face_on, in_finest, is_on, is_step, corner_touches, comes_across, in_corners}
+use Rattle.pe_base.specs.Steps.Stacks.{is_stack, comes_by, goes_by, ComeByFaces, GoByFaces, AcrossNone, AcrossOne}
+use Rattle.pe_base.proofs.Lists.{Each, Each-all, Each-weaker, Each-filter, map-map, map-reverse, filter-map, filter-reverse, filter_same, filter_none}
 use Rattle.pe_base.proofs.Tree.Mirrors.{up}
 use Rattle.pe_base.proofs.Tree.Corners.{IsBits, bit_lists, bit_lists_below, touch_at, corner_touches_are, slice_index-moved, slice_index-bits}
 use Rattle.pe_base.proofs.Tree.Ranks.{steps_within, list_any-Each, is_same-true, and_left, and_right}
 use Rattle.pe_base.proofs.Steps.Counts.{OnGrid, is_same_itself, same_itself, true_eq, eq_true}
 use Rattle.pe_base.proofs.Steps.Crossing.{step_neighbours}
 use Rattle.pe_base.proofs.Steps.Turned.{axis_between-back, find_none, find_first, any_both, one_step_to, is_step-opposite, stack-opposite}
-use Rattle.pe_base.proofs.Faces.FaceLists.{face_of, up_cell, across-up}
+use Rattle.pe_base.proofs.Faces.FaceLists.{face_of, across-up}
 use Rattle.pe_base.proofs.Faces.Quiet.{false_unless}
 use Rattle.pe_base.proofs.Faces.TurnedLists.{leaving-opposite, goes_by-opposite}
 
@@ -106,7 +106,7 @@ or_none : (b : Bool) → (b || false) ≡ b
 or_none true = refl
 or_none false = refl
 
-same_places : (a b : Place) → is_same a b ≡ true → a ≡ b
+pub same_places : (a b : Place) → is_same a b ≡ true → a ≡ b
 same_places a b e = let k = is_same-true a b e in ap₂ (λ l p. let v : Place = record { level = l; pos = p } in v) k.0 k.1
 
 -- a corner of a cell comes to it across no face, or across one
@@ -181,7 +181,7 @@ stack_of_face : (s axis side x : ℕ) → side < 2 → s / 2 ≡ axis → (x + s
 stack_of_face s axis side x h e f = omega arith
 
 -- a cell that shares a face lies at another position on its axis
-apart : (face : Face) (cell : Place) → face.side < 2 → face.axis < length cell.pos → ShareFace face cell (across face cell) → beside face.side (slice_index cell.pos face.axis) ≢ slice_index cell.pos face.axis
+pub apart : (face : Face) (cell : Place) → face.side < 2 → face.axis < length cell.pos → ShareFace face cell (across face cell) → beside face.side (slice_index cell.pos face.axis) ≢ slice_index cell.pos face.axis
 apart face cell s l share e = go face.side s (slice_index cell.pos face.axis) e there
   where
     long : face.axis < length (across face cell).pos

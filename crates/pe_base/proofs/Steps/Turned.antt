@@ -1,10 +1,10 @@
 -- Around a vertex, the cells of one way are those of the other backwards, and so are the steps.
-use Rattle.std.proofs.Common.{◌≡◌, ℕ, ◌+◌, ◌==◌, ◌≤◌, Bool, true, false, cond, ◌&&◌, ◌||◌, ◌⊎◌, inl, inr, List, [], ◌∷◌, ◌++◌, map, filter, reverse, Option, Some, None, find, refl, sym, ap, ap₂, ◌∙◌, append_assoc, arith}
+use Rattle.std.proofs.Common.{◌≡◌, ℕ, ◌+◌, ◌==◌, ◌≤◌, Bool, true, false, cond, ◌&&◌, ◌||◌, ◌⊎◌, inl, inr, List, [], ◌∷◌, ◌++◌, map, filter, reverse, Some, None, find, refl, sym, ap, ap₂, ◌∙◌, append_assoc, arith}
 use Rattle.std.specs.Prelude.{if◌then◌else◌}
 use Rattle.std.proofs.lemmas.Bool.Decides.{nat_tests}
 use Rattle.std.specs.List.{list_any}
 use Rattle.std.specs.Option.{option_map}
-use Rattle.std.proofs.lemmas.List.{reverse-append, reverse-reverse}
+use Rattle.std.proofs.lemmas.List.{reverse-reverse}
 use Rattle.std.proofs.lemmas.List.Folds.{list_any-append}
 use Rattle.pe_base.specs.declared.place.Place.{Place}
 use Rattle.pe_base.specs.declared.way.Way.{Way}
@@ -13,8 +13,8 @@ use Rattle.pe_base.specs.Tree.Ways.{opposite}
 use Rattle.pe_base.specs.Steps.Around.{is_corner, around, steps}
 use Rattle.pe_base.specs.Steps.Routes.{axis_of, axis_between, waiting_stack, stack_in, stack_out}
 use Rattle.pe_base.specs.Steps.Faces.{is_step, steps_to, steps_from}
-use Rattle.pe_base.proofs.Lists.{Each, Each-all, Each-weaker, map-map, map-reverse, filter-map, filter-reverse, filter_same, reverse-cons}
-use Rattle.pe_base.proofs.Tree.Ranks.{Rising, rank, rank_of, top, around_rises, is_same-true}
+use Rattle.pe_base.proofs.Lists.{filter-map, filter-reverse, reverse-cons}
+use Rattle.pe_base.proofs.Tree.Ranks.{rank, rank_of, top, around_rises, is_same-true}
 use Rattle.pe_base.proofs.Steps.Counts.{step_alone, is_same_itself, reverse-order}
 
 pub around-opposite : (axes : ℕ) (way : Way) (vertex : Place) → around axes (opposite way) vertex ≡ reverse (around axes way vertex)

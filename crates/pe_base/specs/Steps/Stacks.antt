@@ -1,10 +1,10 @@
 -- The corners of a cell by the stacks on which they come to it and go from it.
-use Rattle.std.specs.Prelude.{◌≡◌, ℕ, ◌*◌, ◌/◌, ◌%◌, ◌^◌, ◌<◌, Bool, false, ◌&&◌, ◌==◌, nat_lt, List, [], map, filter, reverse, if◌then◌else◌, slice_index, Option, Some, None}
+use Rattle.std.specs.Prelude.{◌≡◌, ℕ, ◌*◌, ◌/◌, ◌%◌, Bool, false, ◌&&◌, ◌==◌, nat_lt, List, [], map, filter, reverse, if◌then◌else◌, slice_index, Option, Some, None}
 use Rattle.pe_base.specs.declared.place.Place.{Place}
 use Rattle.pe_base.specs.declared.way.Way.{Way}
 use Rattle.pe_base.specs.Tree.Places.{is_same}
 use Rattle.pe_base.specs.Steps.Routes.{stack_in, stack_out}
-use Rattle.pe_base.specs.Steps.Faces.{Face, IsFace, ShareFace, across, plane, stack_of, face_on, is_step, Touch, corner_touches, in_corners, out_corners}
+use Rattle.pe_base.specs.Steps.Faces.{Face, IsFace, ShareFace, across, plane, stack_of, face_on, Touch, corner_touches, in_corners, out_corners}
 
 -- a stack is the one named, if one is named
 abbrev pub is_stack : ℕ → Option ℕ → Bool

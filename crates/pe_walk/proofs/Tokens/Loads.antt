@@ -1,5 +1,5 @@
 -- The loads of a cell's corners take what comes off all stacks at once, and its stores put on what goes.
-use Rattle.std.proofs.Common.{◌≡◌, ◌≢◌, ℕ, zero, suc, ◌+◌, ◌-◌, ◌*◌, ◌^◌, ◌<◌, ◌≤◌, ◌⊎◌, inl, inr, Bool, true, false, not, cond, ◌&&◌, ◌==◌, List, [], ◌∷◌, ◌++◌, map, filter, reverse, Option, Some, None, refl, sym, ap, ap₂, ◌∙◌, subst, append_assoc, arith}
+use Rattle.std.proofs.Common.{◌≡◌, ℕ, ◌+◌, ◌-◌, ◌<◌, ◌≤◌, inl, inr, Bool, true, false, cond, ◌&&◌, List, [], ◌∷◌, ◌++◌, map, filter, reverse, Option, Some, None, refl, sym, ap, ◌∙◌, subst, append_assoc, arith}
 use Rattle.std.proofs.lemmas.List.{map-append}
 use Rattle.std.proofs.lemmas.List.Elements.{filter-append}
 use Rattle.pe_base.proofs.Lists.{Each, reverse-cons}
@@ -159,11 +159,14 @@ module _ (o : Outlook) where
       to_stack : (to : Option ℕ) → ((s : ℕ) → to ≡ Some s → s < stack_count t.vertices)
           → (stack_count (put to v t.vertices) ≡ stack_count t.vertices) × ((s : ℕ) → items_at (put to v t.vertices) s ≡ with_it touch [] (true && is_stack s to) ++ items_at t.vertices s)
       to_stack None w = (refl, (λ s. refl))
-      to_stack (Some w) within = (pushed_count t.vertices w v, (λ s. elim (same_or_other s w) [
-        | inl e ↦ ap (items_at (pushed t.vertices w v)) e ∙ pushed_same t.vertices w v (within w refl) ∙ ap (λ z. v ∷ items_at t.vertices z) (sym e)
-            ∙ ap (λ b. with_it touch [] b ++ items_at t.vertices s) (sym (eq_true s w e))
-        | inr e ↦ pushed_other t.vertices w s v e ∙ ap (λ b. with_it touch [] b ++ items_at t.vertices s) (sym (eq_false s w e))
-      ]))
+      to_stack (Some w) within = (
+        pushed_count t.vertices w v,
+        (λ s. elim (same_or_other s w) [
+          | inl e ↦ ap (items_at (pushed t.vertices w v)) e ∙ pushed_same t.vertices w v (within w refl) ∙ ap (λ z. v ∷ items_at t.vertices z) (sym e)
+              ∙ ap (λ b. with_it touch [] b ++ items_at t.vertices s) (sym (eq_true s w e))
+          | inr e ↦ pushed_other t.vertices w s v e ∙ ap (λ b. with_it touch [] b ++ items_at t.vertices s) (sym (eq_false s w e))
+        ]),
+      )
 
       above : (n : ℕ) → 0 < n → nat_lt 0 n ≡ true
       above n h = grind (arith, nat_tests)

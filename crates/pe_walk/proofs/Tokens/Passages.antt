@@ -1,5 +1,5 @@
 -- What the walk of a cell does on one stack: what the cell's own corners take and give there, and its walked children.
-use Rattle.std.proofs.Common.{◌≡◌, ◌≢◌, ℕ, zero, suc, ◌+◌, ◌-◌, ◌*◌, ◌/◌, ◌%◌, ◌^◌, ◌<◌, ◌≤◌, ◌⊎◌, inl, inr, Bool, true, false, not, ◌&&◌, ◌==◌, List, [], ◌∷◌, ◌++◌, map, filter, reverse, Option, Some, None, refl, sym, ap, ap₂, ◌∙◌, subst, append-nil, append_assoc, true≢false, arith}
+use Rattle.std.proofs.Common.{◌≡◌, ◌≢◌, ℕ, suc, ◌*◌, ◌/◌, ◌%◌, ◌^◌, ◌<◌, ◌≤◌, ◌⊎◌, inl, inr, Bool, true, false, ◌&&◌, ◌==◌, List, [], ◌∷◌, ◌++◌, map, filter, reverse, Option, Some, None, refl, sym, ap, ap₂, ◌∙◌, subst, append-nil, append_assoc, arith}
 use Rattle.std.specs.Prelude.{nat_lt, if◌then◌else◌, is_none}
 use Rattle.std.specs.List.{flat_map, Contains}
 use Rattle.std.proofs.lemmas.List.{map-append}
@@ -8,17 +8,15 @@ use Rattle.std.proofs.lemmas.List.Concat.{flat_map-append}
 use Rattle.pe_walk.proofs.Tokens.Stacks.{same_or_other}
 use Rattle.std.proofs.lemmas.Bool.Decides.{nat_tests}
 use Rattle.pe_base.specs.declared.place.Place.{Place}
-use Rattle.pe_base.specs.declared.way.Way.{Way}
-use Rattle.pe_base.specs.Tree.Ways.{opposite}
 use Rattle.pe_base.specs.Tree.Places.{IsPosition}
 use Rattle.pe_base.specs.Tree.Curve.{children}
-use Rattle.pe_base.specs.Steps.Routes.{stack_in, stack_out}
-use Rattle.pe_base.specs.Steps.Faces.{Face, Touch, Turn, Turns, arriving, leaving, face_on, stack_of, is_step, is_touched, corner_touches, child_turn, corner_turn, in_corners, out_corners}
-use Rattle.pe_base.specs.Steps.Stacks.{is_stack, comes_by, on_stack, AcrossNone, AcrossOne}
-use Rattle.pe_base.specs.Walk.Streams.{if_walks, walked_children, walked_loads}
+use Rattle.pe_base.specs.Steps.Routes.{stack_in}
+use Rattle.pe_base.specs.Steps.Faces.{Touch, Turn, Turns, arriving, leaving, face_on, stack_of, corner_touches, child_turn, corner_turn, in_corners, out_corners}
+use Rattle.pe_base.specs.Steps.Stacks.{is_stack, comes_by, on_stack}
+use Rattle.pe_base.specs.Walk.Streams.{if_walks, walked_children}
 use Rattle.pe_base.proofs.Lists.{Each, Each-all, Each-map, Each-weaker, Each-reverse, reverse-cons, flat_map_same, flat_map_none, filter_same, filter-flat_map, map-flat_map}
 use Rattle.pe_base.proofs.Tree.Corners.{IsBits, bit_lists, bit_lists_below, touch_at, corner_touches_are}
-use Rattle.pe_base.proofs.Steps.Counts.{same_itself, eq_true, eq_false, true_eq}
+use Rattle.pe_base.proofs.Steps.Counts.{eq_true, eq_false, true_eq}
 use Rattle.pe_base.proofs.Steps.Turned.{stack-opposite}
 use Rattle.pe_base.proofs.Faces.Composition.{composes_any, Turns-split}
 use Rattle.pe_base.proofs.Faces.Bridge.{one_across, come_by_faces, corner_at}
@@ -28,8 +26,8 @@ use Rattle.pe_base.specs.Tree.Dim.{IsDim}
 use Rattle.pe_walk.specs.Laws.{IsCell, IsWalk}
 use Rattle.pe_walk.proofs.Unwalked.{contains_in, cell_four}
 use Rattle.pe_walk.proofs.Derived.{leaf_is_corners}
-use Rattle.pe_walk.specs.Tokens.{Outlook, turned, given, first_of, source, target}
-use Rattle.pe_walk.specs.Takings.{is_read, loads_of, reads_of, writes_of, takes, gives, Grown}
+use Rattle.pe_walk.specs.Tokens.{Outlook, turned, given, first_of}
+use Rattle.pe_walk.specs.Takings.{is_read, loads_of, reads_of, takes, gives}
 use Rattle.pe_walk.proofs.Tokens.Loads.{vertices_of, takes_by, gives_by}
 use Rattle.pe_walk.proofs.Tokens.Turning.{children-turned, writes-turned}
 
@@ -65,7 +63,7 @@ give_all f (c ∷ cs) z e = (
   z,
   ap (λ xs. xs ++ z) (sym e.0),
   subst (Turns (map f cs) ((f c).gives ++ z)) (sym (ap (λ xs. flat_map (λ c. (f c).gives) xs ++ z) (reverse-cons c cs) ∙ ap (λ xs. xs ++ z) (flat_map-append (λ c. (f c).gives) (reverse cs) (c ∷ []) ∙ ap (λ xs. flat_map (λ c. (f c).gives) (reverse cs) ++ xs) (append-nil (f c).gives))
-  ∙ append_assoc (flat_map (λ c. (f c).gives) (reverse cs)) (f c).gives z)) (give_all f cs ((f c).gives ++ z) e.1),
+      ∙ append_assoc (flat_map (λ c. (f c).gives) (reverse cs)) (f c).gives z)) (give_all f cs ((f c).gives ++ z) e.1),
 )
 
 module _ (o : Outlook) (four : o.axes ≤ 4) where
@@ -177,7 +175,6 @@ gives-split o four levels s cell h =
 
 module _ (o : Outlook) (walked : Place → Bool) (walk : IsWalk o.axes o.way walked o.counts) (dim : IsDim o.axes) (cell : Place) (is_cell : IsCell o.axes o.way cell)
     (below : (child : Place) → Contains (children o.axes o.way cell) child → walked child ≡ o.walks cell) where
-
   abbrev kids : List Place
   kids = walked_children o.axes o.way o.walks cell
 

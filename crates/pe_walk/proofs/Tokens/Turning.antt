@@ -1,5 +1,5 @@
 -- Turning round: what is stored in one way, backwards, is what is loaded in the other.
-use Rattle.std.proofs.Common.{◌≡◌, ℕ, zero, suc, ◌≤◌, Bool, true, false, ◌&&◌, List, [], ◌∷◌, ◌++◌, map, filter, reverse, refl, sym, ap, ap₂, ◌∙◌}
+use Rattle.std.proofs.Common.{◌≡◌, ℕ, zero, suc, ◌≤◌, Bool, true, false, ◌&&◌, [], ◌∷◌, ◌++◌, map, filter, reverse, refl, sym, ap, ◌∙◌}
 use Rattle.std.specs.Prelude.{is_none}
 use Rattle.std.specs.List.{flat_map}
 use Rattle.std.proofs.lemmas.List.{reverse-append}
@@ -7,13 +7,14 @@ use Rattle.pe_base.specs.declared.place.Place.{Place}
 use Rattle.pe_base.specs.declared.way.Way.{Way}
 use Rattle.pe_base.specs.Tree.Ways.{opposite}
 use Rattle.pe_base.specs.Tree.Curve.{children}
-use Rattle.pe_base.specs.Steps.Faces.{Touch, corner_touches}
+use Rattle.pe_base.specs.Steps.Faces.{corner_touches}
 use Rattle.pe_base.specs.Walk.Streams.{if_walks, walked_children, walked_loads, walked_stores, walked_cells}
 use Rattle.pe_base.proofs.Lists.{Each-all, flat_map_same, filter_same, reverse-flat_map}
 use Rattle.pe_base.proofs.Tree.Children.{reverse-children}
-use Rattle.pe_base.proofs.Steps.Turned.{stack-opposite}
+use Rattle.pe_base.proofs.Steps.Turned.{around-opposite, stack-opposite}
+use Rattle.pe_walk.specs.TokenLaws.{TurningRound, TurningAround}
 use Rattle.pe_walk.specs.Tokens.{Outlook, turned}
-use Rattle.pe_walk.specs.Takings.{left_cells, loads_of, stores_of, is_read, is_written, reads_of, writes_of, cell_reads_of, cell_writes_of}
+use Rattle.pe_walk.specs.Takings.{left_cells, loads_of, is_read, is_written, reads_of, writes_of, cell_reads_of, cell_writes_of}
 
 pub children-turned : (axes : ℕ) (way : Way) (walks : Place → Bool) (cell : Place) → reverse (walked_children axes way walks cell) ≡ walked_children axes (opposite way) walks cell
 children-turned axes way walks cell = go (walks cell)
@@ -51,3 +52,14 @@ writes-turned o levels cell four =
 
 pub cell_writes-turned : (o : Outlook) (levels : ℕ) (cell : Place) → cell_writes_of o levels cell ≡ cell_reads_of (turned o) levels cell
 cell_writes-turned o levels cell = ap (filter o.writes_cell) (cells-turned o levels cell)
+
+pub turning_round : TurningRound
+turning_round o levels cell dim = record {
+  stores = stores-turned o.axes o.way o.walks levels cell;
+  cells = cells-turned o levels cell;
+  writes = writes-turned o levels cell dim.1;
+  cell_writes = cell_writes-turned o levels cell;
+}
+
+pub turning_around : TurningAround
+turning_around axes way vertex cell dim = record { cells = around-opposite axes way vertex; stack = stack-opposite axes way vertex cell dim.1 }

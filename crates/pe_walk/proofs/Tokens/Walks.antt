@@ -1,8 +1,8 @@
 -- The walk of a cell over places on stacks: what it wants is on top of each stack, and it leaves what it gives.
-use Rattle.std.proofs.Common.{◌≡◌, ◌≢◌, ℕ, zero, suc, ◌+◌, ◌-◌, ◌*◌, ◌/◌, ◌%◌, ◌^◌, ◌<◌, ◌≤◌, ◌⊎◌, inl, inr, Bool, true, false, not, cond, ◌&&◌, ◌==◌, List, [], ◌∷◌, ◌++◌, map, filter, reverse, Option, Some, None, refl, sym, ap, ap₂, ◌∙◌, subst, append_assoc, append-nil, arith}
+use Rattle.std.proofs.Common.{◌≡◌, ℕ, zero, suc, ◌+◌, ◌^◌, ◌<◌, ◌≤◌, inl, inr, Bool, true, false, not, cond, ◌==◌, List, [], ◌∷◌, ◌++◌, map, filter, reverse, Option, Some, None, refl, sym, ap, ap₂, ◌∙◌, subst, append_assoc, append-nil, arith}
 use Rattle.std.specs.Prelude.{if◌then◌else◌}
 use Rattle.std.specs.Option.{option_map, option_and_then}
-use Rattle.std.specs.List.{flat_map, range_with_len, Contains}
+use Rattle.std.specs.List.{flat_map, range_with_len}
 use Rattle.std.proofs.lemmas.List.Elements.{filter-append}
 use Rattle.pe_base.specs.declared.place.Place.{Place}
 use Rattle.pe_base.specs.declared.way.Way.{Way}
@@ -12,24 +12,23 @@ use Rattle.pe_base.proofs.Faces.Quiet.{false_unless}
 use Rattle.pe_base.specs.Tree.Dim.{IsDim}
 use Rattle.pe_base.specs.Tree.Curve.{children}
 use Rattle.pe_base.specs.Tree.Places.{corner}
-use Rattle.pe_base.specs.Steps.Routes.{stack_out}
 use Rattle.pe_base.specs.Steps.Faces.{Touch, Turn, Turns, stack_of, corner_touches}
 use Rattle.pe_base.specs.Steps.Stacks.{is_stack}
-use Rattle.pe_base.specs.Walk.Streams.{if_walks, walked_children, walked_loads, walked_cells}
+use Rattle.pe_base.specs.Walk.Streams.{if_walks, walked_children, walked_cells}
 use Rattle.pe_base.proofs.Lists.{Each, Each-all, Each-weaker, Each-map, In, flat_map_same, flat_map_none, filter-flat_map, map-reverse}
 use Rattle.pe_base.proofs.Steps.Counts.{is_same_itself, eq_true, eq_false, true_eq}
-use Rattle.pe_stacks.specs.Holdings.{Holdings, stack_count, items_at, lent, given_up, pushed, popped}
+use Rattle.pe_stacks.specs.Holdings.{Holdings, stack_count, items_at, lent, pushed, popped}
 use Rattle.pe_stacks.specs.Grid.{output_stack, cell_input_stack, cell_output_stack}
-use Rattle.pe_walk.specs.Laws.{IsCell, IsWalk}
-use Rattle.pe_walk.specs.Tokens.{Outlook, turned, Tokens, is_top, given, first_of, each_some, taken, put, target, cell_source, cell_target, touch_of, load, store, enter, leave, numbers, around_below, walk}
+use Rattle.pe_walk.specs.Laws.{IsCell}
+use Rattle.pe_walk.specs.Tokens.{Outlook, turned, Tokens, is_top, given, first_of, each_some, taken, put, cell_source, cell_target, touch_of, store, enter, leave, numbers, around_below, walk}
 use Rattle.pe_walk.specs.Takings.{loads_of, takes, gives, cell_reads_of, cell_writes_of, cell_takes, cell_gives, met_after, Due, Grown, MayBegin, HasEnded}
-use Rattle.pe_walk.proofs.Unwalked.{contains_in, in_contains}
+use Rattle.pe_walk.proofs.Unwalked.{in_contains}
 use Rattle.pe_walk.proofs.Trees.{cell_position, child_is_cell}
 use Rattle.pe_walk.proofs.Derived.{corners_cross_once}
 use Rattle.pe_walk.proofs.Tokens.Stacks.{popped_same, popped_other, pushed_same, pushed_other, popped_count, pushed_count, same_or_other}
-use Rattle.pe_walk.proofs.Tokens.Loads.{vertices_of, takes_by, gives_by, touched, touched-reverse, all_loads, all_stores, GoesWithin, met-append, due-split}
+use Rattle.pe_walk.proofs.Tokens.Loads.{vertices_of, takes_by, touched, touched-reverse, all_loads, all_stores, GoesWithin, met-append, due-split}
 use Rattle.pe_walk.proofs.Tokens.Turning.{children-turned, cell_writes-turned}
-use Rattle.pe_walk.proofs.Tokens.Passages.{own_takes, own_gives, take_all, give_all, token_turn, Passage, passage, passage_alone}
+use Rattle.pe_walk.proofs.Tokens.Passages.{own_takes, own_gives, take_all, give_all, token_turn, passage}
 
 -- a place that is taken, and one that is put
 pub taken_from : (from : Option ℕ) (place : Place) (held : Holdings Place) (rest : ℕ → List Place) → ((s : ℕ) → items_at held s ≡ (if is_stack s from then place ∷ rest s else rest s))
@@ -49,11 +48,14 @@ taken_from (Some w) place held rest its =
 pub put_to : (to : Option ℕ) (place : Place) (held : Holdings Place) → ((s : ℕ) → to ≡ Some s → s < stack_count held)
     → (stack_count (put to place held) ≡ stack_count held) × ((s : ℕ) → items_at (put to place held) s ≡ (if is_stack s to then place ∷ items_at held s else items_at held s))
 put_to None place held within = (refl, (λ s. refl))
-put_to (Some w) place held within = (pushed_count held w place, (λ s. elim (same_or_other s w) [
-  | inl e ↦ ap (items_at (pushed held w place)) e ∙ pushed_same held w place (within w refl) ∙ ap (λ z. place ∷ items_at held z) (sym e)
-      ∙ ap (λ b. if b then place ∷ items_at held s else items_at held s) (sym (eq_true s w e))
-  | inr e ↦ pushed_other held w s place e ∙ ap (λ b. if b then place ∷ items_at held s else items_at held s) (sym (eq_false s w e))
-]))
+put_to (Some w) place held within = (
+  pushed_count held w place,
+  (λ s. elim (same_or_other s w) [
+    | inl e ↦ ap (items_at (pushed held w place)) e ∙ pushed_same held w place (within w refl) ∙ ap (λ z. place ∷ items_at held z) (sym e)
+        ∙ ap (λ b. if b then place ∷ items_at held s else items_at held s) (sym (eq_true s w e))
+    | inr e ↦ pushed_other held w s place e ∙ ap (λ b. if b then place ∷ items_at held s else items_at held s) (sym (eq_false s w e))
+  ]),
+)
 
 -- what a cell takes for itself, and what its children take
 own_cell : (o : Outlook) (s : ℕ) (cell : Place) (rest : List Place) → cell_takes o 0 s cell ++ rest ≡ (if is_stack s (cell_source o cell) then cell ∷ rest else rest)
@@ -91,17 +93,17 @@ own_cell_gives : (o : Outlook) (s : ℕ) (cell : Place) (rest : List Place) → 
 own_cell_gives o s cell rest = sym (own_cell (turned o) s cell rest) ∙ ap (λ xs. xs ++ rest) (sym (cell_gives-turned o 0 s cell))
 
 -- what the walk of a cell does on one stack of cells
-record CellPassage (o : Outlook) (levels s : ℕ) (cell : Place) (turn : Place → Turn) (kids beneath : List Place) : Type 0 where
-  inner : List Place
-  outer : List Place
-  own_takes : cell_takes o levels s cell ++ beneath ≡ cell_takes o 0 s cell ++ inner
-  own_gives : cell_gives o levels s cell ++ beneath ≡ cell_gives o 0 s cell ++ outer
-  turns : Turns (map turn kids) inner outer
+pub record CellPassage (o : Outlook) (levels s : ℕ) (cell : Place) (turn : Place → Turn) (kids beneath : List Place) : Type 0 where
+  pub inner : List Place
+  pub outer : List Place
+  pub own_takes : cell_takes o levels s cell ++ beneath ≡ cell_takes o 0 s cell ++ inner
+  pub own_gives : cell_gives o levels s cell ++ beneath ≡ cell_gives o 0 s cell ++ outer
+  pub turns : Turns (map turn kids) inner outer
 
-abbrev cell_turn : Outlook → ℕ → ℕ → Place → Turn
+abbrev pub cell_turn : Outlook → ℕ → ℕ → Place → Turn
 cell_turn o levels s child = record { takes = cell_takes o levels s child; gives = cell_gives o levels s child; touches = λ place. false }
 
-cell_passage : (o : Outlook) (levels s : ℕ) (cell : Place) (beneath : List Place) → CellPassage o (suc levels) s cell (cell_turn o levels s) (walked_children o.axes o.way o.walks cell) beneath
+pub cell_passage : (o : Outlook) (levels s : ℕ) (cell : Place) (beneath : List Place) → CellPassage o (suc levels) s cell (cell_turn o levels s) (walked_children o.axes o.way o.walks cell) beneath
 cell_passage o levels s cell beneath = go (s == cell_output_stack o.swapped) refl
   where
     kids : List Place
@@ -142,7 +144,7 @@ pub record Went (vertices cells : ℕ → List Place) (met held : Place → ℕ)
   pub its_met : after.met ≡ met
   pub its_held : (place : Place) → after.held place ≡ held place
 
-each_below : (n : ℕ) (P : ℕ → Type 0) → ((k : ℕ) → k < n → P k) → Each P (range_with_len 0 n)
+pub each_below : (n : ℕ) (P : ℕ → Type 0) → ((k : ℕ) → k < n → P k) → Each P (range_with_len 0 n)
 each_below n P h = go 0 n (λ k l. h k (omega arith))
   where
     go : (a m : ℕ) → ((k : ℕ) → k < a + m → P k) → Each P (range_with_len a m)
@@ -151,7 +153,7 @@ each_below n P h = go 0 n (λ k l. h k (omega arith))
 
 module _ (o : Outlook) (dim : IsDim o.axes) where
   -- a corner goes to one of ten stacks, and a cell to one of two
-  goes_within : (cell : Place) → IsCell o.axes o.way cell → (k : ℕ) → k < 2 ^ o.axes → GoesWithin o 10 cell k
+  pub goes_within : (cell : Place) → IsCell o.axes o.way cell → (k : ℕ) → k < 2 ^ o.axes → GoesWithin o 10 cell k
   goes_within cell is_cell k below s e = elim (corners_cross_once o.axes o.way cell k dim is_cell below).goes [
     | inl none ↦ from_stream (o.writes (corner o.axes cell k)) (sym (ap (λ x. first_of x (given (o.writes (corner o.axes cell k)) (Some (output_stack o.swapped)))) none.no_stack) ∙ e)
     | inr one ↦
@@ -170,7 +172,7 @@ module _ (o : Outlook) (dim : IsDim o.axes) where
       from_stream true h = let is : output_stack o.swapped ≡ s = cc in let n = near o.swapped in omega arith
       from_stream false h = absurd cc
 
-  cell_goes : (cell : Place) (s : ℕ) → cell_target o cell ≡ Some s → s < 2
+  pub cell_goes : (cell : Place) (s : ℕ) → cell_target o cell ≡ Some s → s < 2
   cell_goes cell s e = go (o.writes_cell cell) e
     where
       near : (swapped : Bool) → cell_output_stack swapped < 2
@@ -181,7 +183,7 @@ module _ (o : Outlook) (dim : IsDim o.axes) where
       go true h = let is : cell_output_stack o.swapped ≡ s = cc in let n = near o.swapped in omega arith
       go false h = absurd cc
 
-  own_touches_are : (cell : Place) → map (touch_of o cell) (reverse (numbers o)) ≡ reverse (corner_touches o.axes cell)
+  pub own_touches_are : (cell : Place) → map (touch_of o cell) (reverse (numbers o)) ≡ reverse (corner_touches o.axes cell)
   own_touches_are cell = map-reverse (touch_of o cell) (numbers o)
 
   -- a cell around what is done below it
@@ -233,18 +235,22 @@ WalksAt o greatest levels = (cell : Place) → IsCell o.axes o.way cell → grea
     → MayBegin o levels cell beneath cells_beneath t → (after : Tokens) × (walk o levels cell t ≡ Some after) × HasEnded o levels cell beneath cells_beneath t after
 
 -- some cells one after another
-walk_each : (o : Outlook) (greatest levels : ℕ) → WalksAt o greatest levels → (cs : List Place) → Each (λ c. IsCell o.axes o.way c × (greatest ≤ c.level + levels)) cs
+pub walk_each : (o : Outlook) (greatest levels : ℕ) → WalksAt o greatest levels → (cs : List Place) → Each (λ c. IsCell o.axes o.way c × (greatest ≤ c.level + levels)) cs
     → (t : Tokens) (a b ca cb : ℕ → List Place) → stack_count t.vertices ≡ 10 → stack_count t.cells ≡ 2 → ((s : ℕ) → items_at t.vertices s ≡ a s) → ((s : ℕ) → items_at t.cells s ≡ ca s)
     → ((s : ℕ) → Turns (map (token_turn o levels s) cs) (a s) (b s)) → ((s : ℕ) → Turns (map (cell_turn o levels s) cs) (ca s) (cb s)) → Due o (flat_map (loads_of o levels) cs) t.met
     → (after : Tokens) × (each_some (walk o levels) cs t ≡ Some after) × Went b cb (met_after o (flat_map (loads_of o levels) cs) t.met) t.held after
-walk_each o greatest levels law [] each t a b ca cb n m its cells turns cell_turns due = (t, refl, record {
-  stacks = n;
-  cell_stacks = m;
-  its_vertices = λ s. its s ∙ turns s;
-  its_cells = λ s. cells s ∙ cell_turns s;
-  its_met = refl;
-  its_held = λ place. refl;
-})
+walk_each o greatest levels law [] each t a b ca cb n m its cells turns cell_turns due = (
+  t,
+  refl,
+  record {
+    stacks = n;
+    cell_stacks = m;
+    its_vertices = λ s. its s ∙ turns s;
+    its_cells = λ s. cells s ∙ cell_turns s;
+    its_met = refl;
+    its_held = λ place. refl;
+  },
+)
 walk_each o greatest levels law (c ∷ cs) each t a b ca cb n m its cells turns cell_turns due =
     let parts = due-split o (loads_of o levels c) (flat_map (loads_of o levels) cs) t.met due in
     let one = law c each.0.0 each.0.1 (λ s. (turns s).0) (λ s. (cell_turns s).0) t (record {
@@ -278,7 +284,7 @@ each_with P (x ∷ xs) e = ((inl refl, e.0), Each-weaker (λ y. In y xs × P y) 
 
 module _ (o : Outlook) (walked : Place → Bool) (greatest : ℕ) (dim : IsDim o.axes) (grown : Grown o walked greatest) where
   -- the children of a cell are cells of the tree, one level further down
-  kids_are_cells : (cell : Place) → IsCell o.axes o.way cell → Each (λ c. IsCell o.axes o.way c × (c.level ≡ cell.level + 1)) (children o.axes o.way cell)
+  pub kids_are_cells : (cell : Place) → IsCell o.axes o.way cell → Each (λ c. IsCell o.axes o.way c × (c.level ≡ cell.level + 1)) (children o.axes o.way cell)
   kids_are_cells cell is_cell = Each-weaker _ _ (λ c i. (child_is_cell o.axes o.way cell c dim.1 is_cell (in_contains _ c i.0), i.1)) (children o.axes o.way cell)
       (each_with (λ c. c.level ≡ cell.level + 1) (children o.axes o.way cell) (children_levels o.axes o.way cell))
 

@@ -1,5 +1,5 @@
 -- The mark of one corner among those of all.
-use Rattle.std.proofs.Common.{◌≡◌, ℕ, ◌^◌, ◌<◌, Bool, ap₂, ◌∙◌, arith}
+use Rattle.std.proofs.Common.{◌≡◌, ◌^◌, ◌<◌, Bool, ap₂, ◌∙◌, arith}
 use Rattle.pe_states.specs.Carriers.{carrier_numbers}
 use Rattle.pe_states.specs.Marks.{is_marked, is_old_at, is_new_at, some_carrier}
 use Rattle.pe_base.proofs.Lists.{Each-weaker}

@@ -1,4 +1,4 @@
-use Rattle.std.proofs.Common.{ℕ, ◌^◌, ◌<◌}
+use Rattle.std.proofs.Common.{◌^◌, ◌<◌}
 use Rattle.pe_states.specs.Carriers.{carrier_numbers}
 use Rattle.pe_states.proofs.CarrierLaws.{carriers_within, carrier_numbers-below, All-from_Each}
 use Rattle.pe_states.proofs.laws.carriers_are_corners.Goals as goal

@@ -1,5 +1,5 @@
 -- The marks of both sides are those of the carriers along the axis.
-use Rattle.std.proofs.Common.{◌≡◌, ℕ, ◌*◌, ◌^◌, ◌%◌, ◌<◌, ◌∙◌, sym, ap, ap₂, subst, arith}
+use Rattle.std.proofs.Common.{◌≡◌, ℕ, ◌*◌, ◌^◌, ◌%◌, ◌∙◌, sym, ap₂, subst, arith}
 use Rattle.std.specs.Prelude.{◌==◌, bit_or}
 use Rattle.std.proofs.lemmas.Bool.{cond-true, cond-false, eq-eqb, ne_eqb}
 use Rattle.pe_states.specs.Sides.{IsSpread}

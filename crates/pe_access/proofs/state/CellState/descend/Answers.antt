@@ -1,13 +1,16 @@
 -- The lines that are made are those at the child's digits.
-use Rattle.std.proofs.Common.{◌≡◌, ℕ, ◌+◌, List, length, sym, ap, ◌∙◌, subst, arith}
-use Rattle.std.specs.Prelude.{sum}
+use Rattle.std.proofs.Common.{◌≡◌, ℕ, ◌+◌, List, [], ◌∷◌, get_or, refl, sym, ap, ap₂, ◌∙◌, subst, arith}
+use Rattle.std.specs.Prelude.{sum, sum_by}
 use Rattle.pe_base.specs.declared.way.Way.{Way}
 use Rattle.pe_base.specs.Tree.Places.{IsDigits, child_at}
 use Rattle.pe_base.specs.Steps.Routes.{way_turns}
 use Rattle.pe_base.proofs.Tree.PlaceLaws.{IsPosition-below}
 use Rattle.pe_base.proofs.Steps.RouteLaws.{Below}
-use Rattle.pe_access.specs.declared.line.Line.{Line}
+use Rattle.pe_access.specs.declared.numbers.Axis.{Axis}
+use Rattle.pe_access.specs.Lines.{Line, bit_of, root_line, child_line}
+use Rattle.pe_access.specs.Numbers.{axis_of}
 use Rattle.pe_access.specs.States.{HoldsCell, odd_count}
+use Rattle.pe_access.proofs.NumberLaws.{numbers_are}
 use Rattle.pe_access.proofs.LineLaws.{Below-all, descends, lines_at}
 use Rattle.pe_access.proofs.StateLaws.{HoldsCell-child, odd-lines}
 use Rattle.pe_access.proofs.state.CellState.descend.Goals as goal
@@ -17,21 +20,42 @@ returns-clause-stands c axes way cell place h =
     let self = c.args.self.now in
     let pos = cell.pos in
     let ks = c.args.k.k in
-    let long : length self.lines ≡ 4 = omega (arith, c.type_inv.self) in
+    let lines = h.lines in
+    let are = numbers_are self.along lines (omega (arith, c.type_inv.self)) h.numbers in
     let Fit : ℕ → Type 0 = λ n. IsDigits n c.args.k in
     let fit : IsDigits axes c.args.k = subst Fit h.same_axes c.requires.digits in
     let digits : Below 3 ks = Below-all 3 ks (IsPosition-below axes 3 ks (omega arith) fit) in
-    let turns : c.turns-turns.result ≡ way_turns way + odd_count self.lines = c.turns-turns.ensures.value ∙ ap (λ (w : Way). way_turns w + odd_count self.lines) h.same_way in
+    let turns : c.turns-turns.result ≡ way_turns way + sum_by (λ line. bit_of line.odd) lines =
+    c.turns-turns.ensures.value ∙ ap (λ (w : Way). way_turns w + odd_count self.along) h.same_way ∙ ap (λ (n : ℕ). way_turns way + n) are.odd_sum in
+    let t = c.turns-turns.result in
+    let next = self.level + 1 in
+    let x = get_or lines 0 root_line in
+    let y = get_or lines 1 root_line in
+    let z = get_or lines 2 root_line in
+    let w = get_or lines 3 root_line in
+    let x_is = are.each 0 _ root_line (omega arith) in
+    let y_is = are.each 1 _ root_line (omega arith) in
+    let z_is = are.each 2 _ root_line (omega arith) in
+    let w_is = are.each 3 _ root_line (omega arith) in
+    let odd : Axis → ℕ = λ a. bit_of a.odd in
+    let l₀ = child_line next (t + c.bit.result) (get_or ks 0 0) x in
+    let l₁ = child_line next (t + get_or ks 0 0 + c.bit-2.result) (get_or ks 1 0) y in
+    let l₂ = child_line next (t + get_or ks 0 0 + get_or ks 1 0 + c.bit-3.result) (get_or ks 2 0) z in
+    let l₃ = child_line next (t + get_or ks 0 0 + get_or ks 1 0 + get_or ks 2 0 + c.bit-4.result) (get_or ks 3 0) w in
     let made =
-    descends pos ks self.lines place.pos.four fit.four long way self.level c.turns-turns.result c.bit.result c.bit-2.result c.bit-3.result c.bit-4.result _ c.child.result c.child-2.result c.child-3.result c.child-4.result
-    digits (place.pos.four ∙ sym fit.four) (odd-lines axes way cell self.lines place h.lines long) turns
-    c.bit.ensures.value c.bit-2.ensures.value c.bit-3.ensures.value c.bit-4.ensures.value c.child.ensures c.child-2.ensures c.child-3.ensures c.child-4.ensures
-    ∙ ap (λ (l : ℕ). lines_at (l + 1) (way_turns way + sum pos) pos ks self.lines) h.same_level in
+    descends pos ks lines place.pos.four fit.four are.four way self.level t c.bit.result c.bit-2.result c.bit-3.result c.bit-4.result root_line l₀ l₁ l₂ l₃
+    digits (place.pos.four ∙ sym fit.four) (odd-lines axes way cell lines place h.held are.four) turns
+    (c.bit.ensures.value ∙ ap odd x_is) (c.bit-2.ensures.value ∙ ap odd y_is) (c.bit-3.ensures.value ∙ ap odd z_is) (c.bit-4.ensures.value ∙ ap odd w_is) refl refl refl refl
+    ∙ ap (λ (l : ℕ). lines_at (l + 1) (way_turns way + sum pos) pos ks lines) h.same_level in
     let Holds : List Line → Type 0 = λ xs. HoldsCell axes way (child_at cell c.args.k) xs in
+    let four : (a b d e : Axis) → List Axis = λ a b d e. a ∷ b ∷ d ∷ e ∷ [] in
     record {
       grid = h.grid;
       same_axes = h.same_axes;
       same_way = h.same_way;
       same_level = ap (λ (l : ℕ). l + 1) h.same_level;
-      lines = subst Holds (sym made) (HoldsCell-child axes way cell c.args.k self.lines h.grid.1 place (omega (arith, c.requires.level, h.same_level)) fit long h.lines);
+      lines = l₀ ∷ l₁ ∷ l₂ ∷ l₃ ∷ [];
+      held = subst Holds (sym made) (HoldsCell-child axes way cell c.args.k lines h.grid.1 place (omega (arith, c.requires.level, h.same_level)) fit are.four h.held);
+      numbers = ap₂ (λ (a b : Axis). four a b c.child-3.result c.child-4.result) (c.child.ensures x x_is) (c.child-2.ensures y y_is)
+          ∙ ap₂ (λ (d e : Axis). four (axis_of 0 l₀) (axis_of 1 l₁) d e) (c.child-3.ensures z z_is) (c.child-4.ensures w w_is);
     }

@@ -4,24 +4,26 @@ use Rattle.std.specs.Prelude.{slice_index}
 use Rattle.pe_base.specs.Tree.Curve.{flip}
 use Rattle.pe_base.proofs.Tree.PlaceLaws.{four}
 use Rattle.pe_base.proofs.Tree.CurveLaws.{bits-flips}
+use Rattle.pe_access.proofs.NumberLaws.{numbers_are}
 use Rattle.pe_access.proofs.LineLaws.{flip-at, odd-at}
 use Rattle.pe_access.proofs.StateLaws.{odd-lines}
 use Rattle.pe_access.proofs.state.CellState.flips.Goals as goal
 
 pub returns : goal.returns
 returns c axes way cell place h =
-    let lines = c.args.self.now.lines in
+    let along = c.args.self.now.along in
     let pos = cell.pos in
-    let long : length lines ≡ 4 = omega (arith, c.type_inv.self) in
-    let odd = odd-lines axes way cell lines place h.lines long in
+    let long : length along ≡ 4 = omega (arith, c.type_inv.self) in
+    let are = numbers_are along h.lines long h.numbers in
+    let odd = are.odds ∙ odd-lines axes way cell h.lines place h.held are.four in
     let x = slice_index pos 0 in
     let y = slice_index pos 1 in
     let z = slice_index pos 2 in
     let w = slice_index pos 3 in
-    let first : c.bit.result ≡ x % 2 = c.bit.ensures.value ∙ odd-at lines pos 0 _ (omega arith) odd in
-    let second : c.bit-2.result ≡ y % 2 = c.bit-2.ensures.value ∙ odd-at lines pos 1 _ (omega arith) odd in
-    let third : c.bit-3.result ≡ z % 2 = c.bit-3.ensures.value ∙ odd-at lines pos 2 _ (omega arith) odd in
-    let fourth : c.bit-4.result ≡ w % 2 = c.bit-4.ensures.value ∙ odd-at lines pos 3 _ (omega arith) odd in
+    let first : c.bit.result ≡ x % 2 = c.bit.ensures.value ∙ odd-at along pos 0 _ (omega arith) odd in
+    let second : c.bit-2.result ≡ y % 2 = c.bit-2.ensures.value ∙ odd-at along pos 1 _ (omega arith) odd in
+    let third : c.bit-3.result ≡ z % 2 = c.bit-3.ensures.value ∙ odd-at along pos 2 _ (omega arith) odd in
+    let fourth : c.bit-4.result ≡ w % 2 = c.bit-4.ensures.value ∙ odd-at along pos 3 _ (omega arith) odd in
     let sum = c.bit.result + c.bit-2.result + c.bit-3.result + c.bit-4.result in
     let same₁ : c.bit-5.result ≡ c.bit.result = c.bit-5.ensures.value ∙ sym c.bit.ensures.value in
     let same₂ : c.bit-6.result ≡ c.bit-2.result = c.bit-6.ensures.value ∙ sym c.bit-2.ensures.value in

@@ -1,8 +1,8 @@
 -- The two bits of a corner.
-use Rattle.std.proofs.Common.{◌≡◌, ℕ, ◌+◌, ◌/◌, ◌%◌, ◌^◌, Bool, ap, ap₂, ◌∙◌}
+use Rattle.std.proofs.Common.{◌≡◌, ℕ, ◌/◌, ◌^◌, Bool, ap, ap₂, ◌∙◌}
 use Rattle.std.specs.Prelude.{◌==◌, bit_and}
 use Rattle.std.proofs.lemmas.Nat.Bits.{shr_and_one}
-use Rattle.pe_states.specs.Marks.{is_marked, is_old_at, is_new_at}
+use Rattle.pe_states.specs.Marks.{is_old_at, is_new_at}
 use Rattle.pe_states.proofs.Bits.{marked_shr}
 use Rattle.pe_states.proofs.marks.Marks.at.Goals as goal
 

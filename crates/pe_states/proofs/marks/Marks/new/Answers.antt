@@ -1,5 +1,5 @@
 -- The old marks are the lower half, the new ones the upper.
-use Rattle.std.proofs.Common.{◌≡◌, ℕ, ◌+◌, ◌*◌, ◌^◌, ◌%◌, ◌<◌, Bool, false, ◌||◌, ap, ap₂, ◌∙◌, arith}
+use Rattle.std.proofs.Common.{◌≡◌, ℕ, ◌+◌, ◌*◌, ◌^◌, ◌%◌, ◌<◌, ◌||◌, ap, ap₂, ◌∙◌, arith}
 use Rattle.std.specs.Prelude.{bit_or}
 use Rattle.pe_states.specs.Marks.{is_marked}
 use Rattle.pe_states.proofs.Bits.{marked_or, not_marked, marked_shl_low, marked_shl_high, or_none}

@@ -1,7 +1,7 @@
 -- The marks of a child, from those of its row.
-use Rattle.std.proofs.Common.{◌≡◌, ℕ, ◌-◌, ◌≤◌, ◌^◌, sym, ap, ◌∙◌, subst, arith}
+use Rattle.std.proofs.Common.{◌≡◌, ℕ, ◌-◌, ◌≤◌, ◌^◌, sym, subst, arith}
 use Rattle.std.specs.Prelude.{slice_index}
-use Rattle.pe_states.specs.Sides.{IsSpread, IsRow}
+use Rattle.pe_states.specs.Sides.{IsSpread}
 use Rattle.pe_states.proofs.AxisLaws.{child_of, old_carried, new_carried}
 use Rattle.pe_states.proofs.marks.Marks.of_row.Goals as goal
 use Rattle.pe_states.proofs.marks.Marks.of_row.Goals.{in-2, in-3, in_default}

@@ -1,0 +1,56 @@
+-- What the mapping for tests does: the corner that it erases, and the events at which it does nothing.
+use Rattle.std.proofs.Common.{◌≡◌, ℕ, ℤ, List, [], ◌∷◌, Option, None, Some, refl, sym, ap, ◌∙◌}
+use Rattle.std.specs.Option.{option_map_or}
+use Rattle.pe_base.specs.declared.event.Event.{Event}
+use Rattle.pe_base.specs.declared.event.Event.TheVariants.{TouchVertexFirstTime, EnterCell}
+use Rattle.pe_base.specs.declared.event.Sort.{Sort}
+use Rattle.pe_base.specs.declared.event.Sort.TheVariants.{Vertex, Cell}
+use Rattle.pe_base.specs.Acts.Events.{sort_of}
+use Rattle.pe_base.specs.Acts.Effects.{Seen, Outcome}
+use Rattle.pe_base.specs.Life.States.{erased_state}
+use Rattle.pe_stacks.specs.declared.record.Vertex.{Vertex as Held_vertex}
+use Rattle.pe_stacks.specs.Corners.{CornerList, vertex_at, with_vertex, vertices_of}
+use Rattle.pe_mapping.specs.Sights.{seen_vertex, seen_corners}
+use Rattle.pe_mapping.specs.Held.{Held, Told, Adds, outcome_of}
+use Rattle.pe_mapping.specs.Answers.{IsOutcome}
+use Rattle.ledger.specs.Effects.{effect_of, nothing_done, first_erased, ledger_rules}
+use Rattle.pe_mapping.proofs.Texts.{adds-nothing}
+
+-- a vertex that was asked to erase
+abbrev erased : {P : Type 0} → Held_vertex P → Held_vertex P
+erased v = record v { state = erased_state v.kind v.state }
+
+module _ {P : Type 0} (numbers : P → List ℤ) where
+  -- the corners after the first of them was asked to erase
+  pub corners-first_erased : (corners : CornerList (Held_vertex P)) (v : Held_vertex P) → vertex_at corners 0 ≡ Some v
+      → seen_corners numbers (with_vertex corners 0 (Some (erased v))) ≡ first_erased (seen_corners numbers corners)
+  corners-first_erased corners v is = first corners.places is where
+    first : (places : List (Option (Held_vertex P))) → vertex_at (record corners { places = places }) 0 ≡ Some v
+        → seen_corners numbers (with_vertex (record corners { places = places }) 0 (Some (erased v))) ≡ first_erased (seen_corners numbers (record corners { places = places }))
+    first [] is = absurd cc
+    first (None ∷ places) is = absurd cc
+    first (Some w ∷ places) is = ap (λ there. first_erased (seen_vertex numbers (option_map_or (λ x. x) there v) ∷ seen_corners numbers (record corners { places = places }))) (sym is)
+
+quiet : (held : Held ℕ) (event : Event) (traversal : ℕ) (seen : Seen) → outcome_of ledger_rules held event traversal seen ≡ nothing_done held.list seen None → IsOutcome (outcome_of ledger_rules held event traversal seen) None held held seen
+quiet held event traversal seen is = record {
+  fault = ap (λ (o : Outcome). o.fault) is;
+  seen = ap (λ (o : Outcome). o.seen) is;
+  list = ap (λ (o : Outcome). o.list) is;
+  told = rw is (adds-nothing held.told);
+}
+
+nothing_at_vertices : (held : Held ℕ) (event : Event) (traversal : ℕ) (seen : Seen) → sort_of event ≡ Vertex → (event ≡ TouchVertexFirstTime → ⊥) → outcome_of ledger_rules held event traversal seen ≡ nothing_done held.list seen None
+nothing_at_vertices held TouchVertexFirstTime traversal seen sort other = absurd (other refl)
+nothing_at_vertices held EnterCell traversal seen sort other = absurd cc
+nothing_at_vertices held _ traversal seen sort other = refl
+
+pub quiet_at_vertices : (held : Held ℕ) (event : Event) (traversal : ℕ) (seen : Seen) → sort_of event ≡ Vertex → (event ≡ TouchVertexFirstTime → ⊥) → IsOutcome (outcome_of ledger_rules held event traversal seen) None held held seen
+quiet_at_vertices held event traversal seen sort other = quiet held event traversal seen (nothing_at_vertices held event traversal seen sort other)
+
+nothing_at_cells : (held : Held ℕ) (event : Event) (traversal : ℕ) (seen : Seen) → sort_of event ≡ Cell → (event ≡ EnterCell → ⊥) → outcome_of ledger_rules held event traversal seen ≡ nothing_done held.list seen None
+nothing_at_cells held EnterCell traversal seen sort other = absurd (other refl)
+nothing_at_cells held TouchVertexFirstTime traversal seen sort other = absurd cc
+nothing_at_cells held _ traversal seen sort other = refl
+
+pub quiet_at_cells : (held : Held ℕ) (event : Event) (traversal : ℕ) (seen : Seen) → sort_of event ≡ Cell → (event ≡ EnterCell → ⊥) → IsOutcome (outcome_of ledger_rules held event traversal seen) None held held seen
+quiet_at_cells held event traversal seen sort other = quiet held event traversal seen (nothing_at_cells held event traversal seen sort other)

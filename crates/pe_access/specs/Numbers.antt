@@ -1,0 +1,36 @@
+-- The numbers of a cell's faces.
+--
+--     8 * level + stack     where the neighbour across the face comes before the cell, or after it
+--     0                     elsewhere
+--
+-- The greatest number at a corner is that of the fastest face, and of faces that are equally fast that of the greatest axis.
+use Rattle.std.specs.Prelude.{ℕ, ◌+◌, ◌*◌, ◌%◌, ◌&&◌, false, ◌==◌, nat_lt, if◌then◌else◌, List, [], ◌∷◌, Option, Some, None}
+use Rattle.pe_access.specs.declared.numbers.Numbers.{Numbers}
+use Rattle.pe_access.specs.declared.numbers.Axis.{Axis}
+use Rattle.pe_access.specs.Lines.{Relation, Earlier, Later, Line, bit_of, is_relation, face_at}
+
+-- the number of the face at a side, for neighbours of a relation
+abbrev pub face_number : Relation → ℕ → ℕ → Line → ℕ
+face_number relation axis side line =
+    let face = face_at line side in
+    if is_relation face.relation relation && nat_lt 0 face.level
+    then 8 * face.level + (2 * axis + (bit_of line.odd + side) % 2)
+    else 0
+
+abbrev pub numbers_of : ℕ → ℕ → Line → Numbers
+numbers_of axis side line = record { coming = face_number Earlier axis side line; going = face_number Later axis side line }
+
+abbrev pub axis_of : ℕ → Line → Axis
+axis_of axis line = record { odd = line.odd; near = numbers_of axis 0 line; far = numbers_of axis 1 line }
+
+-- the axes from one on
+abbrev pub axes_from : ℕ → List Line → List Axis
+axes_from axis [] = []
+axes_from axis (line ∷ lines) = axis_of axis line ∷ axes_from (axis + 1) lines
+
+abbrev pub root_axis : Axis
+root_axis = record { odd = false; near = record { coming = 0; going = 0 }; far = record { coming = 0; going = 0 } }
+
+-- the stack that a number names, if there is one
+abbrev pub stack_of : ℕ → Option ℕ
+stack_of number = if number == 0 then None else Some (number % 8)

@@ -1,0 +1,14 @@
+-- The check of names, in reading order.
+
+-- the table of names
+pub mod Table
+-- what names stand for, and why they are refused
+pub mod Resolving
+-- when a body whose names are resolved fits an event
+pub mod Fits
+-- where the code resolves names
+pub mod Scopes
+-- what the check answers
+pub mod Answers
+-- the tree with its names replaced, or the first that is refused
+pub mod Checking

@@ -1,0 +1,61 @@
+-- What names stand for at an event.
+use Rattle.std.specs.Prelude.{ℕ, ℤ, pos, List, Option, slice_get, slice_index, slice_index_or}
+use Rattle.std.specs.Option.{option_map_or}
+use Rattle.pe_base.specs.declared.state.State.{State}
+use Rattle.pe_base.specs.declared.state.State.TheVariants.{Unrefined, RefinementTriggered, Refining, Refined, EraseTriggered, Erasing}
+use Rattle.pe_base.specs.declared.kind.Kind.{Kind}
+use Rattle.pe_base.specs.declared.kind.Kind.TheVariants.{Kept, Born, Dying, Hanging}
+use Rattle.pe_base.specs.Acts.Effects.{VertexRecord, Seen}
+use Rattle.pe_check.specs.declared.checked.VertexName.{VertexName}
+use Rattle.pe_check.specs.declared.checked.VertexName.TheVariants.{Own, Corner, ParentCorner}
+use Rattle.pe_check.specs.declared.checked.Slot.{Slot}
+use Rattle.pe_check.specs.declared.checked.Slot.TheVariants as slot
+use Rattle.pe_check.specs.declared.checked.Name.{Name}
+use Rattle.pe_check.specs.declared.checked.Name.TheVariants as name
+
+-- what names are read in: the number of the traversal, the numbers of the whole grid, and what the event sees
+pub record Scene : Type 0 where
+  pub traversal : ℕ
+  pub list : List ℤ
+  pub seen : Seen
+
+abbrev pub state_number : State → ℕ
+state_number Unrefined = 0
+state_number RefinementTriggered = 1
+state_number Refining = 2
+state_number Refined = 3
+state_number EraseTriggered = 4
+state_number Erasing = 5
+
+abbrev pub kind_number : Kind → ℕ
+kind_number Kept = 0
+kind_number Born = 1
+kind_number Dying = 2
+kind_number Hanging = 3
+
+-- the vertex that a name speaks of
+abbrev pub vertex_named : VertexName → Seen → Option VertexRecord
+vertex_named Own seen = seen.vertex
+vertex_named (Corner k) seen = slice_get seen.corners k
+vertex_named (ParentCorner k) seen = slice_get seen.parents k
+
+-- what is asked of that vertex, and 0 where there is none
+abbrev pub of_vertex : (VertexRecord → ℤ) → VertexName → Seen → ℤ
+of_vertex ask vertex seen = option_map_or ask (vertex_named vertex seen) (pos 0)
+
+abbrev pub number_at : List ℤ → ℕ → ℤ
+number_at numbers field = slice_index_or numbers field (pos 0)
+
+abbrev pub slot_value : Slot → Scene → ℤ
+slot_value (slot.Global field) scene = number_at scene.list field
+slot_value (slot.Vertex vertex field) scene = of_vertex (λ it. number_at it.numbers field) vertex scene.seen
+slot_value (slot.Cell field) scene = option_map_or (λ numbers. number_at numbers field) scene.seen.cell (pos 0)
+slot_value (slot.Parent field) scene = number_at scene.seen.parent field
+
+abbrev pub name_value : Name → Scene → ℤ
+name_value name.Traversal scene = pos scene.traversal
+name_value name.Level scene = pos scene.seen.place.level
+name_value (name.Axis axis) scene = pos (slice_index scene.seen.place.pos axis)
+name_value (name.State vertex) scene = of_vertex (λ it. pos (state_number it.state)) vertex scene.seen
+name_value (name.Kind vertex) scene = of_vertex (λ it. pos (kind_number it.kind)) vertex scene.seen
+name_value (name.Slot slot) scene = slot_value slot scene

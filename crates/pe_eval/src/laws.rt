@@ -1,0 +1,7 @@
+ghost use Rattle.pe_eval.specs.Law.{AreBodiesLawful};
+
+/// What any body does to what its event sees is lawful: the place, the kinds, and how many corners and
+/// parents there are stay, and a state changes only as the two triggers change it.
+pub fn bodies_are_lawful()
+    ensures { AreBodiesLawful }
+{}

@@ -1,0 +1,108 @@
+ghost use Rattle.std.specs.Prelude.{◌≡◌, IsTrue};
+ghost use Rattle.std.specs.List.{list_all};
+ghost use Rattle.pe_base.specs.Acts.Effects.{MayLeave};
+ghost use Rattle.pe_check.specs.Fits.{fits, stmt_fits, expr_fits};
+ghost use Rattle.pe_eval.specs.Meaning.{meaning, act_of, printed};
+ghost use Rattle.pe_eval.specs.Sights.{sight, globals_of, frame, reach_of, scene, IsReady};
+ghost use Rattle.pe_eval.specs.Answers.{Answers};
+
+use crate::print::print_line;
+use crate::value::value;
+use crate::view::View;
+use pe_base::Stop;
+use pe_check::{Checked, Stmt, Values};
+use pe_io::Sink;
+
+/// Runs a body at an event: what it does to what the view lends, and what it writes, is its meaning.
+///
+/// Takes no memory, and looks no name up. After an `Err` the statements before the fault have had their
+/// effect; a sink that failed got a part of the text.
+pub fn eval<K: Sink>(body: &Checked, view: &mut View, sink: &mut K) -> Result<(), Stop>
+    requires fits { IsTrue (fits (reach_of view.old) body.now) }
+    requires ready { IsReady view.old }
+    ensures answer { Answers (meaning body.now (frame view.old).setting (sight view.old) (globals_of view.old))
+        (record { text = K.text sink.old; faults = K.faults sink.old })
+        (record { text = K.text sink.new; faults = K.faults sink.new }) view.new result }
+    ensures lawful { MayLeave (frame view.old).setting.max_level (sight view.old) (sight view.new) }
+    ensures frame { frame view.new ≡ frame view.old }
+    ensures ready { IsReady view.new }
+{
+    run(body.as_slice(), view, sink)
+}
+
+/// Runs statements in turn.
+#[cycle(run)]
+fn run<K: Sink>(body: &[Stmt], view: &mut View, sink: &mut K) -> Result<(), Stop>
+    requires fits { IsTrue (fits (reach_of view.old) body.now) }
+    requires ready { IsReady view.old }
+    ensures answer { Answers (meaning body.now (frame view.old).setting (sight view.old) (globals_of view.old))
+        (record { text = K.text sink.old; faults = K.faults sink.old })
+        (record { text = K.text sink.new; faults = K.faults sink.new }) view.new result }
+    ensures lawful { MayLeave (frame view.old).setting.max_level (sight view.old) (sight view.new) }
+    ensures frame { frame view.new ≡ frame view.old }
+    ensures ready { IsReady view.new }
+{
+    for stmt in body {
+        match step(stmt, view, sink) {
+            Ok(()) => {}
+            Err(stop) => return Err(stop),
+        }
+    }
+    Ok(())
+}
+
+/// Runs a statement.
+#[cycle(run)]
+fn step<K: Sink>(stmt: &Stmt, view: &mut View, sink: &mut K) -> Result<(), Stop>
+    requires fits { IsTrue (stmt_fits (reach_of view.old) stmt.now) }
+    requires ready { IsReady view.old }
+    ensures answer { Answers (act_of stmt.now (frame view.old).setting (sight view.old) (globals_of view.old))
+        (record { text = K.text sink.old; faults = K.faults sink.old })
+        (record { text = K.text sink.new; faults = K.faults sink.new }) view.new result }
+    ensures lawful { MayLeave (frame view.old).setting.max_level (sight view.old) (sight view.new) }
+    ensures frame { frame view.new ≡ frame view.old }
+    ensures ready { IsReady view.new }
+{
+    match stmt {
+        Stmt::Assign(slot, expr) => match value(expr, view) {
+            Ok(n) => {
+                view.set(*slot, n);
+                Ok(())
+            }
+            Err(fault) => Err(fault.stop()),
+        },
+        Stmt::Mark(trigger, vertex) => {
+            view.mark(*trigger, *vertex);
+            Ok(())
+        }
+        Stmt::Print(values) => print(values, view, sink),
+        Stmt::If(test, body) => match value(test, view) {
+            Ok(0) => Ok(()),
+            Ok(_) => run(body.as_slice(), view, sink),
+            Err(fault) => Err(fault.stop()),
+        },
+        Stmt::IfElse(test, body, other) => match value(test, view) {
+            Ok(0) => run(other.as_slice(), view, sink),
+            Ok(_) => run(body.as_slice(), view, sink),
+            Err(fault) => Err(fault.stop()),
+        },
+    }
+}
+
+/// Writes the line of a print by one call, once all its values are known.
+fn print<K: Sink>(values: &Values, view: &View, sink: &mut K) -> Result<(), Stop>
+    requires fits { IsTrue (list_all (expr_fits (reach_of view.now)) values.now) }
+    requires ready { IsReady view.now }
+    ensures { Answers (printed values.now (scene view.now))
+        (record { text = K.text sink.old; faults = K.faults sink.old })
+        (record { text = K.text sink.new; faults = K.faults sink.new }) view.now result }
+{
+    let line = match print_line(values.as_slice(), view) {
+        Ok(line) => line,
+        Err(fault) => return Err(fault.stop()),
+    };
+    match line.end(sink) {
+        Ok(()) => Ok(()),
+        Err(_) => Err(Stop::Sink),
+    }
+}

@@ -1,0 +1,18 @@
+//! The tree of a body of the event language, and how it is read from the tokens of a text.
+#![tactic(auto)]
+
+mod expr;
+mod fault;
+mod rank;
+mod read;
+mod reader;
+#[cfg(test)]
+mod rows;
+mod stmt;
+mod tree;
+mod words;
+
+pub use fault::ParseFault;
+pub use rank::Rank;
+pub use read::parse;
+pub use tree::{Body, Choice, Expr, Name, Prefix, Sign, Stmt, Trigger, Values, Word};

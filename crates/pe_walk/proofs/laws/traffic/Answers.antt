@@ -1,0 +1,15 @@
+-- The law.
+use Rattle.pe_walk.proofs.laws.traffic.Goals as goal
+use Rattle.pe_walk.proofs.Tokens.Traffic.{traffic_of_a_cell, traffic_of_a_traversal, loads_per_cell, counts_per_cell}
+
+pub returns-clause-cell : goal.returns-clause-cell
+returns-clause-cell c = traffic_of_a_cell
+
+pub returns-clause-traversal : goal.returns-clause-traversal
+returns-clause-traversal c = traffic_of_a_traversal
+
+pub returns-clause-loads : goal.returns-clause-loads
+returns-clause-loads c = loads_per_cell
+
+pub returns-clause-counts : goal.returns-clause-counts
+returns-clause-counts c = counts_per_cell

@@ -1,0 +1,4 @@
+-- The definitions of the program, in reading order.
+
+-- what the run of a job answers and writes
+pub mod Job
