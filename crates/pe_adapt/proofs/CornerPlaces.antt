@@ -5,10 +5,9 @@ use Rattle.std.proofs.Math.Nat.{pow-le-pow_right}
 use Rattle.std.proofs.lemmas.List.Elements.{All-nil, All-cons}
 use Rattle.pe_base.specs.declared.place.Place.{Place}
 use Rattle.pe_base.specs.Tree.Dim.{IsDim}
-use Rattle.pe_base.specs.Tree.Places.{IsPosition, IsCellPlace, bits, moved, corner}
+use Rattle.pe_base.specs.Tree.Places.{IsCellPlace, bits, moved, corner}
 use Rattle.pe_base.proofs.Tree.CurveLaws.{power_positive}
 use Rattle.pe_base.proofs.Tree.PlaceLaws.{IsPosition-below}
-use Rattle.pe_mapping.specs.Moments.{IsBelowRoot}
 
 same_four : (a b c d a' b' c' d' : ℕ) → a ≡ a' → b ≡ b' → c ≡ c' → d ≡ d' → a ∷ b ∷ c ∷ d ∷ [] ≡ a' ∷ b' ∷ c' ∷ d' ∷ []
 same_four a b c d a' b' c' d' e f g h = cc

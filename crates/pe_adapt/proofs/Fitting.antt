@@ -1,6 +1,6 @@
 -- The touch of a corner fits where its stack is there.
-use Rattle.std.proofs.Common.{◌≡◌, ℕ, zero, suc, ◌+◌, ◌-◌, ◌^◌, ◌<◌, ◌≤◌, Bool, true, false, ◌&&◌, List, [], ◌∷◌, length, map, Option, Some, None, refl, sym, ap, subst, ◌∙◌, arith}
-use Rattle.std.specs.Prelude.{nat_lt, slice_index_or, slice_get, IfSome, is_none}
+use Rattle.std.proofs.Common.{◌≡◌, ℕ, zero, suc, ◌^◌, ◌<◌, Bool, true, false, ◌&&◌, List, [], ◌∷◌, length, Option, Some, None, refl, sym, subst, arith}
+use Rattle.std.specs.Prelude.{nat_lt, slice_index_or, IfSome, is_none}
 use Rattle.std.proofs.lemmas.Bool.{lt-ltb}
 use Rattle.pe_base.specs.declared.place.Place.{Place}
 use Rattle.pe_base.specs.declared.event.Event.{Event}
@@ -8,14 +8,14 @@ use Rattle.pe_base.specs.declared.event.Event.TheVariants.{TouchVertexFirstTime,
 use Rattle.pe_base.specs.declared.kind.Kind.{Kind}
 use Rattle.pe_base.specs.declared.kind.Kind.TheVariants.{Kept, Born, Dying, Hanging}
 use Rattle.pe_base.specs.Acts.Effects.{VertexRecord, Seen, Outcome, Fault}
-use Rattle.pe_base.specs.Walk.Course.{Ending, done, halts, stuck, Course, at_once, and_then, course_map, from}
+use Rattle.pe_base.specs.Walk.Course.{Ending, done, halts, stuck, Course, and_then, from}
 use Rattle.pe_base.specs.Walk.Core.{Setting, Family, fire, ended_by, fresh_vertex, read_vertex, load_touch, store_of, vertex_event}
 use Rattle.pe_stacks.specs.Holdings.{Holdings, Stack, new_stack, stack_count, stack_at, items_at, len_at, popped}
 use Rattle.pe_hang.specs.InHand.{map_holdings}
 use Rattle.pe_hang.specs.Moves.{allowed, may_rise, lend, give_up, top_of, pop, push}
 use Rattle.pe_hang.specs.Follows.{Fits, is_fit}
 use Rattle.pe_hang.proofs.OnStacks.{stack_count-map, stack_at-map, len_at-map}
-use Rattle.pe_adapt.specs.Touches.{Desk, comes, load_as, goes, stack_or, store_as}
+use Rattle.pe_adapt.specs.Touches.{comes, load_as, goes, stack_or, store_as}
 use Rattle.pe_adapt.specs.Spots.{source_of}
 use Rattle.pe_adapt.proofs.Loading.{desk}
 

@@ -8,7 +8,7 @@ use Rattle.pe_base.specs.declared.place.Place.{Place}
 use Rattle.pe_base.specs.declared.place.Digits.{Digits}
 use Rattle.pe_base.specs.declared.state.State.{State}
 use Rattle.pe_base.specs.Tree.Dim.{IsDim}
-use Rattle.pe_base.specs.Tree.Places.{IsPosition, IsCellPlace, IsDigits, IsInside, bits, moved, corner, child_at, parent_of}
+use Rattle.pe_base.specs.Tree.Places.{IsCellPlace, IsDigits, IsInside, bits, moved, corner, child_at, parent_of}
 use Rattle.pe_base.specs.declared.kind.Kind.TheVariants.{Hanging}
 use Rattle.pe_base.specs.Life.States.{is_old, is_new}
 use Rattle.pe_base.specs.Life.Kinds.{is_inside, kind_from, level_one_kind}

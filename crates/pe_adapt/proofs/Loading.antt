@@ -1,12 +1,12 @@
 -- The load of a corner, by the way in which its record comes to hand.
-use Rattle.std.proofs.Common.{◌≡◌, ℕ, ℤ, ◌<◌, length, arith, true, false, List, [], ◌∷◌, Option, Some, None, Result, Ok, Err, refl, sym, ap, subst, ◌∙◌}
-use Rattle.std.specs.Prelude.{OnOk, is_none, slice_get, ◌≢◌}
+use Rattle.std.proofs.Common.{◌≡◌, ℕ, ◌<◌, length, arith, true, false, List, [], ◌∷◌, Option, Some, None, Result, Ok, Err, refl, sym, ap, subst, ◌∙◌}
+use Rattle.std.specs.Prelude.{OnOk, is_none, slice_get}
 use Rattle.pe_base.specs.declared.place.Place.{Place}
 use Rattle.pe_base.specs.declared.kind.Kind.{Kind}
 use Rattle.pe_base.specs.declared.kind.Kind.TheVariants.{Kept, Born, Dying, Hanging}
 use Rattle.pe_base.specs.declared.event.Event.TheVariants.{TouchVertexFirstTime}
 use Rattle.pe_base.specs.Acts.Effects.{VertexRecord}
-use Rattle.pe_base.specs.Walk.Course.{Course, at_once, and_then, course_map, done}
+use Rattle.pe_base.specs.Walk.Course.{Course, at_once, course_map}
 use Rattle.pe_base.specs.Walk.Core.{Setting, Family, load_touch, read_vertex, vertex_event}
 use Rattle.pe_base.specs.Walk.Working.{no_vertex}
 use Rattle.pe_stacks.specs.Holdings.{Holdings, items_at, lent, popped}

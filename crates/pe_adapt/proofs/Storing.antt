@@ -1,22 +1,21 @@
 -- The store of a corner, by the way in which its record leaves the hand.
-use Rattle.std.proofs.Common.{◌≡◌, ℕ, ◌+◌, ◌<◌, arith, Bool, true, false, List, [], ◌∷◌, Option, Some, None, Result, Ok, Err, refl, sym, ap, subst, ◌∙◌}
-use Rattle.std.specs.Prelude.{OnOk, OnErr, IfErr, is_none, Contains}
+use Rattle.std.proofs.Common.{◌≡◌, ℕ, ◌+◌, arith, Bool, true, false, Option, Some, Result, Ok, Err, refl, sym, ap, subst, ◌∙◌}
+use Rattle.std.specs.Prelude.{OnOk, OnErr, IfErr, is_none}
 use Rattle.pe_base.specs.declared.place.Place.{Place}
 use Rattle.pe_base.specs.declared.kind.Kind.{Kind}
 use Rattle.pe_base.specs.declared.kind.Kind.TheVariants.{Kept, Born, Dying, Hanging}
 use Rattle.pe_base.specs.declared.event.Event.TheVariants.{TouchVertexLastTime}
-use Rattle.pe_base.specs.Life.Table.{last_touch}
 use Rattle.pe_base.specs.Acts.Effects.{VertexRecord}
-use Rattle.pe_base.specs.Walk.Course.{Course, at_once, and_then, course_map, done, Push}
+use Rattle.pe_base.specs.Walk.Course.{Course, at_once, course_map, done, Push}
 use Rattle.pe_base.specs.Walk.Core.{Setting, Family, store_of, store_touch, written, vertex_event}
 use Rattle.pe_stacks.specs.Holdings.{Holdings, KeepsRoom, len_at, given_up, pushed}
 use Rattle.pe_mapping.specs.Held.{Told, Adds}
 use Rattle.pe_mapping.proofs.Texts.{adds-nothing, part-nothing}
 use Rattle.pe_hang.specs.InHand.{map_holdings, nothing_of}
 use Rattle.pe_hang.specs.Moves.{give_up, push, MayPush}
-use Rattle.pe_hang.specs.Follows.{Follows, Fits, Failure, Found, IsRoomier, HasOverfull, held_by, read_by, Leads}
-use Rattle.pe_hang.proofs.Leading.{and_then-fits, follows-map, follows-then, leads_start, leads_rest, leads_next, leads_err, leads_last, leads_end, roomier-same}
-use Rattle.pe_hang.proofs.Moving.{give_up-is, push-may, push-is, push_of}
+use Rattle.pe_hang.specs.Follows.{Follows, Fits, Failure, Found, IsRoomier, HasOverfull, held_by, read_by}
+use Rattle.pe_hang.proofs.Leading.{and_then-fits, follows-map, leads_start, leads_rest, leads_next, leads_err, leads_last}
+use Rattle.pe_hang.proofs.Moving.{give_up-is, push-may, push-is}
 use Rattle.pe_adapt.specs.declared.stop.WalkStop.{WalkStop}
 use Rattle.pe_adapt.specs.declared.stop.WalkStop.TheVariants.{Memory as OutOfMemory}
 use Rattle.pe_adapt.specs.Stops.{failure_of}

@@ -1,5 +1,5 @@
 -- A corner's touch by kind and route is its touch by the definitions.
-use Rattle.std.proofs.Common.{◌≡◌, ℕ, true, false, Option, Some, None, refl, sym, ap, subst, ◌∙◌}
+use Rattle.std.proofs.Common.{◌≡◌, ℕ, Option, Some, None, refl, sym, ap, ◌∙◌}
 use Rattle.std.specs.Prelude.{is_none}
 use Rattle.pe_base.specs.declared.place.Place.{Place}
 use Rattle.pe_base.specs.declared.kind.Kind.{Kind}
@@ -10,8 +10,7 @@ use Rattle.pe_base.specs.Steps.Routes.{stack_in, stack_out}
 use Rattle.pe_base.specs.Life.Carriers.{kind_by}
 use Rattle.pe_base.specs.Acts.Effects.{VertexRecord}
 use Rattle.pe_base.specs.Walk.Course.{Ending, done, halts, stuck, Course, at_once, and_then, course_map, from, behind}
-use Rattle.pe_base.specs.Walk.Core.{Setting, way, Family, store_of, vertex_event, given_up}
-use Rattle.pe_access.specs.declared.route.Route.{Route}
+use Rattle.pe_base.specs.Walk.Core.{Setting, way, store_of, vertex_event, given_up}
 use Rattle.pe_access.specs.States.{route_of}
 use Rattle.pe_adapt.specs.Spots.{stack_of}
 use Rattle.pe_adapt.specs.Touches.{Desk, state_in_hand, load_as, load_corner, goes, store_as, store_corner}

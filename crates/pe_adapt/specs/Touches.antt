@@ -5,12 +5,12 @@ use Rattle.std.specs.Option.{option_map}
 use Rattle.pe_base.specs.declared.place.Place.{Place}
 use Rattle.pe_base.specs.declared.state.State.{State}
 use Rattle.pe_base.specs.declared.kind.Kind.{Kind}
-use Rattle.pe_base.specs.declared.kind.Kind.TheVariants.{Kept, Born, Dying, Hanging}
+use Rattle.pe_base.specs.declared.kind.Kind.TheVariants.{Born, Hanging}
 use Rattle.pe_base.specs.Tree.Places.{corner, parent_of}
 use Rattle.pe_base.specs.Steps.Routes.{stack_in, stack_out}
 use Rattle.pe_base.specs.Acts.Effects.{VertexRecord}
 use Rattle.pe_base.specs.Life.Carriers.{kind_by}
-use Rattle.pe_base.specs.Walk.Course.{Course, at_once, and_then, course_map}
+use Rattle.pe_base.specs.Walk.Course.{Course, and_then, course_map}
 use Rattle.pe_base.specs.Walk.Core.{Setting, way, Family, load_touch, store_touch}
 use Rattle.pe_base.specs.Walk.Working.{no_vertex}
 use Rattle.pe_stacks.specs.Holdings.{Holdings}

@@ -1,4 +1,4 @@
-use Rattle.std.proofs.Common.{◌≡◌, refl, sym, ap, subst, ◌∙◌, arith}
+use Rattle.std.proofs.Common.{refl, sym, subst, ◌∙◌, arith}
 use Rattle.pe_base.specs.Tree.Places.{IsCellPlace, corner}
 use Rattle.pe_mapping.specs.Sights.{seen_vertex, seen_corners}
 use Rattle.pe_hang.specs.InHand.{setting_of, family_in_hand}

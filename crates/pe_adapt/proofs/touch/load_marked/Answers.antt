@@ -1,7 +1,5 @@
 use Rattle.pe_adapt.proofs.CornerPlaces.{cell_below, level_below}
-use Rattle.pe_adapt.proofs.Fitting.{load_as-fits}
-use Rattle.pe_adapt.proofs.InsideLaws.{kind-inside}
-use Rattle.std.proofs.Common.{◌≡◌, arith, refl, sym, ap, subst, ◌∙◌}
+use Rattle.std.proofs.Common.{arith, refl, sym, subst, ◌∙◌}
 use Rattle.pe_mapping.specs.Sights.{seen_vertex}
 use Rattle.pe_hang.specs.InHand.{setting_of}
 use Rattle.pe_hang.specs.Follows.{Follows, Fits, read_by, found_of, held_by}

@@ -1,6 +1,5 @@
 use Rattle.pe_adapt.proofs.CornerPlaces.{cell_below, level_below}
-use Rattle.std.proofs.Common.{◌≡◌, arith, refl, sym, ap, subst, ◌∙◌}
-use Rattle.pe_base.specs.declared.kind.Kind.TheVariants.{Hanging}
+use Rattle.std.proofs.Common.{arith, refl, sym, subst, ◌∙◌}
 use Rattle.pe_mapping.specs.Sights.{seen_vertex}
 use Rattle.pe_hang.specs.InHand.{setting_of_events}
 use Rattle.pe_hang.specs.Follows.{Follows, Fits, read_by, found_of, held_by}
