@@ -26,3 +26,5 @@ pub mod Streams
 pub mod Traffic
 -- how long a stack is at most
 pub mod Short
+-- the traffic of a stack is the crossings there
+pub mod Crossings

@@ -1,10 +1,12 @@
 -- What the walk over places moves, makes and gives up, and how much is out at most.
-use Rattle.std.specs.Prelude.{◌≡◌, ℕ, zero, suc, ◌+◌, ◌-◌, ◌*◌, ◌^◌, ◌≤◌, max, Bool, true, not, ◌&&◌, List, [], ◌∷◌, count_by, length, Option, Some, None, is_none}
+use Rattle.std.specs.Prelude.{◌≡◌, ℕ, zero, suc, ◌+◌, ◌-◌, ◌*◌, ◌%◌, ◌^◌, ◌<◌, ◌≤◌, max, Bool, true, not, ◌&&◌, ◌==◌, List, [], ◌∷◌, map, filter, sum_by, count_by, length, slice_index, if◌then◌else◌, Some, is_none}
 use Rattle.std.specs.List.{flat_map, AllByRecursion}
 use Rattle.pe_base.specs.declared.place.Place.{Place}
 use Rattle.pe_base.specs.Tree.Dim.{IsDim}
 use Rattle.pe_base.specs.Tree.Places.{root, is_same}
 use Rattle.pe_base.specs.Tree.Curve.{children}
+use Rattle.pe_base.specs.Steps.Around.{crossings}
+use Rattle.pe_base.specs.Steps.Routes.{stack_in}
 use Rattle.pe_base.specs.Steps.Faces.{Touch}
 use Rattle.pe_base.specs.Steps.Stacks.{is_stack}
 use Rattle.pe_base.specs.Walk.Streams.{walked_children, walked_cells}
@@ -131,3 +133,24 @@ BeginsCounting = (o : Outlook) (greatest : ℕ) (t : Tokens) → MayTraverse o g
 abbrev pub StacksAreShort : Type 0
 StacksAreShort = (o : Outlook) (walked : Place → Bool) (greatest : ℕ) (t : Tokens) → IsDim o.axes → Grown o walked greatest → IsApart o t → OnlyCounting o t
     → (s : ℕ) → len_at t.vertices s ≤ length (walked_cells o.axes o.way o.walks greatest root)
+
+-- the vertices that count, in the order of their first loads
+abbrev pub first_vertices : Outlook → ℕ → List Place
+first_vertices o greatest = map (λ touch. touch.vertex) (filter (λ touch. o.counts touch.vertex && is_none (stack_in o.axes o.way touch.vertex touch.cell)) (loads_of o greatest root))
+
+-- how often a vertex crosses an axis on the stack of a parity
+abbrev pub crosses_on : ℕ → ℕ → ℕ → Place → ℕ
+crosses_on axes axis parity vertex = if slice_index vertex.pos axis % 2 == parity then crossings axes vertex axis else 0
+
+-- So a stack of an axis and a parity is popped, and pushed, as often as the vertices that count cross the axis there.
+pub record CrossedOn (o : Outlook) (greatest axis parity : ℕ) : Type 0 where
+  pub pops : count_by (takes_from o (2 * axis + parity)) (loads_of o greatest root) ≡ sum_by (crosses_on o.axes axis parity) (first_vertices o greatest)
+  pub pushes : count_by (gives_to o (2 * axis + parity)) (stores_of o greatest root) ≡ sum_by (crosses_on o.axes axis parity) (first_vertices o greatest)
+
+abbrev pub TrafficIsCrossings : Type 0
+TrafficIsCrossings = (o : Outlook) (walked : Place → Bool) (greatest axis parity : ℕ) → IsDim o.axes → Grown o walked greatest → axis < o.axes → parity < 2 → CrossedOn o greatest axis parity
+
+-- Hanging vertices are loaded for all corners of the walked cells but those of the vertices that count.
+abbrev pub HangingLoads : Type 0
+HangingLoads = (o : Outlook) (walked : Place → Bool) (greatest : ℕ) → IsDim o.axes → Grown o walked greatest
+    → count_by (λ touch. not (o.counts touch.vertex)) (loads_of o greatest root) + 2 ^ o.axes * length (first_vertices o greatest) ≡ 2 ^ o.axes * length (walked_cells o.axes o.way o.walks greatest root)

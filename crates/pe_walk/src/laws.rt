@@ -14,7 +14,7 @@ ghost use Rattle.pe_walk.specs.Laws.{NeighboursAgree, FacesAreOneWay, OneFaceOnE
 ghost use Rattle.pe_walk.specs.TokenLaws.{WalkOfACell, LoadsAreDue, LoadedAround, WholeTraversal, TurningRound, TurningAround};
 ghost use Rattle.pe_walk.specs.Outlooks.{ForecastFits, StoredFits};
 ghost use Rattle.pe_walk.specs.StreamLaws.{FitsTurned, StreamsAreOne, ReadsAreStreams, NextIsFormed, WritesAreStreams};
-ghost use Rattle.pe_walk.specs.Traffic.{TrafficOfACell, TrafficOfATraversal, LoadsPerCell, CountsPerCell, FewVertices, StepsKeepCounting, BeginsCounting, StacksAreShort};
+ghost use Rattle.pe_walk.specs.Traffic.{TrafficOfACell, TrafficOfATraversal, LoadsPerCell, CountsPerCell, TrafficIsCrossings, HangingLoads, FewVertices, StepsKeepCounting, BeginsCounting, StacksAreShort};
 ghost use Rattle.pe_walk.specs.Apart.{StepsKeepApart, BeginsApart, CornersByCounting};
 
 /// The cells of the tree are the places of cells.
@@ -140,6 +140,8 @@ pub fn traffic()
     ensures traversal { TrafficOfATraversal }
     ensures loads { LoadsPerCell }
     ensures counts { CountsPerCell }
+    ensures crossings { TrafficIsCrossings }
+    ensures hanging { HangingLoads }
 {}
 
 /// Vertices that count are at most as many as the walked cells, and no stack is longer.

@@ -223,7 +223,7 @@ sum_only f (x ∷ xs) zero d h none = sum_by-cons f x xs ∙ omega (arith, all_n
 sum_only f (x ∷ xs) (suc i) d h none = sum_by-cons f x xs ∙ omega (arith, none 0 (λ e. omega (arith, e)), sum_only f xs i d (omega arith) (λ j k. none (suc j) (λ e. k (omega (arith, e)))))
 
 -- of the loads of one vertex, at most the first is for the first of the cells around it
-firsts : (o : Outlook) → o.axes ≤ 4 → (v : Place) (touches : List Touch) → Each (λ t. is_same t.vertex v ≡ true) touches → map (λ t. t.cell) touches ≡ around o.axes o.way v → length (filter (is_read o) touches) ≤ 1
+pub firsts : (o : Outlook) → o.axes ≤ 4 → (v : Place) (touches : List Touch) → Each (λ t. is_same t.vertex v ≡ true) touches → map (λ t. t.cell) touches ≡ around o.axes o.way v → length (filter (is_read o) touches) ≤ 1
 firsts o four v [] each e = omega arith
 firsts o four v (touch ∷ touches) each e =
     let around_v = around o.axes o.way v in

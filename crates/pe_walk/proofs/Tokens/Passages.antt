@@ -137,7 +137,7 @@ pub gives-turned : (o : Outlook) → o.axes ≤ 4 → (levels s : ℕ) (cell : P
 gives-turned o four levels s cell = ap₂ (λ x y. if s == output_stack o.swapped then x else y) (writes-turned o levels cell four)
     (ap (λ x. if nat_lt s (2 * o.axes) then x else []) (leaving-opposite o.axes o.way o.counts levels (face_on (s / 2) (s % 2) cell) cell))
 
-gives_by-turned : (o : Outlook) → o.axes ≤ 4 → (s : ℕ) (touch : Touch) → gives_by o s touch ≡ takes_by (turned o) s touch
+pub gives_by-turned : (o : Outlook) → o.axes ≤ 4 → (s : ℕ) (touch : Touch) → gives_by o s touch ≡ takes_by (turned o) s touch
 gives_by-turned o four s touch = ap (λ x. o.counts touch.vertex && is_stack s (first_of x (given (o.writes touch.vertex) (Some (output_stack o.swapped))))) (sym (stack-opposite o.axes o.way touch.vertex touch.cell four))
 
 pub own_gives : (o : Outlook) → o.axes ≤ 4 → (s : ℕ) (cell : Place) → IsPosition o.axes (3 ^ cell.level) cell.pos → vertices_of (gives_by o s) (reverse (corner_touches o.axes cell)) ≡ gives o 0 s cell

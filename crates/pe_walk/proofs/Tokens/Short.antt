@@ -1,5 +1,5 @@
 -- Vertices that count are at most as many as the walked cells, and so no stack is longer.
-use Rattle.std.proofs.Common.{◌≡◌, ◌≢◌, ◌⊎◌, inl, inr, ℕ, zero, suc, ◌+◌, ◌*◌, ◌^◌, ◌<◌, ◌≤◌, Bool, true, false, cond, ◌&&◌, ◌==◌, List, [], ◌∷◌, map, filter, length, get_or, Option, Some, None, refl, sym, ap, ap₂, ◌∙◌, subst, true≢false, pow-suc, arith}
+use Rattle.std.proofs.Common.{◌≡◌, ◌⊎◌, inl, inr, ℕ, zero, suc, ◌+◌, ◌*◌, ◌^◌, ◌<◌, ◌≤◌, Bool, true, false, ◌==◌, List, [], ◌∷◌, filter, length, get_or, Option, Some, None, refl, sym, ap, ◌∙◌, subst, true≢false, pow-suc, arith}
 use Rattle.std.specs.Prelude.{nat_lt, if◌then◌else◌, sum_by, count_by}
 use Rattle.std.specs.List.{AllByRecursion}
 use Rattle.std.proofs.lemmas.List.{length-map}
@@ -8,28 +8,26 @@ use Rattle.std.proofs.Math.Nat.{le_of_mul-le-mul_left, mul-suc, mul-zero}
 use Rattle.pe_base.specs.declared.place.Place.{Place}
 use Rattle.pe_base.specs.Tree.Dim.{IsDim}
 use Rattle.pe_base.specs.Tree.Places.{root, is_same}
-use Rattle.pe_base.specs.Steps.Around.{around}
-use Rattle.pe_base.specs.Steps.Faces.{Touch, touched_for}
+use Rattle.pe_base.specs.Steps.Faces.{Touch}
 use Rattle.pe_base.proofs.Lists.{Each, Each-all, Each-weaker, Each-map, Each-filter, filter_same}
 use Rattle.pe_base.proofs.Tree.Ranks.{and_left}
 use Rattle.pe_base.proofs.Steps.Counts.{is_same_itself}
 use Rattle.pe_base.proofs.Faces.Quiet.{false_unless}
 use Rattle.pe_base.proofs.Faces.Bridge.{same_places}
 use Rattle.pe_base.proofs.Steps.SlowerLaws.{length-around}
-use Rattle.pe_stacks.specs.Holdings.{Holdings, Stack, new_stack, stack_count, items_at, lent, given_up, pushed, popped}
-use Rattle.pe_walk.specs.Tokens.{Outlook, Tokens, one_more, one_less, is_top, given, taken, put, source, target, touch_of, load_it, load, store_it, store, enter, leave, cell_source, cell_target, numbers, begun}
+use Rattle.pe_stacks.specs.Holdings.{Holdings, new_stack, stack_count, items_at, lent, given_up, pushed, popped}
+use Rattle.pe_walk.specs.Tokens.{Outlook, Tokens, one_less, is_top, given, taken, put, source, target, touch_of, load_it, load, store_it, store, enter, leave, cell_source, cell_target, numbers}
 use Rattle.pe_stacks.specs.Grid.{input_stack}
 use Rattle.pe_walk.proofs.Tokens.Traversals.{lent_items}
-use Rattle.pe_walk.specs.Takings.{loads_of, is_read, reads_of, Grown, MayTraverse}
-use Rattle.pe_walk.specs.Apart.{lies, IsApart}
+use Rattle.pe_walk.specs.Takings.{loads_of, is_read, reads_of, Grown}
 use Rattle.pe_walk.specs.Traffic.{FewVertices, OnlyCounting, StepsKeepCounting, BeginsCounting, StacksAreShort}
-use Rattle.pe_walk.proofs.Tokens.Stacks.{popped_same, popped_other, pushed_same, pushed_other, is_stack_of, same_or_other}
+use Rattle.pe_walk.proofs.Tokens.Stacks.{popped_same, popped_other, pushed_same, pushed_other, same_or_other}
 use Rattle.pe_walk.proofs.Tokens.Dues.{loaded_around}
 use Rattle.pe_walk.proofs.Tokens.Keeping.{given_some, walk_keeps}
 use Rattle.pe_walk.proofs.Tokens.Apart.{map_some, one_if, there, set_past}
 use Rattle.pe_walk.proofs.Tokens.Traffic.{loads_length, count_none}
 
-sum-both : {X : Type 0} (f g : X → ℕ) (xs : List X) → sum_by (λ x. f x + g x) xs ≡ sum_by f xs + sum_by g xs
+pub sum-both : {X : Type 0} (f g : X → ℕ) (xs : List X) → sum_by (λ x. f x + g x) xs ≡ sum_by f xs + sum_by g xs
 sum-both f g [] = omega arith
 sum-both f g (x ∷ xs) = omega (arith, sum_by-cons (λ y. f y + g y) x xs, sum_by-cons f x xs, sum_by-cons g x xs, sum-both f g xs)
 
@@ -37,11 +35,11 @@ sum-zero : {X : Type 0} (xs : List X) → sum_by (λ x. 0) xs ≡ 0
 sum-zero [] = refl
 sum-zero (x ∷ xs) = sum_by-cons (λ y. 0) x xs ∙ omega (arith, sum-zero xs)
 
-sum-same : {X : Type 0} (f g : X → ℕ) (xs : List X) → Each (λ x. f x ≡ g x) xs → sum_by f xs ≡ sum_by g xs
+pub sum-same : {X : Type 0} (f g : X → ℕ) (xs : List X) → Each (λ x. f x ≡ g x) xs → sum_by f xs ≡ sum_by g xs
 sum-same f g [] e = refl
 sum-same f g (x ∷ xs) e = omega (arith, sum_by-cons f x xs, sum_by-cons g x xs, e.0, sum-same f g xs e.1)
 
-sum-times : {X : Type 0} (k : ℕ) (xs : List X) → sum_by (λ x. k) xs ≡ k * length xs
+pub sum-times : {X : Type 0} (k : ℕ) (xs : List X) → sum_by (λ x. k) xs ≡ k * length xs
 sum-times k [] = sym (mul-zero k)
 sum-times k (x ∷ xs) = sum_by-cons (λ y. k) x xs ∙ omega (arith, sum-times k xs, mul-suc k (length xs))
 
@@ -57,38 +55,35 @@ each_touch_once places once (t ∷ touches) =
       sum-same (λ p. count_by (λ u. is_same p u.vertex) (t ∷ touches)) (λ p. one_if (is_same p t.vertex) + count_by (λ u. is_same p u.vertex) touches) places (Each-all _ (λ p. sum_by-cons (λ u. one_if (is_same p u.vertex)) t touches) places),
     )
 
-turn_same : (a b : Place) → is_same a b ≡ is_same b a
+pub turn_same : (a b : Place) → is_same a b ≡ is_same b a
 turn_same a b = go (is_same a b) refl
   where
     go : (c : Bool) → is_same a b ≡ c → is_same a b ≡ is_same b a
     go true e = e ∙ sym (ap (λ z. is_same b z) (same_places a b e) ∙ is_same_itself b)
     go false e = e ∙ sym (false_unless (is_same b a) (λ t. absurd (true≢false (sym (ap (λ z. is_same z b) (sym (same_places b a t)) ∙ is_same_itself b) ∙ e))))
 
-all_of : {X : Type 0} (P : X → Type 0) (xs : List X) → AllByRecursion P xs → Each P xs
+pub all_of : {X : Type 0} (P : X → Type 0) (xs : List X) → AllByRecursion P xs → Each P xs
 all_of P [] e = tt
 all_of P (x ∷ xs) e = (e.0, all_of P xs e.1)
+
+-- a vertex that counts is loaded as often as a cell has corners
+pub touches_of : (o : Outlook) (walked : Place → Bool) (greatest : ℕ) → IsDim o.axes → Grown o walked greatest → (p : Place) → o.counts p ≡ true → 2 ^ o.axes ≡ count_by (λ t. is_same p t.vertex) (loads_of o greatest root)
+touches_of o walked greatest dim grown p c =
+    sym (length-around o.axes o.way p dim.1 (grown.is_walk.inside p c))
+    ∙ ap length (sym (loaded_around o walked greatest dim grown p c))
+    ∙ length-map (filter (λ t. is_same t.vertex p) (loads_of o greatest root)) (λ t. t.cell)
+    ∙ ap length (filter_same (λ t. is_same t.vertex p) (λ t. is_same p t.vertex) (loads_of o greatest root) (Each-all _ (λ t. turn_same t.vertex p) (loads_of o greatest root)))
+    ∙ length-filter (λ t. is_same p t.vertex) (loads_of o greatest root)
 
 pub few_vertices : FewVertices
 few_vertices o walked greatest places dim grown once counting =
     let loads = loads_of o greatest root in
-    let each : Each (λ p. 2 ^ o.axes ≡ count_by (λ t. is_same p t.vertex) loads) places = each_of places (all_of (λ p. o.counts p ≡ true) places counting) in
+    let each = Each-weaker (λ p. o.counts p ≡ true) (λ p. 2 ^ o.axes ≡ count_by (λ t. is_same p t.vertex) loads) (λ p c. touches_of o walked greatest dim grown p c) places (all_of (λ p. o.counts p ≡ true) places counting) in
     le_of_mul-le-mul_left {k = 2 ^ o.axes} (omega (arith, sym (sum-times (2 ^ o.axes) places) ∙ sum-same (λ p. 2 ^ o.axes) (λ p. count_by (λ t. is_same p t.vertex) loads) places each, each_touch_once places once loads, loads_length o greatest root)) (pow_two o.axes)
   where
     pow_two : (n : ℕ) → 0 < 2 ^ n
     pow_two zero = omega arith
     pow_two (suc n) = omega (arith, pow-suc 2 n, pow_two n)
-
-    touches : (p : Place) → o.counts p ≡ true → 2 ^ o.axes ≡ count_by (λ t. is_same p t.vertex) (loads_of o greatest root)
-    touches p c =
-        sym (length-around o.axes o.way p dim.1 (grown.is_walk.inside p c))
-        ∙ ap length (sym (loaded_around o walked greatest dim grown p c))
-        ∙ length-map (filter (λ t. is_same t.vertex p) (loads_of o greatest root)) (λ t. t.cell)
-        ∙ ap length (filter_same (λ t. is_same t.vertex p) (λ t. is_same p t.vertex) (loads_of o greatest root) (Each-all _ (λ t. turn_same t.vertex p) (loads_of o greatest root)))
-        ∙ length-filter (λ t. is_same p t.vertex) (loads_of o greatest root)
-
-    each_of : (ps : List Place) → Each (λ p. o.counts p ≡ true) ps → Each (λ p. 2 ^ o.axes ≡ count_by (λ t. is_same p t.vertex) (loads_of o greatest root)) ps
-    each_of [] e = tt
-    each_of (p ∷ ps) e = (touches p e.0, each_of ps e.1)
 
 -- all places of each stack count
 module _ (o : Outlook) where

@@ -1,7 +1,6 @@
 -- What the walk over places moves, makes and gives up.
-use Rattle.std.proofs.Common.{◌≡◌, ◌≢◌, ◌⊎◌, inl, inr, ℕ, zero, suc, ◌+◌, ◌-◌, ◌*◌, ◌^◌, ◌<◌, ◌≤◌, Bool, true, false, not, cond, ◌&&◌, ◌==◌, List, [], ◌∷◌, ◌++◌, map, reverse, length, set, get_or, Option, Some, None, refl, sym, ap, ap₂, ◌∙◌, subst, append-nil, append_assoc, pow-suc, length-append, arith}
+use Rattle.std.proofs.Common.{◌≡◌, ◌⊎◌, inl, inr, ℕ, zero, suc, ◌+◌, ◌-◌, ◌*◌, ◌^◌, ◌<◌, ◌≤◌, Bool, true, false, not, cond, ◌&&◌, ◌==◌, List, [], ◌∷◌, ◌++◌, map, reverse, length, get_or, Option, Some, None, refl, sym, ap, ap₂, ◌∙◌, subst, append-nil, pow-suc, length-append, arith}
 use Rattle.std.specs.Prelude.{max, nat_lt, is_none, if◌then◌else◌, count_by}
-use Rattle.std.specs.Option.{option_map, option_and_then}
 use Rattle.std.specs.List.{flat_map, range_with_len}
 use Rattle.std.proofs.lemmas.List.{get_or-set_same, get_or-set_other, length-reverse, length-map, reverse-reverse}
 use Rattle.pe_base.specs.Tree.Places.{root, corner}
@@ -14,12 +13,12 @@ use Rattle.pe_base.specs.Tree.Dim.{IsDim}
 use Rattle.pe_base.specs.Tree.Curve.{children}
 use Rattle.pe_base.specs.Steps.Faces.{Touch, corner_touches}
 use Rattle.pe_base.specs.Steps.Stacks.{is_stack}
-use Rattle.pe_base.specs.Walk.Streams.{if_walks, walked_children, walked_loads, walked_stores, walked_cells}
+use Rattle.pe_base.specs.Walk.Streams.{if_walks, walked_children, walked_cells}
 use Rattle.pe_base.proofs.Lists.{Each, Each-weaker, Each-reverse}
 use Rattle.pe_base.proofs.Steps.Counts.{same_itself, eq_false}
 use Rattle.pe_stacks.specs.Holdings.{Holdings, Stack, new_stack, stack_count, stack_at, items_at, lent, given_up, pushed, popped, pushed_on, popped_from}
 use Rattle.pe_walk.specs.Laws.{IsCell}
-use Rattle.pe_walk.specs.Tokens.{Outlook, Tokens, is_top, given, each_some, taken, put, source, target, cell_source, cell_target, one_less, touch_of, load_it, load, store_it, store, enter, leave, lent_for, given_up_for, numbers, begun, ended, around_below, walk, traverse}
+use Rattle.pe_walk.specs.Tokens.{Outlook, Tokens, is_top, given, each_some, taken, put, source, target, cell_source, cell_target, one_less, touch_of, load_it, load, store_it, store, enter, lent_for, given_up_for, numbers, begun, ended, around_below, walk, traverse}
 use Rattle.pe_walk.specs.Takings.{loads_of, stores_of, left_cells, Grown}
 use Rattle.pe_walk.proofs.Trees.{root_is_cell}
 use Rattle.pe_walk.proofs.Tokens.Dues.{root_walks}
@@ -150,7 +149,7 @@ module _ (o : Outlook) where
   counted_none true (Some s) = refl
   counted_none false from = refl
 
-  count-one : {X : Type 0} (p : X → Bool) (x : X) (a b : ℕ) (c : Bool) → c ≡ p x → b ≡ a + one_if c → b ≡ a + count_by p (x ∷ [])
+  pub count-one : {X : Type 0} (p : X → Bool) (x : X) (a b : ℕ) (c : Bool) → c ≡ p x → b ≡ a + one_if c → b ≡ a + count_by p (x ∷ [])
   count-one p x a b c k e = omega (arith, e, ap one_if k, sum_by-cons (λ y. cond (p y) 1 0) x [])
 
   load_took : (cell : Place) (k : ℕ) (t after : Tokens) → load o cell k t ≡ Some after → Took (loaded_from (touch_of o cell k)) t.vertices after.vertices × (after.cells ≡ t.cells)
@@ -551,7 +550,7 @@ pub count_none : {X : Type 0} (p : X → Bool) (xs : List X) → Each (λ x. p x
 count_none p [] e = refl
 count_none p (x ∷ xs) e = sum_by-cons (λ y. cond (p y) 1 0) x xs ∙ omega (arith, ap one_if e.0, count_none p xs e.1)
 
-count_all : {X : Type 0} (p : X → Bool) (xs : List X) → Each (λ x. p x ≡ true) xs → count_by p xs ≡ length xs
+pub count_all : {X : Type 0} (p : X → Bool) (xs : List X) → Each (λ x. p x ≡ true) xs → count_by p xs ≡ length xs
 count_all p [] e = refl
 count_all p (x ∷ xs) e = sum_by-cons (λ y. cond (p y) 1 0) x xs ∙ omega (arith, ap one_if e.0, count_all p xs e.1)
 

@@ -1,6 +1,7 @@
 -- The law.
 use Rattle.pe_walk.proofs.laws.traffic.Goals as goal
 use Rattle.pe_walk.proofs.Tokens.Traffic.{traffic_of_a_cell, traffic_of_a_traversal, loads_per_cell, counts_per_cell}
+use Rattle.pe_walk.proofs.Tokens.Crossings.{traffic_is_crossings, hanging_loads}
 
 pub returns-clause-cell : goal.returns-clause-cell
 returns-clause-cell c = traffic_of_a_cell
@@ -13,3 +14,9 @@ returns-clause-loads c = loads_per_cell
 
 pub returns-clause-counts : goal.returns-clause-counts
 returns-clause-counts c = counts_per_cell
+
+pub returns-clause-crossings : goal.returns-clause-crossings
+returns-clause-crossings c = traffic_is_crossings
+
+pub returns-clause-hanging : goal.returns-clause-hanging
+returns-clause-hanging c = hanging_loads
