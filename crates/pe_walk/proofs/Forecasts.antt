@@ -27,6 +27,7 @@ use Rattle.pe_base.proofs.Walk.TableLaws.{first_touch_keeps_old}
 use Rattle.pe_walk.specs.Takings.{Grown}
 use Rattle.pe_walk.specs.Outlooks.{outlook, stored_outlook, stored_walked, IsNew, ForecastFits, StoredFits}
 use Rattle.pe_walk.proofs.Outlooks.{Carried, inside_place, carried_walk, carried_below, carried_counts, carried_within}
+use Rattle.pe_walk.proofs.Tests.{or_either, or_right_true}
 
 -- what is known of a grid between two traversals, or before the first
 pub record Sound (grid : Grid) : Type 0 where
@@ -181,14 +182,6 @@ module _ (start_level : ℕ) (grid : Grid) (low : start_level ≤ grid.greatest)
   or_left_true true b h = refl
   or_left_true false b h = absurd (true≢false (sym h))
 
-  or_right_true : (a b : Bool) → b ≡ true → (a || b) ≡ true
-  or_right_true true b h = refl
-  or_right_true false b h = h
-
-  either_or : (a b : Bool) → (a || b) ≡ true → (a ≡ true) ⊎ (b ≡ true)
-  either_or true b h = inl refl
-  either_or false b h = inr h
-
   carried : (vertex : Place) → counts start_level grid vertex ≡ true → (vertex.level ≡ 1) ⊎ ((2 ≤ vertex.level) × (list_any active (carriers vertex) ≡ true))
   carried vertex t = elim (two_or_deeper grid.axes vertex sound.dim (counts_inside vertex t)) [
     | inl h ↦ inl h
@@ -196,7 +189,7 @@ module _ (start_level : ℕ) (grid : Grid) (low : start_level ≤ grid.greatest)
   ]
     where
       by_old : 2 ≤ vertex.level → was start_level grid vertex ≡ true → list_any active (carriers vertex) ≡ true
-      by_old deep h = elim (either_or (vertex.level == 1) (list_any (λ m. passes is_old (state_in grid m)) (carriers vertex)) (and_right (is_inside grid.axes vertex) _ (sound.stored vertex h))) [
+      by_old deep h = elim (or_either (vertex.level == 1) (list_any (λ m. passes is_old (state_in grid m)) (carriers vertex)) (and_right (is_inside grid.axes vertex) _ (sound.stored vertex h))) [
         | inl e ↦ absurd (let one : vertex.level ≡ 1 = true_eq vertex.level 1 e in omega arith)
         | inr e ↦ any_weaker (λ m. passes is_old (state_in grid m)) active (λ m. Unit {0}) (λ m u p. or_left_true (old_foreseen start_level grid m) _ (old_stored m ∙ p)) (carriers vertex) (Each-all _ (λ m. tt) (carriers vertex)) e
       ]
@@ -280,15 +273,11 @@ module _ (grid : Grid) (is : IsWellFormed grid) where
   stored_carrier : (vertex : Place) → here vertex ≡ true → (vertex.level ≡ 1) ⊎ ((2 ≤ vertex.level) × (list_any refined (carriers vertex) ≡ true))
   stored_carrier vertex t = elim (two_or_deeper grid.axes vertex is.axes (and_left (is_inside grid.axes vertex) _ (sym (is.vertices vertex) ∙ t))) [
     | inl h ↦ inl h
-    | inr h ↦ elim (either (vertex.level == 1) (list_any refined (carriers vertex)) (and_right (is_inside grid.axes vertex) _ (sym (is.vertices vertex) ∙ t))) [
+    | inr h ↦ elim (or_either (vertex.level == 1) (list_any refined (carriers vertex)) (and_right (is_inside grid.axes vertex) _ (sym (is.vertices vertex) ∙ t))) [
       | inl e ↦ inl (true_eq vertex.level 1 e)
       | inr e ↦ inr (h, e)
     ]
   ]
-    where
-      either : (a b : Bool) → (a || b) ≡ true → (a ≡ true) ⊎ (b ≡ true)
-      either true b h = inl refl
-      either false b h = inr h
 
   stored_carried : Carried grid.axes grid.greatest here refined (goes_below grid) (stored_walked grid)
   stored_carried = record {

@@ -1,5 +1,7 @@
 -- The laws of the walk, from the lemmas of `pe_base`, in reading order.
 
+-- tests, lists and powers
+pub mod Tests
 -- # The laws
 -- cells that are not walked
 pub mod Unwalked

@@ -1,7 +1,7 @@
 -- The outlooks of grids fit walks.
-use Rattle.std.proofs.Common.{◌≡◌, ◌⊎◌, inl, inr, ℕ, zero, suc, ◌+◌, ◌-◌, ◌^◌, ◌<◌, ◌≤◌, Bool, true, false, ◌&&◌, ◌||◌, ◌==◌, List, [], ◌∷◌, map, reverse, length, take, drop, slice_index, refl, sym, ap, ap₂, ◌∙◌, subst, arith}
+use Rattle.std.proofs.Common.{◌≡◌, ◌⊎◌, inl, inr, ℕ, zero, suc, ◌+◌, ◌-◌, ◌^◌, ◌<◌, ◌≤◌, Bool, true, ◌&&◌, ◌||◌, ◌==◌, List, [], ◌∷◌, map, reverse, length, take, drop, slice_index, refl, sym, ap, ap₂, ◌∙◌, subst, arith}
 use Rattle.std.specs.Prelude.{nat_lt}
-use Rattle.std.specs.List.{list_any, list_all, range_with_len, All, AllByRecursion, Contains}
+use Rattle.std.specs.List.{list_any, list_all, range_with_len, All, Contains}
 use Rattle.std.proofs.lemmas.Bool.Decides.{nat_tests}
 use Rattle.std.proofs.lemmas.List.{reverse-reverse}
 use Rattle.pe_base.specs.declared.place.Place.{Place}
@@ -27,17 +27,14 @@ use Rattle.pe_walk.proofs.Unwalked.{contains_in, in_contains, cell_four}
 use Rattle.pe_walk.proofs.Trees.{cell_position, root_is_cell}
 use Rattle.pe_walk.proofs.Steps.{corner_bits, order_on_grid}
 use Rattle.pe_walk.proofs.Tokens.Walks.{each_with}
+use Rattle.pe_walk.proofs.Tests.{or_either, or_right_true, all_of}
 
 any_in : {X : Type 0} (p : X → Bool) (x : X) (xs : List X) → In x xs → p x ≡ true → list_any p xs ≡ true
 any_in p x [] i t = absurd (omega arith)
 any_in p x (y ∷ xs) i t = elim i [
   | inl e ↦ ap (λ b. b || list_any p xs) (sym (ap p e) ∙ t)
-  | inr j ↦ ap (λ b. p y || b) (any_in p x xs j t) ∙ or_true (p y)
+  | inr j ↦ ap (λ b. p y || b) (any_in p x xs j t) ∙ or_right_true (p y) true refl
 ]
-  where
-    or_true : (b : Bool) → (b || true) ≡ true
-    or_true true = refl
-    or_true false = refl
 
 pub each_all : {X : Type 0} (P : X → Type 0) (xs : List X) → Each P xs → All P xs
 each_all P [] e k d h = absurd (omega arith)
@@ -47,10 +44,6 @@ each_all P (x ∷ xs) e (suc k) d h = each_all P xs e.1 k d (omega arith)
 pub un_map : {X Y : Type 0} (P : Y → Type 0) (f : X → Y) (xs : List X) → Each P (map f xs) → Each (λ x. P (f x)) xs
 un_map P f [] e = tt
 un_map P f (x ∷ xs) e = (e.0, un_map P f xs e.1)
-
-each_of : {X : Type 0} (P : X → Type 0) (xs : List X) → AllByRecursion P xs → Each P xs
-each_of P [] e = tt
-each_of P (x ∷ xs) e = (e.0, each_of P xs e.1)
 
 pub in_range : (k a n : ℕ) → a ≤ k → k < a + n → In k (range_with_len a n)
 in_range k a zero l h = absurd (omega arith)
@@ -85,7 +78,7 @@ carriers_above axes way vertex dim on = Each-weaker _ _ (λ c i. found c i.0 i.1
         let bs = corner_bits axes c.pos vertex.pos (omega (arith, i.1.1)) (on.1 ∙ sym i.1.1) (on.2 ∙ sym i.1.2) (and_right (vertex.level == c.level) _ t) in
         let k = number_of bs.0 in
         let same : corner axes c k ≡ vertex = ap₂ (λ n p. let v : Place = record { level = n; pos = p } in v) i.1.0 (ap (moved c.pos) (bits-number_of axes bs.0 bs.2) ∙ bs.3) in
-        subst (λ v. Each (IsCornerOf axes (parent_of c)) (carriers v)) same (each_of (IsCornerOf axes (parent_of c)) (carriers (corner axes c k)) (carriers_are_parents axes c k dim (number_of-below axes bs.0 bs.2) is))
+        subst (λ v. Each (IsCornerOf axes (parent_of c)) (carriers v)) same (all_of (IsCornerOf axes (parent_of c)) (carriers (corner axes c k)) (carriers_are_parents axes c k dim (number_of-below axes bs.0 bs.2) is))
 
 -- What makes a walk: below level 1 what counts has a carrier that is active, and below a cell it goes on where a corner is.
 pub record Carried (axes greatest : ℕ) (counts active walks walked : Place → Bool) : Type 0 where
@@ -98,14 +91,6 @@ pub record Carried (axes greatest : ℕ) (counts active walks walked : Place →
   pub active_within : (vertex : Place) → active vertex ≡ true → vertex.level < greatest
   pub walks_by : (cell : Place) → walks cell ≡ (cell.level == 0 || list_any active (corners axes cell))
   pub walked_by : (cell : Place) → walked cell ≡ (cell.level == 0 || walks (parent_of cell))
-
-or_either : (a b : Bool) → (a || b) ≡ true → (a ≡ true) ⊎ (b ≡ true)
-or_either true b h = inl refl
-or_either false b h = inr h
-
-or_right_true : (a b : Bool) → b ≡ true → (a || b) ≡ true
-or_right_true true b h = refl
-or_right_true false b h = h
 
 all_front : (p : ℕ → Bool) (n : ℕ) (pos : List ℕ) (i : ℕ) → list_all p (take n pos) ≡ true → i < n → i < length pos → p (slice_index pos i) ≡ true
 all_front p zero pos i h l m = absurd (omega arith)

@@ -33,15 +33,12 @@ use Rattle.pe_walk.proofs.Trees.{cell_position}
 use Rattle.pe_walk.proofs.Forecasts.{Sound, formed, fresh, old_stored, forecast_grown, stored_grown, carrier_levels, two_or_deeper}
 use Rattle.pe_walk.proofs.Tokens.Turning.{writes-turned, cell_writes-turned}
 use Rattle.pe_walk.proofs.Tokens.Streams.{fits_turned, streams_are_one}
+use Rattle.pe_walk.proofs.Tests.{or_right_true, and_twice}
 
 -- the streams of a grid are what a walk with no events reads
 stream_reads : (grid : Grid) (swapped : Bool) → reads_of (stored_outlook grid swapped) grid.greatest root ≡ stream_vertices grid
 stream_reads grid swapped = ap (map (λ t. t.vertex)) (filter_same (is_read (stored_outlook grid swapped)) _ (walked_loads grid.axes (next_way grid) (goes_below grid) grid.greatest root)
-    (Each-all _ (λ t. twice (is_some (at grid.vertices t.vertex)) (is_none (stack_in grid.axes (next_way grid) t.vertex t.cell))) (walked_loads grid.axes (next_way grid) (goes_below grid) grid.greatest root)))
-  where
-    twice : (a b : Bool) → (a && (a && b)) ≡ (a && b)
-    twice true b = refl
-    twice false b = refl
+    (Each-all _ (λ t. and_twice (is_some (at grid.vertices t.vertex)) (is_none (stack_in grid.axes (next_way grid) t.vertex t.cell))) (walked_loads grid.axes (next_way grid) (goes_below grid) grid.greatest root)))
 
 -- the test of a cell, at a cell of the tree
 cell_test : (axes : ℕ) (cell : Place) → IsPosition axes (3 ^ cell.level) cell.pos → is_cell axes cell ≡ not (cell.level == 0)
@@ -132,10 +129,6 @@ first_dying Refining = refl
 first_dying Refined = refl
 first_dying EraseTriggered = refl
 first_dying Erasing = refl
-
-or_right_true : (a b : Bool) → b ≡ true → (a || b) ≡ true
-or_right_true true b h = refl
-or_right_true false b h = h
 
 -- a stored cell is walked by the walk with no events
 stored_is_walked : (grid : Grid) → IsWellFormed grid → (cell : Place) → is_some (at grid.cells cell) ≡ true → stored_walked grid cell ≡ true

@@ -1,15 +1,22 @@
 //! The laws on which the walk over stacks rests. Each function has a law for its contract, and no body: the law holds
-//! of the definitions alone.
+//! of the definitions alone. They hold in two to four axes, both ways, at every depth.
 //!
-//! The walk of a cell will cite them so. It loads the cell's corners, walks each child, and stores the corners. On each
+//! First the lists of faces. The walk of a cell loads the cell's corners, walks each child, and stores the corners. On each
 //! stack `composition` says that the list that a load or a child wants is on top, and what the stack holds afterwards;
 //! `neighbours_agree` is why, and says besides what one cell finds of another. `beneath_untouched` carries the values of
 //! all that waits beneath over each part of the walk, since no part touches what waits beneath its own lists.
 //! `steps` says that a load finds its vertex among the corners of just one face, or is its first, and likewise a store;
 //! `corners_on_stacks` names the stack by which each corner comes and goes, and is the bridge from the routes of corners
-//! to the lists of faces. `counts` turns loads and stores into pops and pushes, vertex by vertex. On an adaptive grid the same lists hold:
-//! `unwalked_is_empty` leaves out the cells that are not walked, and `leaf_is_corners` is the walk of a cell that has
-//! no walked children.
+//! to the lists of faces. `counts` turns loads and stores into pops and pushes, vertex by vertex. On an adaptive grid the
+//! same lists hold: `unwalked_is_empty` leaves out the cells that are not walked, and `leaf_is_corners` is the walk of a
+//! cell that has no walked children.
+//!
+//! Then the walk over places on stacks, with no record and no event. `walk_of_a_cell` and `whole_traversal` say that it
+//! runs, each place on top when it is wanted, and what it leaves; `loads_are_due` that each load comes after those of the
+//! cells around its vertex that come before. They ask that an outlook fits a walk: `grids_fit` says that what is foreseen
+//! of a traversal does, and what is stored. `places_stand_apart` and `first_and_last` are what the values of vertices need.
+//! `turning_round`, `streams_are_one` and `streams_of_grids` make what is written what is read next. `traffic` and
+//! `stacks_are_short` are the counts.
 ghost use Rattle.pe_walk.specs.Laws.{NeighboursAgree, FacesAreOneWay, OneFaceOnEach, Composition, BeneathUntouched, StoresAsLoads, Counts, UnwalkedIsEmpty, LeafIsCorners, CellsOfTheTree, StepsCrossFaces, StepsAreCorners, CornersAreSteps, TurnsJoin, StandTogether, CornersCrossOnce, CornersOnStacks};
 ghost use Rattle.pe_walk.specs.TokenLaws.{WalkOfACell, LoadsAreDue, LoadedAround, WholeTraversal, TurningRound, TurningAround};
 ghost use Rattle.pe_walk.specs.Outlooks.{ForecastFits, StoredFits};

@@ -28,6 +28,7 @@ use Rattle.pe_walk.proofs.Tokens.Dues.{loaded_around}
 use Rattle.pe_walk.proofs.Tokens.Keeping.{given_some, walk_keeps}
 use Rattle.pe_walk.proofs.Tokens.Counting.{first_around, corners_by_counting}
 use Rattle.pe_walk.proofs.Tokens.Traversals.{lent_items, lent_stacks}
+use Rattle.pe_walk.proofs.Tests.{and_turned}
 
 abbrev pub one_if : Bool → ℕ
 one_if b = cond b 1 0
@@ -296,13 +297,7 @@ begins_apart o walked greatest t dim grown may free = record {
         sym (length-filter (λ p. is_same p q) (reads_of o greatest root))
         ∙ ap length (filter-map (λ p. is_same p q) (λ t. t.vertex) (filter (is_read o) all))
         ∙ length-map (filter here (filter (is_read o) all)) (λ t. t.vertex)
-        ∙ ap length (sym (filter-filter here (is_read o) all) ∙ filter_same _ (λ t. here t && is_read o t) all (Each-all _ (λ t. swap (is_read o t) (here t)) all) ∙ filter-filter (is_read o) here all)
-      where
-        swap : (a b : Bool) → (a && b) ≡ (b && a)
-        swap true true = refl
-        swap true false = refl
-        swap false true = refl
-        swap false false = refl
+        ∙ ap length (sym (filter-filter here (is_read o) all) ∙ filter_same _ (λ t. here t && is_read o t) all (Each-all _ (λ t. and_turned (is_read o t) (here t)) all) ∙ filter-filter (is_read o) here all)
 
     kept : (q : Place) → Each (λ t. is_same t.vertex q ≡ true) (filter (λ t. is_same t.vertex q) (loads_of o greatest root))
     kept q = Each-weaker _ (λ t. is_same t.vertex q ≡ true) (λ t h. h.1) _ (Each-filter (λ t. Unit {0}) (λ t. is_same t.vertex q) (loads_of o greatest root) (Each-all _ (λ t. tt) (loads_of o greatest root)))

@@ -1,5 +1,5 @@
 -- The traffic of the stacks of the axes is the crossings of the vertices that count.
-use Rattle.std.proofs.Common.{◌≡◌, ◌≢◌, inl, inr, ℕ, zero, suc, ◌+◌, ◌*◌, ◌%◌, ◌^◌, ◌<◌, ◌≤◌, Bool, true, false, not, cond, ◌&&◌, ◌==◌, List, [], ◌∷◌, map, filter, reverse, length, slice_index, Option, Some, None, refl, sym, ap, ap₂, ◌∙◌, subst, true≢false, pow-suc, arith}
+use Rattle.std.proofs.Common.{◌≡◌, ◌≢◌, inl, inr, ℕ, ◌+◌, ◌*◌, ◌%◌, ◌^◌, ◌<◌, ◌≤◌, Bool, true, false, not, cond, ◌&&◌, ◌==◌, List, [], ◌∷◌, map, filter, reverse, length, slice_index, Option, Some, None, refl, sym, ap, ap₂, ◌∙◌, subst, true≢false, arith}
 use Rattle.std.specs.Prelude.{is_none, if◌then◌else◌, sum_by, count_by}
 use Rattle.std.specs.Option.{option_map}
 use Rattle.std.specs.List.{flat_map}
@@ -31,6 +31,7 @@ use Rattle.pe_walk.proofs.Tokens.Apart.{one_if, firsts}
 use Rattle.pe_walk.proofs.Tokens.Streams.{fits_turned}
 use Rattle.pe_walk.proofs.Tokens.Traffic.{count_none, loads_length}
 use Rattle.pe_walk.proofs.Tokens.Short.{sum-both, sum-same, sum-times, turn_same, touches_of}
+use Rattle.pe_walk.proofs.Tests.{and_turned, and_twice, some_power}
 
 -- counts over lists
 count-flat_map : {X Y : Type 0} (p : Y → Bool) (f : X → List Y) (xs : List X) → count_by p (flat_map f xs) ≡ sum_by (λ x. count_by p (f x)) xs
@@ -168,28 +169,14 @@ module _ (o : Outlook) (walked : Place → Bool) (greatest : ℕ) (dim : IsDim o
       let around_q = loaded_around o walked greatest dim grown q c in
       count-map (λ v. is_same v q) (λ t. t.vertex) (filter is_first_load all)
       ∙ sym (length-filter here (filter is_first_load all))
-      ∙ ap length (sym (filter-filter here is_first_load all) ∙ filter_same _ (λ t. here t && is_first_load t) all (Each-all _ (λ t. swap (is_first_load t) (here t)) all) ∙ filter-filter is_first_load here all)
+      ∙ ap length (sym (filter-filter here is_first_load all) ∙ filter_same _ (λ t. here t && is_first_load t) all (Each-all _ (λ t. and_turned (is_first_load t) (here t)) all) ∙ filter-filter is_first_load here all)
       ∙ just_one us (Each-weaker _ (λ t. is_same t.vertex q ≡ true) (λ t h. h.1) us (Each-filter (λ t. Unit {0}) here all (Each-all _ (λ t. tt) all))) around_q
     where
       all_read : Outlook
       all_read = record o { reads = o.counts }
 
-      swap : (a b : Bool) → (a && b) ≡ (b && a)
-      swap true true = refl
-      swap true false = refl
-      swap false true = refl
-      swap false false = refl
-
-      twice : (a b : Bool) → (a && (a && b)) ≡ (a && b)
-      twice true b = refl
-      twice false b = refl
-
-      pow_two : (n : ℕ) → 1 ≤ 2 ^ n
-      pow_two zero = omega arith
-      pow_two (suc n) = omega (arith, pow-suc 2 n, pow_two n)
-
       just_one : (us : List Touch) → Each (λ t. is_same t.vertex q ≡ true) us → map (λ t. t.cell) us ≡ around o.axes o.way q → length (filter (λ t. o.counts t.vertex && is_none (stack_in o.axes o.way t.vertex t.cell)) us) ≡ 1
-      just_one [] each e = absurd (omega (arith, ap length e, length-around o.axes o.way q dim.1 (grown.is_walk.inside q c), pow_two o.axes))
+      just_one [] each e = absurd (omega (arith, ap length e, length-around o.axes o.way q dim.1 (grown.is_walk.inside q c), some_power o.axes))
       just_one (u ∷ us) each e =
           let same : u.vertex ≡ q = same_places u.vertex q each.0 in
           let head : (before (around o.axes o.way q) u.cell == 0) ≡ true = ap (λ cs. before cs u.cell == 0) (sym e) ∙ ap (λ b. (if b then 0 else before (map (λ t. t.cell) us) u.cell + 1) == 0) (is_same_itself u.cell) in
@@ -197,7 +184,7 @@ module _ (o : Outlook) (walked : Place → Bool) (greatest : ℕ) (dim : IsDim o
           ap₂ (λ x y. x && y) (ap o.counts same ∙ c) (ap (λ p. is_none (stack_in o.axes o.way p u.cell)) same ∙ first_around o.axes o.way q u.cell dim.1 (subst (In u.cell) e (inl refl)) ∙ head) in
           let most : length (filter (is_read all_read) (u ∷ us)) ≤ 1 = firsts all_read dim.1 q (u ∷ us) each e in
           let less : length (filter (λ t. o.counts t.vertex && is_none (stack_in o.axes o.way t.vertex t.cell)) (u ∷ us)) ≤ 1 =
-          subst (λ n. n ≤ 1) (ap length (filter_same (is_read all_read) _ (u ∷ us) (Each-all _ (λ t. twice (o.counts t.vertex) _) (u ∷ us)))) most in
+          subst (λ n. n ≤ 1) (ap length (filter_same (is_read all_read) _ (u ∷ us) (Each-all _ (λ t. and_twice (o.counts t.vertex) _) (u ∷ us)))) most in
           let more : filter (λ t. o.counts t.vertex && is_none (stack_in o.axes o.way t.vertex t.cell)) (u ∷ us) ≡ u ∷ filter (λ t. o.counts t.vertex && is_none (stack_in o.axes o.way t.vertex t.cell)) us =
           ap (λ b. cond b (u ∷ filter (λ t. o.counts t.vertex && is_none (stack_in o.axes o.way t.vertex t.cell)) us) (filter (λ t. o.counts t.vertex && is_none (stack_in o.axes o.way t.vertex t.cell)) us)) passes in
           omega (arith, less, ap length more)

@@ -16,6 +16,7 @@ use Rattle.pe_base.proofs.Tree.CurveLaws.{length-children}
 use Rattle.pe_base.proofs.Tree.Ranks.{Rising, rank, rank_of, top, around_rises, is_same-true}
 use Rattle.pe_base.proofs.Steps.Counts.{is_same_itself, loaded_for_around}
 use Rattle.pe_base.proofs.Faces.Quiet.{false_unless}
+use Rattle.pe_base.proofs.Faces.Bridge.{same_places}
 use Rattle.pe_walk.specs.Laws.{IsCell}
 use Rattle.pe_walk.specs.Tokens.{Outlook, before, one_more}
 use Rattle.pe_walk.specs.Takings.{loads_of, met_more, Due, Grown}
@@ -23,9 +24,7 @@ use Rattle.pe_walk.proofs.Unwalked.{in_contains, all_each}
 use Rattle.pe_walk.proofs.Trees.{root_is_cell, child_is_cell}
 use Rattle.pe_walk.proofs.Steps.{inside_on_grid}
 use Rattle.pe_walk.proofs.Tokens.Walks.{each_with}
-
-same_places : (a b : Place) → is_same a b ≡ true → a ≡ b
-same_places a b e = let k = is_same-true a b e in ap₂ (λ l p. let v : Place = record { level = l; pos = p } in v) k.0 k.1
+use Rattle.pe_walk.proofs.Tests.{and_turned}
 
 pub filter_all : {X : Type 0} (p : X → Bool) (xs : List X) → Each (λ x. p x ≡ true) xs → filter p xs ≡ xs
 filter_all p [] e = refl
@@ -156,16 +155,10 @@ module _ (o : Outlook) (walked : Place → Bool) (greatest : ℕ) (dim : IsDim o
       let all = loads o.axes o.way greatest root in
       let inside = grown.is_walk.inside vertex c in
       ap (touched_for vertex) (loads_filtered greatest root (root_is_cell o.axes o.way) root_walked)
-      ∙ ap (map (λ t. t.cell)) (sym (filter-filter here for_walked all) ∙ filter_same _ (λ t. here t && for_walked t) all (Each-all _ (λ t. swap (for_walked t) (here t)) all) ∙ filter-filter for_walked here all)
+      ∙ ap (map (λ t. t.cell)) (sym (filter-filter here for_walked all) ∙ filter_same _ (λ t. here t && for_walked t) all (Each-all _ (λ t. and_turned (for_walked t) (here t)) all) ∙ filter-filter for_walked here all)
       ∙ sym (filter-map walked (λ t. t.cell) (filter here all))
       ∙ ap (filter walked) (loaded_for_around o.axes o.way greatest vertex dim.1 (inside_on_grid o.axes vertex inside) (grown.counts_within vertex c))
       ∙ filter_all walked (around o.axes o.way vertex) (all_each (λ p. walked p ≡ true) (around o.axes o.way vertex) (grown.is_walk.all_around vertex c))
-    where
-      swap : (a b : Bool) → (a && b) ≡ (b && a)
-      swap true true = refl
-      swap true false = refl
-      swap false true = refl
-      swap false false = refl
 
   pub all_due : Due o (loads_of o greatest root) (λ place. 0)
   all_due = due_from o dim.1 (loads_of o greatest root) (λ place. 0) loaded_around

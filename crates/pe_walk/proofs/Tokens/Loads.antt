@@ -10,11 +10,38 @@ use Rattle.pe_base.specs.declared.place.Place.{Place}
 use Rattle.pe_base.specs.Tree.Places.{is_same}
 use Rattle.pe_base.specs.Steps.Faces.{Touch}
 use Rattle.pe_base.specs.Steps.Stacks.{is_stack}
-use Rattle.pe_base.proofs.Steps.Counts.{same_itself, is_same_itself, eq_true, eq_false}
+use Rattle.pe_base.proofs.Steps.Counts.{is_same_itself, eq_true, eq_false}
 use Rattle.pe_stacks.specs.Holdings.{Holdings, stack_count, items_at, lent, given_up, pushed, popped}
 use Rattle.pe_walk.specs.Tokens.{Outlook, Tokens, one_more, one_less, cells_before, is_top, given, each_some, taken, put, source, target, touch_of, load_it, load, store_it, store}
 use Rattle.pe_walk.specs.Takings.{met_more, met_after, Due}
 use Rattle.pe_walk.proofs.Tokens.Stacks.{popped_same, popped_other, pushed_same, pushed_other, popped_count, pushed_count, same_or_other}
+
+-- a place that is taken, and one that is put
+pub taken_from : (from : Option ℕ) (place : Place) (held : Holdings Place) (rest : ℕ → List Place) → ((s : ℕ) → items_at held s ≡ (if is_stack s from then place ∷ rest s else rest s))
+    → (after : Holdings Place) × (taken from place held ≡ Some after) × (stack_count after ≡ stack_count held) × ((s : ℕ) → items_at after s ≡ rest s)
+taken_from None place held rest its = (lent held, refl, refl, its)
+taken_from (Some w) place held rest its =
+    let here : items_at held w ≡ place ∷ rest w = its w ∙ ap (λ b. if b then place ∷ rest w else rest w) (eq_true w w refl) in (
+      popped held w,
+      ap (λ xs. given (is_top place xs) (Some (popped held w))) here ∙ ap (λ b. given b (Some (popped held w))) (is_same_itself place),
+      popped_count held w,
+      (λ s. elim (same_or_other s w) [
+        | inl e ↦ ap (items_at (popped held w)) e ∙ popped_same held w place (rest w) here ∙ ap rest (sym e)
+        | inr e ↦ popped_other held w s e ∙ its s ∙ ap (λ b. if b then place ∷ rest s else rest s) (eq_false s w e)
+      ]),
+    )
+
+pub put_to : (to : Option ℕ) (place : Place) (held : Holdings Place) → ((s : ℕ) → to ≡ Some s → s < stack_count held)
+    → (stack_count (put to place held) ≡ stack_count held) × ((s : ℕ) → items_at (put to place held) s ≡ (if is_stack s to then place ∷ items_at held s else items_at held s))
+put_to None place held within = (refl, (λ s. refl))
+put_to (Some w) place held within = (
+  pushed_count held w place,
+  (λ s. elim (same_or_other s w) [
+    | inl e ↦ ap (items_at (pushed held w place)) e ∙ pushed_same held w place (within w refl) ∙ ap (λ z. place ∷ items_at held z) (sym e)
+        ∙ ap (λ b. if b then place ∷ items_at held s else items_at held s) (sym (eq_true s w e))
+    | inr e ↦ pushed_other held w s place e ∙ ap (λ b. if b then place ∷ items_at held s else items_at held s) (sym (eq_false s w e))
+  ]),
+)
 
 -- the vertices of some touches that pass a test
 abbrev pub vertices_of : (Touch → Bool) → List Touch → List Place
@@ -56,27 +83,15 @@ module _ (o : Outlook) where
       v : Place
       v = touch.vertex
 
-      from_stack : (from : Option ℕ) → ((s : ℕ) → items_at t.vertices s ≡ with_it touch (filter (takes_by s) touches) (true && is_stack s from) ++ rest s)
-          → (h : Holdings Place) × (taken from v t.vertices ≡ Some h) × (stack_count h ≡ stack_count t.vertices) × ((s : ℕ) → items_at h s ≡ vertices_of (takes_by s) touches ++ rest s)
-      from_stack None its = (lent t.vertices, refl, refl, its)
-      from_stack (Some w) its =
-          let here : items_at t.vertices w ≡ v ∷ (vertices_of (takes_by w) touches ++ rest w) =
-          its w ∙ ap (λ b. with_it touch (filter (takes_by w) touches) b ++ rest w) (same_itself w) in (
-            popped t.vertices w,
-            ap (λ xs. given (is_top v xs) (Some (popped t.vertices w))) here ∙ ap (λ b. given b (Some (popped t.vertices w))) (is_same_itself v),
-            popped_count t.vertices w,
-            (λ s. elim (same_or_other s w) [
-              | inl e ↦ ap (items_at (popped t.vertices w)) e ∙ popped_same t.vertices w v (vertices_of (takes_by w) touches ++ rest w) here ∙ ap (λ z. vertices_of (takes_by z) touches ++ rest z) (sym e)
-              | inr e ↦ popped_other t.vertices w s e ∙ its s
-                  ∙ ap (λ b. with_it touch (filter (takes_by s) touches) b ++ rest s) (eq_false s w e)
-            ]),
-          )
+      at_top : (b : Bool) (kept : List Touch) (more : List Place) → with_it touch kept b ++ more ≡ (if b then v ∷ (map (λ e. e.vertex) kept ++ more) else (map (λ e. e.vertex) kept ++ more))
+      at_top true kept more = refl
+      at_top false kept more = refl
 
       by_counting : (b : Bool) → o.counts v ≡ b → (o.counts v ≡ true → t.met v ≡ cells_before o.axes o.way touch)
           → ((s : ℕ) → items_at t.vertices s ≡ with_it touch (filter (takes_by s) touches) (o.counts v && is_stack s (source o touch)) ++ rest s)
           → (after : Tokens) × (load o cell k t ≡ Some after) × Loaded (touch ∷ []) (λ s. vertices_of (takes_by s) touches ++ rest s) t after
       by_counting true e d its =
-          let step = from_stack (source o touch) (λ s. its s ∙ ap (λ b. with_it touch (filter (takes_by s) touches) (b && is_stack s (source o touch)) ++ rest s) e) in
+          let step = taken_from (source o touch) v t.vertices (λ s. vertices_of (takes_by s) touches ++ rest s) (λ s. its s ∙ ap (λ b. with_it touch (filter (takes_by s) touches) (b && is_stack s (source o touch)) ++ rest s) e ∙ at_top (is_stack s (source o touch)) (filter (takes_by s) touches) (rest s)) in
           let after : Tokens = record { vertices = step.0; cells = t.cells; held = one_more v t.held; met = one_more v t.met } in (
             after,
             ap (λ b. if b then load_it o touch t else (Some (record t { vertices = lent t.vertices }))) e
@@ -156,17 +171,9 @@ module _ (o : Outlook) where
       v : Place
       v = touch.vertex
 
-      to_stack : (to : Option ℕ) → ((s : ℕ) → to ≡ Some s → s < stack_count t.vertices)
-          → (stack_count (put to v t.vertices) ≡ stack_count t.vertices) × ((s : ℕ) → items_at (put to v t.vertices) s ≡ with_it touch [] (true && is_stack s to) ++ items_at t.vertices s)
-      to_stack None w = (refl, (λ s. refl))
-      to_stack (Some w) within = (
-        pushed_count t.vertices w v,
-        (λ s. elim (same_or_other s w) [
-          | inl e ↦ ap (items_at (pushed t.vertices w v)) e ∙ pushed_same t.vertices w v (within w refl) ∙ ap (λ z. v ∷ items_at t.vertices z) (sym e)
-              ∙ ap (λ b. with_it touch [] b ++ items_at t.vertices s) (sym (eq_true s w e))
-          | inr e ↦ pushed_other t.vertices w s v e ∙ ap (λ b. with_it touch [] b ++ items_at t.vertices s) (sym (eq_false s w e))
-        ]),
-      )
+      on_top : (b : Bool) (more : List Place) → (if b then v ∷ more else more) ≡ with_it touch [] b ++ more
+      on_top true more = refl
+      on_top false more = refl
 
       above : (n : ℕ) → 0 < n → nat_lt 0 n ≡ true
       above n h = grind (arith, nat_tests)
@@ -177,14 +184,14 @@ module _ (o : Outlook) where
 
       by_counting : (b : Bool) → o.counts v ≡ b → (after : Tokens) × (store o cell k t ≡ Some after) × Stored (touch ∷ []) t after
       by_counting true e =
-          let step = to_stack (target o touch) goes in
+          let step = put_to (target o touch) v t.vertices goes in
           let some : 0 < t.held v = subst (λ c. (if c then 0 + 1 else 0) ≤ t.held v) (is_same_itself v) (subst (λ b. (if b && is_same v v then 0 + 1 else 0) ≤ t.held v) e (held v)) in (
             record t { vertices = put (target o touch) v t.vertices; held = one_less v t.held },
             ap (λ b. if b then store_it o touch t else (Some (record t { vertices = given_up t.vertices }))) e
                 ∙ ap (λ b. given b (Some (record t { vertices = put (target o touch) v t.vertices; held = one_less v t.held }))) (above (t.held v) some),
             record {
               stacks = step.0;
-              vertices = λ s. step.1 s ∙ ap (λ b. with_it touch [] (b && is_stack s (target o touch)) ++ items_at t.vertices s) (sym e);
+              vertices = λ s. step.1 s ∙ on_top (is_stack s (target o touch)) (items_at t.vertices s) ∙ ap (λ b. with_it touch [] (b && is_stack s (target o touch)) ++ items_at t.vertices s) (sym e);
               cells = refl;
               met = refl;
               held = λ place. ap (λ b. (if is_same v place then t.held place - 1 else t.held place) + (if b && is_same v place then 0 + 1 else 0)) e

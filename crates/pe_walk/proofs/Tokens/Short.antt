@@ -1,5 +1,5 @@
 -- Vertices that count are at most as many as the walked cells, and so no stack is longer.
-use Rattle.std.proofs.Common.{◌≡◌, ◌⊎◌, inl, inr, ℕ, zero, suc, ◌+◌, ◌*◌, ◌^◌, ◌<◌, ◌≤◌, Bool, true, false, ◌==◌, List, [], ◌∷◌, filter, length, get_or, Option, Some, None, refl, sym, ap, ◌∙◌, subst, true≢false, pow-suc, arith}
+use Rattle.std.proofs.Common.{◌≡◌, ◌⊎◌, inl, inr, ℕ, zero, suc, ◌+◌, ◌*◌, ◌^◌, ◌<◌, ◌≤◌, Bool, true, false, ◌==◌, List, [], ◌∷◌, filter, length, get_or, Option, Some, None, refl, sym, ap, ◌∙◌, subst, true≢false, arith}
 use Rattle.std.specs.Prelude.{nat_lt, if◌then◌else◌, sum_by, count_by}
 use Rattle.std.specs.List.{AllByRecursion}
 use Rattle.std.proofs.lemmas.List.{length-map}
@@ -26,6 +26,7 @@ use Rattle.pe_walk.proofs.Tokens.Dues.{loaded_around}
 use Rattle.pe_walk.proofs.Tokens.Keeping.{given_some, walk_keeps}
 use Rattle.pe_walk.proofs.Tokens.Apart.{map_some, one_if, there, set_past}
 use Rattle.pe_walk.proofs.Tokens.Traffic.{loads_length, count_none}
+use Rattle.pe_walk.proofs.Tests.{all_of, by_recursion, some_power}
 
 pub sum-both : {X : Type 0} (f g : X → ℕ) (xs : List X) → sum_by (λ x. f x + g x) xs ≡ sum_by f xs + sum_by g xs
 sum-both f g [] = omega arith
@@ -62,10 +63,6 @@ turn_same a b = go (is_same a b) refl
     go true e = e ∙ sym (ap (λ z. is_same b z) (same_places a b e) ∙ is_same_itself b)
     go false e = e ∙ sym (false_unless (is_same b a) (λ t. absurd (true≢false (sym (ap (λ z. is_same z b) (sym (same_places b a t)) ∙ is_same_itself b) ∙ e))))
 
-pub all_of : {X : Type 0} (P : X → Type 0) (xs : List X) → AllByRecursion P xs → Each P xs
-all_of P [] e = tt
-all_of P (x ∷ xs) e = (e.0, all_of P xs e.1)
-
 -- a vertex that counts is loaded as often as a cell has corners
 pub touches_of : (o : Outlook) (walked : Place → Bool) (greatest : ℕ) → IsDim o.axes → Grown o walked greatest → (p : Place) → o.counts p ≡ true → 2 ^ o.axes ≡ count_by (λ t. is_same p t.vertex) (loads_of o greatest root)
 touches_of o walked greatest dim grown p c =
@@ -79,11 +76,7 @@ pub few_vertices : FewVertices
 few_vertices o walked greatest places dim grown once counting =
     let loads = loads_of o greatest root in
     let each = Each-weaker (λ p. o.counts p ≡ true) (λ p. 2 ^ o.axes ≡ count_by (λ t. is_same p t.vertex) loads) (λ p c. touches_of o walked greatest dim grown p c) places (all_of (λ p. o.counts p ≡ true) places counting) in
-    le_of_mul-le-mul_left {k = 2 ^ o.axes} (omega (arith, sym (sum-times (2 ^ o.axes) places) ∙ sum-same (λ p. 2 ^ o.axes) (λ p. count_by (λ t. is_same p t.vertex) loads) places each, each_touch_once places once loads, loads_length o greatest root)) (pow_two o.axes)
-  where
-    pow_two : (n : ℕ) → 0 < 2 ^ n
-    pow_two zero = omega arith
-    pow_two (suc n) = omega (arith, pow-suc 2 n, pow_two n)
+    le_of_mul-le-mul_left {k = 2 ^ o.axes} (omega (arith, sym (sum-times (2 ^ o.axes) places) ∙ sum-same (λ p. 2 ^ o.axes) (λ p. count_by (λ t. is_same p t.vertex) loads) places each, each_touch_once places once loads, loads_length o greatest root)) (some_power o.axes)
 
 -- all places of each stack count
 module _ (o : Outlook) where
@@ -185,12 +178,8 @@ stacks_are_short o walked greatest t dim grown apart only s = few_vertices o wal
 pub begins_counting : BeginsCounting
 begins_counting o greatest t may s = subst (AllByRecursion (λ place. o.counts place ≡ true)) (sym (lent_items (numbers o) t.vertices s ∙ may.reads_vertices s)) (go (s == input_stack o.swapped))
   where
-    by_recursion : (xs : List Place) → Each (λ place. o.counts place ≡ true) xs → AllByRecursion (λ place. o.counts place ≡ true) xs
-    by_recursion [] e = tt
-    by_recursion (x ∷ xs) e = (e.0, by_recursion xs e.1)
-
     reads : AllByRecursion (λ place. o.counts place ≡ true) (reads_of o greatest root)
-    reads = by_recursion (reads_of o greatest root) (Each-map (λ place. o.counts place ≡ true) (λ t. t.vertex) (filter (is_read o) (loads_of o greatest root))
+    reads = by_recursion (λ place. o.counts place ≡ true) (reads_of o greatest root) (Each-map (λ place. o.counts place ≡ true) (λ t. t.vertex) (filter (is_read o) (loads_of o greatest root))
         (Each-weaker _ (λ t. o.counts t.vertex ≡ true) (λ t h. and_left (o.counts t.vertex) _ h.1) (filter (is_read o) (loads_of o greatest root)) (Each-filter (λ t. Unit {0}) (is_read o) (loads_of o greatest root) (Each-all _ (λ t. tt) (loads_of o greatest root)))))
 
     go : (b : Bool) → AllByRecursion (λ place. o.counts place ≡ true) (if b then reads_of o greatest root else [])

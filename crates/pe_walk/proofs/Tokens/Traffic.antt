@@ -1,5 +1,5 @@
 -- What the walk over places moves, makes and gives up.
-use Rattle.std.proofs.Common.{◌≡◌, ◌⊎◌, inl, inr, ℕ, zero, suc, ◌+◌, ◌-◌, ◌*◌, ◌^◌, ◌<◌, ◌≤◌, Bool, true, false, not, cond, ◌&&◌, ◌==◌, List, [], ◌∷◌, ◌++◌, map, reverse, length, get_or, Option, Some, None, refl, sym, ap, ap₂, ◌∙◌, subst, append-nil, pow-suc, length-append, arith}
+use Rattle.std.proofs.Common.{◌≡◌, ◌⊎◌, inl, inr, ℕ, zero, suc, ◌+◌, ◌-◌, ◌*◌, ◌^◌, ◌<◌, ◌≤◌, Bool, true, false, not, cond, ◌&&◌, ◌==◌, List, [], ◌∷◌, ◌++◌, map, reverse, length, get_or, Option, Some, None, refl, sym, ap, ap₂, ◌∙◌, subst, append-nil, length-append, arith}
 use Rattle.std.specs.Prelude.{max, nat_lt, is_none, if◌then◌else◌, count_by}
 use Rattle.std.specs.List.{flat_map, range_with_len}
 use Rattle.std.proofs.lemmas.List.{get_or-set_same, get_or-set_other, length-reverse, length-map, reverse-reverse}
@@ -28,6 +28,7 @@ use Rattle.pe_walk.proofs.Tokens.Stacks.{is_stack_of, popped_count, pushed_count
 use Rattle.pe_walk.proofs.Tokens.Walks.{goes_within, cell_goes, own_touches_are, each_below}
 use Rattle.pe_walk.proofs.Tokens.Keeping.{kids_in_tree, given_some}
 use Rattle.pe_walk.proofs.Tokens.Apart.{map_some, one_if}
+use Rattle.pe_walk.proofs.Tests.{some_power}
 
 -- the counts of a depot after a place is taken, and after one is put
 record Took (from : Option ℕ) (held after : Holdings Place) : Type 0 where
@@ -340,7 +341,7 @@ module _ (o : Outlook) where
       let stores = stores_moved cell (numbers o) t4 after (subst (λ n. Each (λ k. (s : ℕ) → target o (touch_of o cell k) ≡ Some s → s < n) (numbers o)) (sym ten) (each_below (2 ^ o.axes) _ (λ k h. goes_within o dim cell is_cell k h))) f3 in
       let many : length own ≡ 2 ^ o.axes = length-reverse (corner_touches o.axes cell) ∙ length-corners o.axes in
       let up : length (corner_touches o.axes cell) ≡ 2 ^ o.axes = length-corners o.axes in
-      let some : 1 ≤ 2 ^ o.axes = pow_two o.axes in
+      let some : 1 ≤ 2 ^ o.axes = some_power o.axes in
       let chain = join own [] ([] ++ (ls ++ [])) (ss ++ corner_touches o.axes cell) [] [] (cell ∷ (es ++ [])) (ds ++ cell ∷ []) t t1 after loads.moved
       (join [] [] (ls ++ []) (ss ++ corner_touches o.axes cell) (cell ∷ []) [] (es ++ []) (ds ++ cell ∷ []) t1 t2 after enters.0
       (join ls ss [] (corner_touches o.axes cell) es ds [] (cell ∷ []) t2 t3 after inside.moved
@@ -363,10 +364,6 @@ module _ (o : Outlook) where
     where
       length-corners : (axes : ℕ) → length (corner_touches axes cell) ≡ 2 ^ axes
       length-corners axes = length-map (range_with_len 0 (2 ^ axes)) (λ k. record { vertex = corner axes cell k; cell = cell }) ∙ length-range_with_len 0 (2 ^ axes)
-
-      pow_two : (n : ℕ) → 1 ≤ 2 ^ n
-      pow_two zero = omega arith
-      pow_two (suc n) = omega (arith, pow-suc 2 n, pow_two n)
 
       grows : (unit n u v to tm so sm : ℕ) → v ≡ u + unit → so ≡ to + unit → so ≤ sm → ((m : ℕ) → so ≤ m → max sm m ≡ max tm m) → max sm (so + u) ≡ max tm (to + v)
       grows unit n u v to tm so sm e f g h = h (so + u) (omega arith) ∙ ap (max tm) (omega arith)
@@ -584,7 +581,7 @@ module _ (o : Outlook) (walked : Place → Bool) (greatest : ℕ) (dim : IsDim o
       let many : length (numbers o) ≡ 2 ^ o.axes = length-range_with_len 0 (2 ^ o.axes) in
       let owns : length own ≡ 2 ^ o.axes = corners_of o.axes root in
       let back : length (reverse own) ≡ 2 ^ o.axes = length-reverse own ∙ owns in
-      let some : 1 ≤ 2 ^ o.axes = pow_two o.axes in
+      let some : 1 ≤ 2 ^ o.axes = some_power o.axes in
       let unread : (p : Touch → Bool) → Each (λ t. (o.counts t.vertex && p t) ≡ false) (reverse own) = λ p. Each-weaker _ _ (λ t c. ap (λ b. b && p t) c) (reverse own) (root_corners o walked greatest dim grown) in
       let unwritten : (p : Touch → Bool) → Each (λ t. (o.counts t.vertex && p t) ≡ false) own = λ p. Each-weaker _ _ (λ t c. ap (λ b. b && p t) c) own uncounted in
       subst (HasMovedAll o greatest t) m.2 (record {
@@ -635,10 +632,6 @@ module _ (o : Outlook) (walked : Place → Bool) (greatest : ℕ) (dim : IsDim o
         };
       })
     where
-      pow_two : (n : ℕ) → 1 ≤ 2 ^ n
-      pow_two zero = omega arith
-      pow_two (suc n) = omega (arith, pow-suc 2 n, pow_two n)
-
       grows : (unit u v to tm so sm : ℕ) → v ≡ u + unit → so ≡ to + unit → ((k : ℕ) → so ≤ k → max sm k ≡ max tm k) → max sm (so + u) ≡ max tm (to + v)
       grows unit u v to tm so sm e f h = h (so + u) (omega arith) ∙ ap (max tm) (omega arith)
 

@@ -1,5 +1,5 @@
 -- The walk of a cell over places on stacks: what it wants is on top of each stack, and it leaves what it gives.
-use Rattle.std.proofs.Common.{◌≡◌, ℕ, zero, suc, ◌+◌, ◌^◌, ◌<◌, ◌≤◌, inl, inr, Bool, true, false, not, cond, ◌==◌, List, [], ◌∷◌, ◌++◌, map, filter, reverse, Option, Some, None, refl, sym, ap, ap₂, ◌∙◌, subst, append_assoc, append-nil, arith}
+use Rattle.std.proofs.Common.{◌≡◌, ℕ, zero, suc, ◌+◌, ◌^◌, ◌<◌, ◌≤◌, inl, inr, Bool, true, false, not, cond, ◌==◌, List, [], ◌∷◌, ◌++◌, map, filter, reverse, Option, Some, refl, sym, ap, ap₂, ◌∙◌, subst, append_assoc, append-nil, arith}
 use Rattle.std.specs.Prelude.{if◌then◌else◌}
 use Rattle.std.specs.Option.{option_map, option_and_then}
 use Rattle.std.specs.List.{flat_map, range_with_len}
@@ -16,46 +16,18 @@ use Rattle.pe_base.specs.Steps.Faces.{Touch, Turn, Turns, stack_of, corner_touch
 use Rattle.pe_base.specs.Steps.Stacks.{is_stack}
 use Rattle.pe_base.specs.Walk.Streams.{if_walks, walked_children, walked_cells}
 use Rattle.pe_base.proofs.Lists.{Each, Each-all, Each-weaker, Each-map, In, flat_map_same, flat_map_none, filter-flat_map, map-reverse}
-use Rattle.pe_base.proofs.Steps.Counts.{is_same_itself, eq_true, eq_false, true_eq}
-use Rattle.pe_stacks.specs.Holdings.{Holdings, stack_count, items_at, lent, pushed, popped}
+use Rattle.pe_base.proofs.Steps.Counts.{eq_false, true_eq}
+use Rattle.pe_stacks.specs.Holdings.{stack_count, items_at}
 use Rattle.pe_stacks.specs.Grid.{output_stack, cell_input_stack, cell_output_stack}
 use Rattle.pe_walk.specs.Laws.{IsCell}
-use Rattle.pe_walk.specs.Tokens.{Outlook, turned, Tokens, is_top, given, first_of, each_some, taken, put, cell_source, cell_target, touch_of, store, enter, leave, numbers, around_below, walk}
+use Rattle.pe_walk.specs.Tokens.{Outlook, turned, Tokens, given, first_of, each_some, put, cell_source, cell_target, touch_of, store, enter, leave, numbers, around_below, walk}
 use Rattle.pe_walk.specs.Takings.{loads_of, takes, gives, cell_reads_of, cell_writes_of, cell_takes, cell_gives, met_after, Due, Grown, MayBegin, HasEnded}
 use Rattle.pe_walk.proofs.Unwalked.{in_contains}
 use Rattle.pe_walk.proofs.Trees.{cell_position, child_is_cell}
 use Rattle.pe_walk.proofs.Derived.{corners_cross_once}
-use Rattle.pe_walk.proofs.Tokens.Stacks.{popped_same, popped_other, pushed_same, pushed_other, popped_count, pushed_count, same_or_other}
-use Rattle.pe_walk.proofs.Tokens.Loads.{vertices_of, takes_by, touched, touched-reverse, all_loads, all_stores, GoesWithin, met-append, due-split}
+use Rattle.pe_walk.proofs.Tokens.Loads.{taken_from, put_to, vertices_of, takes_by, touched, touched-reverse, all_loads, all_stores, GoesWithin, met-append, due-split}
 use Rattle.pe_walk.proofs.Tokens.Turning.{children-turned, cell_writes-turned}
 use Rattle.pe_walk.proofs.Tokens.Passages.{own_takes, own_gives, take_all, give_all, token_turn, passage}
-
--- a place that is taken, and one that is put
-pub taken_from : (from : Option ℕ) (place : Place) (held : Holdings Place) (rest : ℕ → List Place) → ((s : ℕ) → items_at held s ≡ (if is_stack s from then place ∷ rest s else rest s))
-    → (after : Holdings Place) × (taken from place held ≡ Some after) × (stack_count after ≡ stack_count held) × ((s : ℕ) → items_at after s ≡ rest s)
-taken_from None place held rest its = (lent held, refl, refl, its)
-taken_from (Some w) place held rest its =
-    let here : items_at held w ≡ place ∷ rest w = its w ∙ ap (λ b. if b then place ∷ rest w else rest w) (eq_true w w refl) in (
-      popped held w,
-      ap (λ xs. given (is_top place xs) (Some (popped held w))) here ∙ ap (λ b. given b (Some (popped held w))) (is_same_itself place),
-      popped_count held w,
-      (λ s. elim (same_or_other s w) [
-        | inl e ↦ ap (items_at (popped held w)) e ∙ popped_same held w place (rest w) here ∙ ap rest (sym e)
-        | inr e ↦ popped_other held w s e ∙ its s ∙ ap (λ b. if b then place ∷ rest s else rest s) (eq_false s w e)
-      ]),
-    )
-
-pub put_to : (to : Option ℕ) (place : Place) (held : Holdings Place) → ((s : ℕ) → to ≡ Some s → s < stack_count held)
-    → (stack_count (put to place held) ≡ stack_count held) × ((s : ℕ) → items_at (put to place held) s ≡ (if is_stack s to then place ∷ items_at held s else items_at held s))
-put_to None place held within = (refl, (λ s. refl))
-put_to (Some w) place held within = (
-  pushed_count held w place,
-  (λ s. elim (same_or_other s w) [
-    | inl e ↦ ap (items_at (pushed held w place)) e ∙ pushed_same held w place (within w refl) ∙ ap (λ z. place ∷ items_at held z) (sym e)
-        ∙ ap (λ b. if b then place ∷ items_at held s else items_at held s) (sym (eq_true s w e))
-    | inr e ↦ pushed_other held w s place e ∙ ap (λ b. if b then place ∷ items_at held s else items_at held s) (sym (eq_false s w e))
-  ]),
-)
 
 -- what a cell takes for itself, and what its children take
 own_cell : (o : Outlook) (s : ℕ) (cell : Place) (rest : List Place) → cell_takes o 0 s cell ++ rest ≡ (if is_stack s (cell_source o cell) then cell ∷ rest else rest)
