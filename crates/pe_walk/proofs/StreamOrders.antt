@@ -20,17 +20,19 @@ use Rattle.pe_base.specs.Life.Carriers.{carriers, passes}
 use Rattle.pe_base.specs.Life.Table.{first_touch}
 use Rattle.pe_base.specs.Walk.Maps.{at}
 use Rattle.pe_base.specs.Walk.Grids.{Grid, StoredVertex, state_in, is_cell, is_refined_cell, is_stored_vertex, is_stored_cell, IsWellFormed}
-use Rattle.pe_base.specs.Walk.Streams.{goes_below, next_way, stream_vertices, stream_cells, walked_loads}
-use Rattle.pe_base.specs.Walk.Foreseen.{next_traversal, was, will, will_on, touched_state, old_foreseen, new_foreseen, below, walked}
-use Rattle.pe_base.proofs.Lists.{Each, Each-all, Each-weaker, filter_same}
+use Rattle.pe_base.specs.Walk.Streams.{goes_below, next_way, stream_vertices, stream_cells, walked_loads, walked_cells, is_first}
+use Rattle.pe_base.specs.Walk.Foreseen.{next_traversal, was, will, will_on, touched_state, old_foreseen, new_foreseen, below, walks, walked}
+use Rattle.pe_base.proofs.Lists.{Each, Each-all, Each-weaker, filter_same, filter_none}
 use Rattle.pe_base.proofs.Tree.Ranks.{and_right}
 use Rattle.pe_base.proofs.Steps.Counts.{true_eq, eq_true, eq_false}
 use Rattle.pe_walk.specs.Tokens.{turned}
-use Rattle.pe_walk.specs.Takings.{is_read, reads_of, writes_of, cell_reads_of, cell_writes_of, Grown}
+use Rattle.pe_walk.specs.Takings.{loads_of, is_read, reads_of, writes_of, cell_reads_of, cell_writes_of, Grown}
 use Rattle.pe_walk.specs.Outlooks.{was_stored, outlook, stored_outlook, stored_walked, IsNew}
-use Rattle.pe_walk.specs.StreamLaws.{ReadsAreStreams, IsNext, NextIsFormed, WritesAreStreams}
+use Rattle.pe_walk.specs.StreamLaws.{ReadsAreStreams, IsNext, NextIsFormed, WritesAreStreams, TraversalOfAGrid}
+use Rattle.pe_stacks.specs.Grid.{input_stack, output_stack, cell_input_stack, cell_output_stack}
+use Rattle.pe_walk.proofs.Tokens.Traversals.{whole_traversal}
 use Rattle.pe_walk.proofs.Trees.{cell_position}
-use Rattle.pe_walk.proofs.Forecasts.{Sound, formed, fresh, old_stored, forecast_grown, stored_grown, carrier_levels, two_or_deeper}
+use Rattle.pe_walk.proofs.Forecasts.{Sound, formed, fresh, old_stored, forecast_grown, forecast_fits, stored_grown, carrier_levels, two_or_deeper}
 use Rattle.pe_walk.proofs.Tokens.Turning.{writes-turned, cell_writes-turned}
 use Rattle.pe_walk.proofs.Tokens.Streams.{fits_turned, streams_are_one}
 use Rattle.pe_walk.proofs.Tests.{or_right_true, and_twice}
@@ -287,11 +289,73 @@ module _ (start_level : ℕ) (grid : Grid) (low : start_level ≤ grid.greatest)
 sound_of : (grid : Grid) → IsNew grid ⊎ IsWellFormed grid → Sound grid
 sound_of grid is = elim is [ inl new ↦ fresh grid new | inr old ↦ formed grid old ]
 
+-- a new grid has nothing, and nothing of it is read
+module _ (start_level : ℕ) (grid : Grid) (low : start_level ≤ grid.greatest) (new : IsNew grid) where
+  unstored : (vertex : Place) → is_some (at grid.vertices vertex) ≡ false
+  unstored vertex = ap is_some (new.no_vertices vertex)
+
+  never_old : (vertex : Place) → old_foreseen start_level grid vertex ≡ false
+  never_old vertex = old_stored start_level grid low (fresh grid new) vertex ∙ ap (λ o. passes is_old (option_map (λ it. it.state) o)) (new.no_vertices vertex)
+
+  none_old : (vs : List Place) → list_any (old_foreseen start_level grid) vs ≡ false
+  none_old [] = refl
+  none_old (v ∷ vs) = ap₂ (λ a b. a || b) (never_old v) (none_old vs)
+
+  never_was : (cell : Place) → was_stored (below start_level grid cell) ≡ false
+  never_was cell = go (cell.level == 0) refl
+    where
+      go : (b : Bool) → (cell.level == 0) ≡ b → was_stored (below start_level grid cell) ≡ false
+      go true e = ap was_stored (below_root start_level grid low (fresh grid new) cell (true_eq cell.level 0 e) ∙ ap (λ b. if b then Born else Kept) (eq_true (next_traversal grid) 1 (omega (arith, new.unfinished))))
+      go false e = ap was_stored (below_deep start_level grid low (fresh grid new) cell (λ k. true≢false (sym (eq_true cell.level 0 k) ∙ e)))
+          ∙ was_kind (list_any (old_foreseen start_level grid) (corners grid.axes cell)) (list_any (new_foreseen start_level grid) (corners grid.axes cell)) ∙ none_old (corners grid.axes cell)
+
+  and_false : (a b : Bool) → b ≡ false → (a && b) ≡ false
+  and_false true b h = h
+  and_false false b h = refl
+
+  new_reads : (swapped : Bool) → (reads_of (outlook start_level grid swapped) grid.greatest root ≡ stream_vertices grid) × (cell_reads_of (outlook start_level grid swapped) grid.greatest root ≡ stream_cells grid)
+  new_reads swapped =
+      let o = outlook start_level grid swapped in
+      let ts = loads_of o grid.greatest root in
+      let cs = walked_cells grid.axes (next_way grid) (walks start_level grid) grid.greatest root in
+      let us = walked_loads grid.axes (next_way grid) (goes_below grid) grid.greatest root in
+      let ds = walked_cells grid.axes (next_way grid) (goes_below grid) grid.greatest root in (
+        ap (map (λ t. t.vertex)) (filter_none (is_read o) ts (Each-all _ (λ t. and_false (o.counts t.vertex) _ (ap (λ b. b && is_none (stack_in grid.axes (next_way grid) t.vertex t.cell)) (unstored t.vertex))) ts)
+            ∙ sym (filter_none _ us (Each-all _ (λ t. ap (λ b. b && is_first grid.axes (next_way grid) t) (unstored t.vertex)) us))),
+        filter_none o.reads_cell cs (Each-all _ (λ c. and_false (not (c.level == 0)) _ (never_was (parent_of c))) cs)
+            ∙ sym (filter_none (λ c. is_some (at grid.cells c)) ds (Each-all _ (λ c. ap is_some (new.no_cells c)) ds)),
+      )
+
 pub reads_are_streams : ReadsAreStreams
-reads_are_streams start_level grid swapped low is = reads_are start_level grid low (formed grid is) swapped is
+reads_are_streams start_level grid swapped low is = elim is [
+  | inl new ↦ new_reads start_level grid low new swapped
+  | inr old ↦ reads_are start_level grid low (formed grid old) swapped old
+]
 
 pub next_is_formed : NextIsFormed
 next_is_formed start_level grid next low is so = next_formed start_level grid low (sound_of grid is) next so
 
 pub writes_are_streams : WritesAreStreams
 writes_are_streams start_level grid next swapped low is so = writes_are start_level grid low (sound_of grid is) next so swapped
+
+pub traversal_of_a_grid : TraversalOfAGrid
+traversal_of_a_grid start_level grid next swapped t low is so holds unmet =
+    let o = outlook start_level grid swapped in
+    let reads = reads_are_streams start_level grid swapped low is in
+    let writes = writes_are_streams start_level grid next swapped low is so in
+    let run = whole_traversal o (walked start_level grid) grid.greatest t (sound_of grid is).dim (forecast_fits start_level grid swapped low is) (record {
+      stacks = holds.stacks;
+      cell_stacks = holds.cell_stacks;
+      reads_vertices = λ s. holds.vertices s ∙ ap (λ xs. if s == input_stack swapped then xs else []) (sym reads.0);
+      reads_cells = λ s. holds.cells s ∙ ap (λ xs. if s == cell_input_stack swapped then xs else []) (sym reads.1);
+      nothing_met = unmet;
+    }) in (
+      run.0,
+      run.1,
+      record {
+        stacks = run.2.stacks;
+        cell_stacks = run.2.cell_stacks;
+        vertices = λ s. run.2.writes_vertices s ∙ ap (λ xs. if s == output_stack swapped then xs else []) writes.0;
+        cells = λ s. run.2.writes_cells s ∙ ap (λ xs. if s == cell_output_stack swapped then xs else []) writes.1;
+      },
+    )

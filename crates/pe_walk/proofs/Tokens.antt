@@ -22,8 +22,12 @@ pub mod Counting
 pub mod Apart
 -- streams
 pub mod Streams
--- what is moved
+-- the counts of a depot after each step
+pub mod DepotCounts
+-- what the walk of a cell moves
 pub mod Traffic
+-- what a traversal moves
+pub mod TraversalTraffic
 -- how long a stack is at most
 pub mod Short
 -- the traffic of a stack is the crossings there

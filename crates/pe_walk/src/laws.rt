@@ -24,7 +24,7 @@ ghost use Rattle.pe_walk.specs.Standing.{KindsAreFound};
 ghost use Rattle.pe_walk.specs.Laws.{NeighboursAgree, FacesAreOneWay, OneFaceOnEach, Composition, BeneathUntouched, StoresAsLoads, Counts, UnwalkedIsEmpty, LeafIsCorners, CellsOfTheTree, StepsCrossFaces, StepsAreCorners, CornersAreSteps, TurnsJoin, StandTogether, CornersCrossOnce, CornersOnStacks};
 ghost use Rattle.pe_walk.specs.TokenLaws.{WalkOfACell, LoadsAreDue, LoadedAround, WholeTraversal, TurningRound, TurningAround};
 ghost use Rattle.pe_walk.specs.Outlooks.{ForecastFits, StoredFits};
-ghost use Rattle.pe_walk.specs.StreamLaws.{FitsTurned, StreamsAreOne, ReadsAreStreams, NextIsFormed, WritesAreStreams};
+ghost use Rattle.pe_walk.specs.StreamLaws.{FitsTurned, StreamsAreOne, ReadsAreStreams, NextIsFormed, WritesAreStreams, TraversalOfAGrid};
 ghost use Rattle.pe_walk.specs.Traffic.{TrafficOfACell, TrafficOfATraversal, LoadsPerCell, CountsPerCell, TrafficIsCrossings, HangingLoads, FewVertices, StepsKeepCounting, BeginsCounting, StacksAreShort};
 ghost use Rattle.pe_walk.specs.Apart.{StepsKeepApart, BeginsApart, CornersByCounting};
 
@@ -144,6 +144,7 @@ pub fn streams_of_grids()
     ensures reads { ReadsAreStreams }
     ensures formed { NextIsFormed }
     ensures writes { WritesAreStreams }
+    ensures both { TraversalOfAGrid }
 {}
 
 /// What the walk of a cell and a traversal move, make and give up, by their loads and stores; how much is out at most; and

@@ -29,7 +29,8 @@ use Rattle.pe_walk.proofs.Tokens.Dues.{loaded_around}
 use Rattle.pe_walk.proofs.Tokens.Counting.{first_around}
 use Rattle.pe_walk.proofs.Tokens.Apart.{one_if, firsts}
 use Rattle.pe_walk.proofs.Tokens.Streams.{fits_turned}
-use Rattle.pe_walk.proofs.Tokens.Traffic.{count_none, loads_length}
+use Rattle.pe_walk.proofs.Tokens.DepotCounts.{count_none}
+use Rattle.pe_walk.proofs.Tokens.Traffic.{loads_length}
 use Rattle.pe_walk.proofs.Tokens.Short.{sum-both, sum-same, sum-times, turn_same, touches_of}
 use Rattle.pe_walk.proofs.Tests.{and_turned, and_twice, some_power}
 

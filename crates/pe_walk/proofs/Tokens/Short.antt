@@ -25,7 +25,8 @@ use Rattle.pe_walk.proofs.Tokens.Stacks.{popped_same, popped_other, pushed_same,
 use Rattle.pe_walk.proofs.Tokens.Dues.{loaded_around}
 use Rattle.pe_walk.proofs.Tokens.Keeping.{given_some, walk_keeps}
 use Rattle.pe_walk.proofs.Tokens.Apart.{map_some, one_if, there, set_past}
-use Rattle.pe_walk.proofs.Tokens.Traffic.{loads_length, count_none}
+use Rattle.pe_walk.proofs.Tokens.DepotCounts.{count_none}
+use Rattle.pe_walk.proofs.Tokens.Traffic.{loads_length}
 use Rattle.pe_walk.proofs.Tests.{all_of, by_recursion, some_power}
 
 pub sum-both : {X : Type 0} (f g : X → ℕ) (xs : List X) → sum_by (λ x. f x + g x) xs ≡ sum_by f xs + sum_by g xs

@@ -1,9 +1,9 @@
 -- What the walk over places moves, makes and gives up.
-use Rattle.std.proofs.Common.{◌≡◌, ◌⊎◌, inl, inr, ℕ, zero, suc, ◌+◌, ◌-◌, ◌*◌, ◌^◌, ◌<◌, ◌≤◌, Bool, true, false, not, cond, ◌&&◌, ◌==◌, List, [], ◌∷◌, ◌++◌, map, reverse, length, get_or, Option, Some, None, refl, sym, ap, ap₂, ◌∙◌, subst, append-nil, length-append, arith}
+use Rattle.std.proofs.Common.{◌≡◌, ◌⊎◌, inl, inr, ℕ, zero, suc, ◌+◌, ◌-◌, ◌*◌, ◌^◌, ◌<◌, ◌≤◌, Bool, true, false, not, cond, ◌&&◌, List, [], ◌∷◌, ◌++◌, map, reverse, length, Option, Some, None, refl, sym, ap, ap₂, ◌∙◌, subst, append-nil, length-append, arith}
 use Rattle.std.specs.Prelude.{max, nat_lt, is_none, if◌then◌else◌, count_by}
 use Rattle.std.specs.List.{flat_map, range_with_len}
-use Rattle.std.proofs.lemmas.List.{get_or-set_same, get_or-set_other, length-reverse, length-map, reverse-reverse}
-use Rattle.pe_base.specs.Tree.Places.{root, corner}
+use Rattle.std.proofs.lemmas.List.{length-reverse, length-map}
+use Rattle.pe_base.specs.Tree.Places.{corner}
 use Rattle.std.proofs.lemmas.List.Sums.{sum_by-append, sum_by-cons, count_by-le-length}
 use Rattle.std.proofs.lemmas.Option.{option_and_then_some}
 use Rattle.std.proofs.lemmas.List.FromFn.{length-range_with_len}
@@ -14,92 +14,17 @@ use Rattle.pe_base.specs.Tree.Curve.{children}
 use Rattle.pe_base.specs.Steps.Faces.{Touch, corner_touches}
 use Rattle.pe_base.specs.Steps.Stacks.{is_stack}
 use Rattle.pe_base.specs.Walk.Streams.{if_walks, walked_children, walked_cells}
-use Rattle.pe_base.proofs.Lists.{Each, Each-weaker, Each-reverse}
-use Rattle.pe_base.proofs.Steps.Counts.{same_itself, eq_false}
-use Rattle.pe_stacks.specs.Holdings.{Holdings, Stack, new_stack, stack_count, stack_at, items_at, lent, given_up, pushed, popped, pushed_on, popped_from}
+use Rattle.pe_base.proofs.Lists.{Each}
+use Rattle.pe_stacks.specs.Holdings.{stack_count, stack_at, lent, given_up}
 use Rattle.pe_walk.specs.Laws.{IsCell}
-use Rattle.pe_walk.specs.Tokens.{Outlook, Tokens, is_top, given, each_some, taken, put, source, target, cell_source, cell_target, one_less, touch_of, load_it, load, store_it, store, enter, lent_for, given_up_for, numbers, begun, ended, around_below, walk, traverse}
-use Rattle.pe_walk.specs.Takings.{loads_of, stores_of, left_cells, Grown}
-use Rattle.pe_walk.proofs.Trees.{root_is_cell}
-use Rattle.pe_walk.proofs.Tokens.Dues.{root_walks}
-use Rattle.pe_walk.proofs.Tokens.Traversals.{root_corners}
-use Rattle.pe_walk.specs.Traffic.{takes_from, makes, gives_to, ends, Moved, tallest, height, Returns, HasMoved, HasMovedAll, TrafficOfACell, LoadsPerCell, CountsPerCell, TrafficOfATraversal}
-use Rattle.pe_walk.proofs.Tokens.Stacks.{is_stack_of, popped_count, pushed_count, same_or_other}
+use Rattle.pe_walk.specs.Tokens.{Outlook, Tokens, given, each_some, taken, put, source, target, cell_source, cell_target, one_less, touch_of, load_it, load, store_it, store, enter, numbers, around_below, walk}
+use Rattle.pe_walk.specs.Takings.{loads_of, stores_of, left_cells}
+use Rattle.pe_walk.specs.Traffic.{takes_from, makes, gives_to, ends, Moved, tallest, height, Returns, HasMoved, TrafficOfACell, LoadsPerCell, CountsPerCell}
 use Rattle.pe_walk.proofs.Tokens.Walks.{goes_within, cell_goes, own_touches_are, each_below}
 use Rattle.pe_walk.proofs.Tokens.Keeping.{kids_in_tree, given_some}
 use Rattle.pe_walk.proofs.Tokens.Apart.{map_some, one_if}
 use Rattle.pe_walk.proofs.Tests.{some_power}
-
--- the counts of a depot after a place is taken, and after one is put
-record Took (from : Option ℕ) (held after : Holdings Place) : Type 0 where
-  stacks : stack_count after ≡ stack_count held
-  pops : (s : ℕ) → (stack_at after s).pops ≡ (stack_at held s).pops + one_if (is_stack s from)
-  pushes : (s : ℕ) → (stack_at after s).pushes ≡ (stack_at held s).pushes
-  fresh : after.fresh ≡ held.fresh + one_if (is_none from)
-  spent : after.spent ≡ held.spent
-  out : after.out ≡ held.out + 1
-  most : after.most ≡ max held.most (held.out + 1)
-
-take_counts : (from : Option ℕ) (place : Place) (held after : Holdings Place) → taken from place held ≡ Some after → Took from held after
-take_counts None place held after e =
-    let same : lent held ≡ after = cc in
-    subst (Took None held) same (record { stacks = refl; pops = λ s. omega arith; pushes = λ s. refl; fresh = refl; spent = refl; out = refl; most = refl })
-take_counts (Some w) place held after e = go (items_at held w) refl e
-  where
-    counts : (x : Place) (xs : List Place) → items_at held w ≡ x ∷ xs → Took (Some w) held (popped held w)
-    counts x xs k = record {
-      stacks = popped_count held w;
-      pops = λ s. elim (same_or_other s w) [
-        | inl e ↦ ap (λ z. (stack_at (popped held w) z).pops) e ∙ ap (λ (stack : Stack Place). stack.pops) (get_or-set_same held.stacks w (popped_from (stack_at held w)) new_stack (is_stack_of held w x xs k))
-            ∙ ap (λ z. (stack_at held z).pops + 1) (sym e) ∙ ap (λ b. (stack_at held s).pops + one_if b) (sym (ap (λ z. z == w) e ∙ same_itself w))
-        | inr e ↦ ap (λ (stack : Stack Place). stack.pops) (get_or-set_other held.stacks w s (popped_from (stack_at held w)) new_stack e)
-            ∙ (let z : (stack_at held s).pops ≡ (stack_at held s).pops + 0 = omega arith in z) ∙ ap (λ b. (stack_at held s).pops + one_if b) (sym (eq_false s w e))
-      ];
-      pushes = λ s. elim (same_or_other s w) [
-        | inl e ↦ ap (λ z. (stack_at (popped held w) z).pushes) e ∙ ap (λ (stack : Stack Place). stack.pushes) (get_or-set_same held.stacks w (popped_from (stack_at held w)) new_stack (is_stack_of held w x xs k)) ∙ ap (λ z. (stack_at held z).pushes) (sym e)
-        | inr e ↦ ap (λ (stack : Stack Place). stack.pushes) (get_or-set_other held.stacks w s (popped_from (stack_at held w)) new_stack e)
-      ];
-      fresh = omega arith;
-      spent = refl;
-      out = refl;
-      most = refl;
-    }
-
-    go : (xs : List Place) → items_at held w ≡ xs → given (is_top place xs) (Some (popped held w)) ≡ Some after → Took (Some w) held after
-    go [] k f = absurd cc
-    go (x ∷ xs) k f =
-        let g = given_some (is_top place (x ∷ xs)) (Some (popped held w)) after f in
-        let same : popped held w ≡ after = cc (g.1) in
-        subst (Took (Some w) held) same (counts x xs k)
-
-record Gave (to : Option ℕ) (held after : Holdings Place) : Type 0 where
-  stacks : stack_count after ≡ stack_count held
-  pops : (s : ℕ) → (stack_at after s).pops ≡ (stack_at held s).pops
-  pushes : (s : ℕ) → (stack_at after s).pushes ≡ (stack_at held s).pushes + one_if (is_stack s to)
-  fresh : after.fresh ≡ held.fresh
-  spent : after.spent ≡ held.spent + one_if (is_none to)
-  out : after.out ≡ held.out - 1
-  most : after.most ≡ held.most
-
-put_counts : (to : Option ℕ) (place : Place) (held : Holdings Place) → ((s : ℕ) → to ≡ Some s → s < stack_count held) → Gave to held (put to place held)
-put_counts None place held within = record { stacks = refl; pops = λ s. refl; pushes = λ s. omega arith; fresh = refl; spent = refl; out = refl; most = refl }
-put_counts (Some w) place held within = record {
-  stacks = pushed_count held w place;
-  pops = λ s. elim (same_or_other s w) [
-    | inl e ↦ ap (λ z. (stack_at (pushed held w place) z).pops) e ∙ ap (λ (stack : Stack Place). stack.pops) (get_or-set_same held.stacks w (pushed_on (stack_at held w) place) new_stack (within w refl)) ∙ ap (λ z. (stack_at held z).pops) (sym e)
-    | inr e ↦ ap (λ (stack : Stack Place). stack.pops) (get_or-set_other held.stacks w s (pushed_on (stack_at held w) place) new_stack e)
-  ];
-  pushes = λ s. elim (same_or_other s w) [
-    | inl e ↦ ap (λ z. (stack_at (pushed held w place) z).pushes) e ∙ ap (λ (stack : Stack Place). stack.pushes) (get_or-set_same held.stacks w (pushed_on (stack_at held w) place) new_stack (within w refl))
-        ∙ ap (λ z. (stack_at held z).pushes + 1) (sym e) ∙ ap (λ b. (stack_at held s).pushes + one_if b) (sym (ap (λ z. z == w) e ∙ same_itself w))
-    | inr e ↦ ap (λ (stack : Stack Place). stack.pushes) (get_or-set_other held.stacks w s (pushed_on (stack_at held w) place) new_stack e)
-        ∙ (let z : (stack_at held s).pushes ≡ (stack_at held s).pushes + 0 = omega arith in z) ∙ ap (λ b. (stack_at held s).pushes + one_if b) (sym (eq_false s w e))
-  ];
-  fresh = refl;
-  spent = omega arith;
-  out = refl;
-  most = refl;
-}
+use Rattle.pe_walk.proofs.Tokens.DepotCounts.{Took, take_counts, Gave, put_counts}
 
 -- counts over parts
 count-more : {X : Type 0} (p : X → Bool) (xs ys : List X) (a b c : ℕ) → b ≡ a + count_by p xs → c ≡ b + count_by p ys → c ≡ a + count_by p (xs ++ ys)
@@ -369,7 +294,7 @@ module _ (o : Outlook) where
       grows unit n u v to tm so sm e f g h = h (so + u) (omega arith) ∙ ap (max tm) (omega arith)
 
   -- cells one after another
-  each_moved : (levels : ℕ) → ((cell : Place) → IsCell o.axes o.way cell → (t after : Tokens) → stack_count t.vertices ≡ 10 → stack_count t.cells ≡ 2 → walk o levels cell t ≡ Some after → HasMoved o levels cell t after)
+  pub each_moved : (levels : ℕ) → ((cell : Place) → IsCell o.axes o.way cell → (t after : Tokens) → stack_count t.vertices ≡ 10 → stack_count t.cells ≡ 2 → walk o levels cell t ≡ Some after → HasMoved o levels cell t after)
       → (cs : List Place) → Each (IsCell o.axes o.way) cs → (t after : Tokens) → stack_count t.vertices ≡ 10 → stack_count t.cells ≡ 2 → each_some (walk o levels) cs t ≡ Some after
       → Below (flat_map (loads_of o levels) cs) (flat_map (stores_of o levels) cs) (flat_map (walked_cells o.axes o.way o.walks levels) cs) (flat_map (left_cells o levels) cs) (tallest (height o levels) cs) t after
   each_moved levels law [] each t after stacks cell_stacks e =
@@ -448,7 +373,7 @@ flat_length f g k (x ∷ xs) h =
     length-append (f x) (flat_map f xs) ∙ ap₂ (λ a b. a + b) (h x) (flat_length f g k xs h)
     ∙ sym (mul-add k (length (g x)) (length (flat_map g xs))) ∙ ap (λ n. k * n) (sym (length-append (g x) (flat_map g xs)))
 
-corners_of : (axes : ℕ) (cell : Place) → length (corner_touches axes cell) ≡ 2 ^ axes
+pub corners_of : (axes : ℕ) (cell : Place) → length (corner_touches axes cell) ≡ 2 ^ axes
 corners_of axes cell = length-map (range_with_len 0 (2 ^ axes)) (λ k. record { vertex = corner axes cell k; cell = cell }) ∙ length-range_with_len 0 (2 ^ axes)
 
 pub loads_length : (o : Outlook) (levels : ℕ) (cell : Place) → length (loads_of o levels cell) ≡ 2 ^ o.axes * length (walked_cells o.axes o.way o.walks levels cell)
@@ -497,143 +422,3 @@ counts_per_cell o levels cell t after dim is_cell stacks cell_stacks e =
         pushes = λ s. omega (arith, m.cell_pushes s, count_by-le-length (λ c. is_stack s (cell_target o c)) ds, left_length o levels cell);
       };
     }
-
--- places that are made one after another
-record Lent (n : ℕ) (held after : Holdings Place) : Type 0 where
-  stacks : stack_count after ≡ stack_count held
-  same : after.stacks ≡ held.stacks
-  fresh : after.fresh ≡ held.fresh + n
-  spent : after.spent ≡ held.spent
-  out : after.out ≡ held.out + n
-  most : (m : ℕ) → held.out + n ≤ m → max after.most m ≡ max held.most m
-  least : 1 ≤ n → after.out ≤ after.most
-  idle : n ≡ 0 → after.most ≡ held.most
-
-lent_counts : (ks : List ℕ) (held : Holdings Place) → Lent (length ks) held (lent_for ks held)
-lent_counts [] held = record { stacks = refl; same = refl; fresh = omega arith; spent = refl; out = omega arith; most = λ m h. refl; least = λ h. absurd (omega arith); idle = λ h. refl }
-lent_counts (k ∷ ks) held =
-    let more = lent_counts ks (lent held) in record {
-      stacks = more.stacks;
-      same = more.same;
-      fresh = omega (arith, more.fresh);
-      spent = more.spent;
-      out = omega (arith, more.out);
-      most = λ m h. more.most m (omega arith) ∙ higher held.most (held.out + 1) m (omega arith);
-      least = λ h. none_or_some (length ks) held.out held.most (lent_for ks (lent held)).out (lent_for ks (lent held)).most more.out more.idle more.least;
-      idle = λ h. absurd (omega arith);
-    }
-  where
-    higher : (a b m : ℕ) → b ≤ m → max (max a b) m ≡ max a m
-    higher a b m h = omega arith
-
-    none_or_some : (n ho hm ao am : ℕ) → ao ≡ (ho + 1) + n → (n ≡ 0 → am ≡ max hm (ho + 1)) → (1 ≤ n → ao ≤ am) → ao ≤ am
-    none_or_some zero ho hm ao am e f g = let same : am ≡ max hm (ho + 1) = f refl in omega arith
-    none_or_some (suc n) ho hm ao am e f g = g (omega arith)
-
-record GivenUp (n : ℕ) (held after : Holdings Place) : Type 0 where
-  same : after.stacks ≡ held.stacks
-  fresh : after.fresh ≡ held.fresh
-  spent : after.spent ≡ held.spent + n
-  out : after.out ≡ held.out - n
-  most : after.most ≡ held.most
-
-given_up_counts : (ks : List ℕ) (held : Holdings Place) → GivenUp (length ks) held (given_up_for ks held)
-given_up_counts [] held = record { same = refl; fresh = refl; spent = omega arith; out = omega arith; most = refl }
-given_up_counts (k ∷ ks) held =
-    let more = given_up_counts ks (given_up held) in
-    record { same = more.same; fresh = more.fresh; spent = omega (arith, more.spent); out = omega (arith, more.out); most = more.most }
-
-pub count_none : {X : Type 0} (p : X → Bool) (xs : List X) → Each (λ x. p x ≡ false) xs → count_by p xs ≡ 0
-count_none p [] e = refl
-count_none p (x ∷ xs) e = sum_by-cons (λ y. cond (p y) 1 0) x xs ∙ omega (arith, ap one_if e.0, count_none p xs e.1)
-
-pub count_all : {X : Type 0} (p : X → Bool) (xs : List X) → Each (λ x. p x ≡ true) xs → count_by p xs ≡ length xs
-count_all p [] e = refl
-count_all p (x ∷ xs) e = sum_by-cons (λ y. cond (p y) 1 0) x xs ∙ omega (arith, ap one_if e.0, count_all p xs e.1)
-
-module _ (o : Outlook) (walked : Place → Bool) (greatest : ℕ) (dim : IsDim o.axes) (grown : Grown o walked greatest) where
-  abbrev own : List Touch
-  own = corner_touches o.axes root
-
-  uncounted : Each (λ t. o.counts t.vertex ≡ false) own
-  uncounted = subst (Each (λ t. o.counts t.vertex ≡ false)) (reverse-reverse own) (Each-reverse (λ t. o.counts t.vertex ≡ false) (reverse own) (root_corners o walked greatest dim grown))
-
-  behind_none : (p : Touch → Bool) (xs ys : List Touch) → Each (λ t. p t ≡ false) xs → count_by p (xs ++ ys) ≡ count_by p ys
-  behind_none p xs ys e = sum_by-append (λ x. cond (p x) 1 0) xs ys ∙ omega (arith, count_none p xs e)
-
-  behind_all : (p : Touch → Bool) (xs ys : List Touch) → Each (λ t. p t ≡ true) xs → count_by p (xs ++ ys) ≡ length xs + count_by p ys
-  behind_all p xs ys e = sum_by-append (λ x. cond (p x) 1 0) xs ys ∙ omega (arith, count_all p xs e)
-
-  pub traversal_moved : (t after : Tokens) → stack_count t.vertices ≡ 10 → stack_count t.cells ≡ 2 → traverse o greatest t ≡ Some after → HasMovedAll o greatest t after
-  traversal_moved t after stacks cell_stacks e =
-      let l = greatest - 1 in
-      let g : greatest ≡ suc l = omega (arith, grown.walks_within root (root_walks o walked greatest dim grown)) in
-      let kids = children o.axes o.way root in
-      let all : walked_children o.axes o.way o.walks root ≡ kids = ap (λ b. if_walks o.axes o.way o.walks b kids) (root_walks o walked greatest dim grown) in
-      let loads : loads_of o greatest root ≡ reverse own ++ flat_map (loads_of o l) kids = ap (λ n. loads_of o n root) g ∙ ap (λ cs. reverse own ++ flat_map (loads_of o l) cs) all in
-      let stores : stores_of o greatest root ≡ flat_map (stores_of o l) kids ++ own = ap (λ n. stores_of o n root) g ∙ ap (λ cs. flat_map (stores_of o l) cs ++ own) all in
-      let high : height o greatest root ≡ suc (tallest (height o l) kids) = ap (λ n. height o n root) g ∙ ap (λ cs. suc (tallest (height o l) cs)) all in
-      let made = lent_counts (numbers o) t.vertices in
-      let m = map_some (ended o) (each_some (walk o l) kids (begun o t)) after e in
-      let u = m.0 in
-      let run = each_moved o l (walk_moved o dim l) kids (kids_in_tree o dim.1 root (root_is_cell o.axes o.way)) (begun o t) u (made.stacks ∙ stacks) cell_stacks m.1 in
-      let gone = given_up_counts (numbers o) u.vertices in
-      let many : length (numbers o) ≡ 2 ^ o.axes = length-range_with_len 0 (2 ^ o.axes) in
-      let owns : length own ≡ 2 ^ o.axes = corners_of o.axes root in
-      let back : length (reverse own) ≡ 2 ^ o.axes = length-reverse own ∙ owns in
-      let some : 1 ≤ 2 ^ o.axes = some_power o.axes in
-      let unread : (p : Touch → Bool) → Each (λ t. (o.counts t.vertex && p t) ≡ false) (reverse own) = λ p. Each-weaker _ _ (λ t c. ap (λ b. b && p t) c) (reverse own) (root_corners o walked greatest dim grown) in
-      let unwritten : (p : Touch → Bool) → Each (λ t. (o.counts t.vertex && p t) ≡ false) own = λ p. Each-weaker _ _ (λ t c. ap (λ b. b && p t) c) own uncounted in
-      subst (HasMovedAll o greatest t) m.2 (record {
-        moved = record {
-          stacks = ap length gone.same ∙ run.moved.stacks ∙ made.stacks;
-          pops = λ s. ap (λ xs. (get_or xs s new_stack).pops) gone.same ∙ run.moved.pops s
-              ∙ ap₂ (λ a b. a + b) (ap (λ xs. (get_or xs s new_stack).pops) made.same) (sym (ap (count_by (takes_from o s)) loads ∙ behind_none (takes_from o s) (reverse own) (flat_map (loads_of o l) kids) (unread (λ t. is_stack s (source o t)))));
-          pushes = λ s. ap (λ xs. (get_or xs s new_stack).pushes) gone.same ∙ run.moved.pushes s
-              ∙ ap₂ (λ a b. a + b) (ap (λ xs. (get_or xs s new_stack).pushes) made.same) (sym (ap (count_by (gives_to o s)) stores ∙ sum_by-append (λ x. cond (gives_to o s x) 1 0) (flat_map (stores_of o l) kids) own
-              ∙ omega (arith, count_none (gives_to o s) own (unwritten (λ t. is_stack s (target o t))))));
-          fresh = omega (
-            arith,
-            gone.fresh,
-            run.moved.fresh,
-            made.fresh,
-            many,
-            back,
-            ap (count_by (makes o)) loads,
-            behind_all (makes o) (reverse own) (flat_map (loads_of o l) kids) (Each-weaker _ _ (λ t c. ap (λ b. not (b && not (is_none (source o t)))) c) (reverse own) (root_corners o walked greatest dim grown)),
-          );
-          spent = omega (
-            arith,
-            gone.spent,
-            run.moved.spent,
-            made.spent,
-            many,
-            owns,
-            ap (count_by (ends o)) stores,
-            sum_by-append (λ x. cond (ends o x) 1 0) (flat_map (stores_of o l) kids) own,
-            count_all (ends o) own (Each-weaker _ _ (λ t c. ap (λ b. not (b && not (is_none (target o t)))) c) own uncounted),
-          );
-          cell_stacks = run.moved.cell_stacks;
-          cell_pops = run.moved.cell_pops;
-          cell_pushes = run.moved.cell_pushes;
-          cell_fresh = run.moved.cell_fresh;
-          cell_spent = run.moved.cell_spent;
-        };
-        vertices = record {
-          out = omega (arith, gone.out, run.out, made.out);
-          most = gone.most ∙ run.most (made.least (omega (arith, many, some)))
-              ∙ grows (2 ^ o.axes) (2 ^ o.axes * tallest (height o l) kids) (2 ^ o.axes * suc (tallest (height o l) kids)) t.vertices.out t.vertices.most (begun o t).vertices.out (begun o t).vertices.most (mul-suc (2 ^ o.axes) (tallest (height o l) kids))
-              (omega (arith, made.out, many)) (λ k h. made.most k (omega (arith, many)))
-              ∙ ap (λ n. max t.vertices.most (t.vertices.out + 2 ^ o.axes * n)) (sym high);
-        };
-        cells = λ below. record {
-          out = run.cell_out;
-          most = run.cell_most below ∙ ap (λ n. max t.cells.most (t.cells.out + n)) (omega (arith, high));
-        };
-      })
-    where
-      grows : (unit u v to tm so sm : ℕ) → v ≡ u + unit → so ≡ to + unit → ((k : ℕ) → so ≤ k → max sm k ≡ max tm k) → max sm (so + u) ≡ max tm (to + v)
-      grows unit u v to tm so sm e f h = h (so + u) (omega arith) ∙ ap (max tm) (omega arith)
-
-pub traffic_of_a_traversal : TrafficOfATraversal
-traffic_of_a_traversal o walked greatest t after dim grown stacks cell_stacks e = traversal_moved o walked greatest dim grown t after stacks cell_stacks e

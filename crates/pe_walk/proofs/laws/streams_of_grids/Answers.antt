@@ -1,6 +1,6 @@
 -- The law.
 use Rattle.pe_walk.proofs.laws.streams_of_grids.Goals as goal
-use Rattle.pe_walk.proofs.StreamOrders.{reads_are_streams, next_is_formed, writes_are_streams}
+use Rattle.pe_walk.proofs.StreamOrders.{reads_are_streams, next_is_formed, writes_are_streams, traversal_of_a_grid}
 
 pub returns-clause-reads : goal.returns-clause-reads
 returns-clause-reads c = reads_are_streams
@@ -10,3 +10,6 @@ returns-clause-formed c = next_is_formed
 
 pub returns-clause-writes : goal.returns-clause-writes
 returns-clause-writes c = writes_are_streams
+
+pub returns-clause-both : goal.returns-clause-both
+returns-clause-both c = traversal_of_a_grid

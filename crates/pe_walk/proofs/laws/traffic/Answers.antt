@@ -1,6 +1,7 @@
 -- The law.
 use Rattle.pe_walk.proofs.laws.traffic.Goals as goal
-use Rattle.pe_walk.proofs.Tokens.Traffic.{traffic_of_a_cell, traffic_of_a_traversal, loads_per_cell, counts_per_cell}
+use Rattle.pe_walk.proofs.Tokens.Traffic.{traffic_of_a_cell, loads_per_cell, counts_per_cell}
+use Rattle.pe_walk.proofs.Tokens.TraversalTraffic.{traffic_of_a_traversal}
 use Rattle.pe_walk.proofs.Tokens.Crossings.{traffic_is_crossings, hanging_loads}
 
 pub returns-clause-cell : goal.returns-clause-cell
