@@ -59,6 +59,7 @@ impl<K> Effects for Interp<'_, K> {
 
 impl<K: Sink> Mapping for Interp<'_, K> {
     type V = Fields;
+
     type C = Fields;
 
     ghost use Rattle.pe_interp.specs.Held.{fields_numbers, held_of};

@@ -8,7 +8,11 @@ use pe_base::{Dim, Event, Place};
 use pe_io::{Line, Sink, SinkFailed};
 
 /// Writes the trace line of a plain event.
-pub(crate) fn write_plain_line<K: Sink>(event: Event, traversal: u64, sink: &mut K) -> Result<(), SinkFailed>
+pub(crate) fn write_plain_line<K: Sink>(
+    event: Event,
+    traversal: u64,
+    sink: &mut K,
+) -> Result<(), SinkFailed>
     ensures ok { OnOk result (Appends (K.text sink.old) (plain_line event traversal) (K.text sink.new)) }
     ensures err { OnErr result (AppendsPrefix (K.text sink.old) (plain_line event traversal) (K.text sink.new)) }
     ensures faults { K.faults sink.old ≤ K.faults sink.new }

@@ -29,7 +29,6 @@ loaded set Kept true found place family = read_vertex set Kept found
 loaded set Dying true found place family = read_vertex set Dying found
 loaded set kind false found place family = found
 
-
 -- a load keeps what was loaded alike, and so do all steps the corners of the parent, and the cell's own corners
 pub record KeepsAlike {Plan : Type 0} (set : Setting Plan) : Type 0 where
   pub loads : (kind : Kind) (first : Bool) (found : VertexRecord) (place : Place) (family : Family) (after : VertexRecord × Family)

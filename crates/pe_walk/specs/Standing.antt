@@ -111,7 +111,6 @@ pub record Fair (axes : ℕ) (o : Outlook) (f : Foresight) (parent cell : Place)
   pub flags : (x : Place) (k : ℕ) → parent.level < x.level → is_some (at_corner w.hanging x k) ≡ (is_same cell x && nat_le from k && nat_lt k (2 ^ axes) && not (o.counts (corner axes cell k)))
   pub mine : (k : ℕ) → from ≤ k → k < 2 ^ axes → o.counts (corner axes cell k) ≡ false → IsIdle (record_at axes w cell k)
 
-
 -- At a load, the kind of a corner as the map has its carriers, and as the parent's corners in hand have them, is the one
 -- foreseen.
 pub record FindsKind {Plan : Type 0} (set : Setting Plan) (f : Foresight) (parent cell : Place) (w : Working) (k : ℕ) : Type 0 where

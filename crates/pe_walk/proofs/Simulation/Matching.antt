@@ -87,7 +87,7 @@ sim-then holds image holds' image' holds'' image'' model machine tokens model' m
     let one = first w t mid.0 h mid.1 in
     record {
       same = then-matches (λ v. image' v mid.0) (λ x. image'' x t'') (model w) (machine (image w t)) model' machine' one.same
-      (λ v e. (next v mid.0 t'' (one.holds v e) mid.2).same);
+          (λ v e. (next v mid.0 t'' (one.holds v e) mid.2).same);
       holds = λ x e. let at = then-done (model w) model' x e in (next at.0 mid.0 t'' (one.holds at.0 at.1) mid.2).holds x at.2;
     }
 
@@ -99,6 +99,7 @@ sim-nothing holds image w t t' h k =
   where
     some_same : {T : Type 0} (a b : T) → Some a ≡ Some b → a ≡ b
     some_same a b e = cc
+
     done_same : {W : Type 0} (a b : W) → done a ≡ done b → a ≡ b
     done_same a b e = cc
 

@@ -69,7 +69,7 @@ after_family axes parent family w four count =
       vertices = λ q off. at-put_records axes parent family.parents before q count off;
       hung = hangs-put_records axes parent 0 family.parents before;
       cells = λ x apart. ap (λ cells. unwrap_or (at cells x) []) beside.cells
-      ∙ ap (λ o. unwrap_or o []) (at-put w.cells parent x family.parent ∙ ap (λ b. if b then Some family.parent else at w.cells x) apart);
+          ∙ ap (λ o. unwrap_or o []) (at-put w.cells parent x family.parent ∙ ap (λ b. if b then Some family.parent else at w.cells x) apart);
       loads = beside.loads;
       tally = beside.tally;
     }
@@ -83,15 +83,17 @@ OnStacks P stacks = Each (λ stack. Each P stack.items) stacks
 
 pub on_items : (P : Place → Type 0) (xs : List Place) → ((x : Place) → 1 ≤ count_by (λ other. is_same other x) xs → P x) → Each P xs
 on_items P [] h = tt
-on_items P (y ∷ ys) h =
-    (h y (omega (arith, sum_by-cons (λ other. one_if (is_same other y)) y ys, ap one_if (is_same_itself y))),
-    on_items P ys (λ x more. h x (omega (arith, more, sum_by-cons (λ other. one_if (is_same other x)) y ys))))
+on_items P (y ∷ ys) h = (
+  h y (omega (arith, sum_by-cons (λ other. one_if (is_same other y)) y ys, ap one_if (is_same_itself y))),
+  on_items P ys (λ x more. h x (omega (arith, more, sum_by-cons (λ other. one_if (is_same other x)) y ys))),
+)
 
 on_stacks_from : (P : Place → Type 0) (stacks : List (Stack Place)) → ((x : Place) → 1 ≤ sum_by (λ stack. count_by (λ other. is_same other x) stack.items) stacks → P x) → OnStacks P stacks
 on_stacks_from P [] h = tt
-on_stacks_from P (stack ∷ stacks) h =
-    (on_items P stack.items (λ x more. h x (omega (arith, more, sum_by-cons (λ stack. count_by (λ other. is_same other x) stack.items) stack stacks))),
-    on_stacks_from P stacks (λ x more. h x (omega (arith, more, sum_by-cons (λ stack. count_by (λ other. is_same other x) stack.items) stack stacks))))
+on_stacks_from P (stack ∷ stacks) h = (
+  on_items P stack.items (λ x more. h x (omega (arith, more, sum_by-cons (λ stack. count_by (λ other. is_same other x) stack.items) stack stacks))),
+  on_stacks_from P stacks (λ x more. h x (omega (arith, more, sum_by-cons (λ stack. count_by (λ other. is_same other x) stack.items) stack stacks))),
+)
 
 -- what holds of each place that lies somewhere
 pub on_stacks : (P : Place → Type 0) (held : Holdings Place) → ((x : Place) → 1 ≤ lies held x → P x) → OnStacks P held.stacks

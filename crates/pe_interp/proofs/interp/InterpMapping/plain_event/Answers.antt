@@ -37,10 +37,10 @@ returns-in-Plain-clause-answer g c =
     let told = λ (it : Interp g.row.K.Denot). (held_of g.K.Sink.text g.K.Sink.faults it).told in
     let old = told c.args.self.now in
     let written : Adds old (trace_line scenario c.args.event c.args.traversal root) (told c.if-has.self) = elim c.if-has.branch [
-      then-has+in-Ok w ↦ subst (λ it. Adds old (trace_line scenario c.args.event c.args.traversal root) (told it)) (sym w.self-is)
-        (line_traced scenario c.args.event Plain c.args.traversal root old _ c.requires.sort (sym c.has.ensures ∙ w.if-has.true) w.in-Ok.ensures.ok w.in-Ok.ensures.faults)
+      | then-has+in-Ok w ↦ subst (λ it. Adds old (trace_line scenario c.args.event c.args.traversal root) (told it)) (sym w.self-is)
+          (line_traced scenario c.args.event Plain c.args.traversal root old _ c.requires.sort (sym c.has.ensures ∙ w.if-has.true) w.in-Ok.ensures.ok w.in-Ok.ensures.faults)
       | else-has w ↦ subst (λ it. Adds old (trace_line scenario c.args.event c.args.traversal root) (told it)) (sym w.self-is)
-        (line_untraced scenario c.args.event c.args.traversal root old (sym c.has.ensures ∙ w.if-has.false))
+          (line_untraced scenario c.args.event c.args.traversal root old (sym c.has.ensures ∙ w.if-has.false))
     ] in
     let same : c.if-has.self.globals.a ≡ c.args.self.now.globals.a = elim c.if-has.branch [ then-has+in-Ok w ↦ ap (λ (it : Interp g.row.K.Denot). it.globals.a) w.self-is | else-has w ↦ ap (λ (it : Interp g.row.K.Denot). it.globals.a) w.self-is ] in
     let numbers : c.in-Plain.globals.now ≡ c.in-Plain.numbers-in-Plain-1-own.given.0 = search rules in

@@ -44,14 +44,14 @@ returns-in-Vertex-clause-answer g c =
     let told = λ (it : Interp g.row.K.Denot). (held_of g.K.Sink.text g.K.Sink.faults it).told in
     let old = told c.args.self.now in
     let written : Adds old (trace_line scenario c.args.event c.args.traversal c.args.at.now) (told c.if-has.self) = elim c.if-has.branch [
-      then-has+in-Ok w ↦ subst (λ it. Adds old (trace_line scenario c.args.event c.args.traversal c.args.at.now) (told it)) (sym w.self-is)
-        (line_traced scenario c.args.event Vertex c.args.traversal c.args.at.now old _ c.requires.sort (sym c.has.ensures ∙ w.if-has.true) w.in-Ok.ensures.ok w.in-Ok.ensures.faults)
+      | then-has+in-Ok w ↦ subst (λ it. Adds old (trace_line scenario c.args.event c.args.traversal c.args.at.now) (told it)) (sym w.self-is)
+          (line_traced scenario c.args.event Vertex c.args.traversal c.args.at.now old _ c.requires.sort (sym c.has.ensures ∙ w.if-has.true) w.in-Ok.ensures.ok w.in-Ok.ensures.faults)
       | else-has w ↦ subst (λ it. Adds old (trace_line scenario c.args.event c.args.traversal c.args.at.now) (told it)) (sym w.self-is)
-        (line_untraced scenario c.args.event c.args.traversal c.args.at.now old (sym c.has.ensures ∙ w.if-has.false))
+          (line_untraced scenario c.args.event c.args.traversal c.args.at.now old (sym c.has.ensures ∙ w.if-has.false))
     ] in
     let same : c.if-has.self.globals.a ≡ c.args.self.now.globals.a = elim c.if-has.branch [ then-has+in-Ok w ↦ ap (λ (it : Interp g.row.K.Denot). it.globals.a) w.self-is | else-has w ↦ ap (λ (it : Interp g.row.K.Denot). it.globals.a) w.self-is ] in
     let here : sight c.eval-answer.new.view ≡ vertex_sight fields_numbers c.args.at.now c.in-Vertex.vertex.now c.in-Vertex.parents.now c.in-Vertex.parent.now =
-        ap sight c.in-Vertex.is ∙ ap (λ place. vertex_sight fields_numbers place c.in-Vertex.vertex.now c.in-Vertex.parents.now c.in-Vertex.parent.now) (rw c.in-Vertex.is at c.eval-answer.ensures.lawful.place) in
+    ap sight c.in-Vertex.is ∙ ap (λ place. vertex_sight fields_numbers place c.in-Vertex.vertex.now c.in-Vertex.parents.now c.in-Vertex.parent.now) (rw c.in-Vertex.is at c.eval-answer.ensures.lawful.place) in
     let left : vertex_sight fields_numbers c.args.at.now c.in-Vertex.vertex.now c.in-Vertex.parents.now c.in-Vertex.parent.now ≡ vertex_sight fields_numbers c.args.at.now c.in-Vertex.vertex-1-own.given.0 c.in-Vertex.parents-1-own.given.0 c.in-Vertex.parent-1-own.given.0 = search rules in
     let numbers : c.in-Vertex.globals.now ≡ c.in-Vertex.numbers-in-Vertex-1-own.given.0 = search rules in
     let new : Held Scenario = record {
