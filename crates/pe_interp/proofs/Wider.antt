@@ -91,7 +91,7 @@ module _ (reach wide : Reach) (wider : IsWider reach wide) where
   stmt_step : (y : Stmt-F ((stmt : Stmt) × StmtHolds stmt)) → Implies (stmt_answers reach (bare_stmt y)) (stmt_answers wide (bare_stmt y))
   stmt_step (Stmt-F.Assign slot expr) = both _ _ _ _ (wider.slot slot) (expr_wider expr)
   stmt_step (Stmt-F.Mark trigger vertex) = wider.vertex vertex
-  stmt_step (Stmt-F.Print values) = exprs_wider values.items
+  stmt_step (Stmt-F.Print values) = exprs_wider values
   stmt_step (Stmt-F.If test body) = both _ _ _ _ (expr_wider test) (body_step body)
   stmt_step (Stmt-F.IfElse test body other) = both _ _ _ _ (both _ _ _ _ (expr_wider test) (body_step body)) (body_step other)
 
