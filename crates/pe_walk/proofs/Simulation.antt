@@ -10,3 +10,5 @@ pub mod Putting
 pub mod FoundKinds
 -- at a load it is the one foreseen
 pub mod LoadedKinds
+-- the steps on which the simulation rests, as statements
+pub mod Leaves
