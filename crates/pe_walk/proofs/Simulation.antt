@@ -10,5 +10,9 @@ pub mod Putting
 pub mod FoundKinds
 -- at a load it is the one foreseen
 pub mod LoadedKinds
+-- the core logs nothing
+pub mod Silent
 -- the steps on which the simulation rests, as statements
 pub mod Leaves
+-- a cell is counted; events of a traversal as a whole
+pub mod Counts

@@ -145,19 +145,19 @@ pub record Stands (axes : ℕ) (o : Outlook) (st : Stage) (t : Tokens) : Type 0 
   pub entered_distinct : (cell : Place) → times st.entered cell ≤ 1
   pub ahead : CellsAhead o st.ahead t
 
--- a vertex of the working state is as foreseen from its first touch to its last
-pub record IsFair (f : Foresight) (greatest : ℕ) (w : Working) (vertex : Place) : Type 0 where
+-- what is found of a vertex is as foreseen from its first touch to its last
+pub record IsFair (f : Foresight) (greatest : ℕ) (vertex : Place) (found : Option VertexRecord) : Type 0 where
   pub it : VertexRecord
-  pub there : at w.vertices vertex ≡ Some it
+  pub there : found ≡ Some it
   pub kind : it.kind ≡ f.kind vertex
   pub old : is_old it.state ≡ f.old vertex
   pub new : is_new it.state ≡ f.new vertex
   pub finest : IsFinest greatest vertex.level it.state
 
--- a vertex that was written: new has become old, and it is settled
-pub record IsWritten (f : Foresight) (greatest : ℕ) (w : Working) (vertex : Place) : Type 0 where
+-- what is found of a vertex that was written: new has become old, and it is settled
+pub record IsWritten (f : Foresight) (greatest : ℕ) (vertex : Place) (found : Option VertexRecord) : Type 0 where
   pub it : VertexRecord
-  pub there : at w.vertices vertex ≡ Some it
+  pub there : found ≡ Some it
   pub old : is_old it.state ≡ f.new vertex
   pub settled : is_settled it.state ≡ true
   pub finest : IsFinest greatest vertex.level it.state
@@ -178,8 +178,8 @@ pub record IsIdle (it : VertexRecord) : Type 0 where
 pub record Fair (axes greatest : ℕ) (o : Outlook) (f : Foresight) (st : Stage) (w : Working) (t : Tokens) : Type 0 where
   pub loads : (vertex : Place) → loads_of w vertex ≡ t.met vertex
   pub unread : (vertex : Place) → t.met vertex ≡ 0 → at w.vertices vertex ≡ f.start vertex
-  pub live : (vertex : Place) → o.counts vertex ≡ true → IsLive o t vertex → IsFair f greatest w vertex
-  pub written : (vertex : Place) → 1 ≤ times (items_at t.vertices (output_stack o.swapped)) vertex → 1 ≤ t.met vertex → IsWritten f greatest w vertex
+  pub live : (vertex : Place) → o.counts vertex ≡ true → IsLive o t vertex → IsFair f greatest vertex (at w.vertices vertex)
+  pub written : (vertex : Place) → 1 ≤ times (items_at t.vertices (output_stack o.swapped)) vertex → 1 ≤ t.met vertex → IsWritten f greatest vertex (at w.vertices vertex)
   pub gone : (vertex : Place) → o.counts vertex ≡ true → 1 ≤ t.met vertex → occurs t vertex ≡ 0 → at w.vertices vertex ≡ None
   pub cells_there : (cell : Place) → is_some (at w.cells cell) ≡ (nat_lt 0 (lies t.cells cell) || nat_lt 0 (times st.entered cell))
   pub parent_flags : (k : ℕ) → k < 2 ^ axes → is_some (at_corner w.hanging st.parent k) ≡ not (o.counts (corner axes st.parent k))

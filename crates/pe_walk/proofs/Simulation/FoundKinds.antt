@@ -20,7 +20,7 @@ use Rattle.pe_base.specs.Walk.Working.{Working, state_of, vertex_at, record_at, 
 use Rattle.pe_base.proofs.Tree.PlaceLaws.{bits-suc}
 use Rattle.pe_base.proofs.Walk.CarrierLaws.{carriers_are_parents}
 use Rattle.pe_adapt.specs.Touches.{offset_number, corner_number, state_in_hand}
-use Rattle.pe_walk.specs.Standing.{Foresight, IsFair, IsIdle}
+use Rattle.pe_walk.specs.Standing.{Foresight}
 
 -- a test of the carriers of a corner that agrees with another at all corners of the parent
 pub any-corners : (p q : Place → Bool) (axes : ℕ) (cell : Place) (xs : List Place) → AllByRecursion (IsCornerOf axes cell) xs → ((k : ℕ) → k < 2 ^ axes → p (corner axes cell k) ≡ q (corner axes cell k)) → list_any p xs ≡ list_any q xs

@@ -49,7 +49,7 @@ module _ {Plan : Type 0} (set : Setting Plan) (o : Outlook) (f : Foresight) (see
 
   module _ (greatest : ℕ) (st : Stage) (w : Working) (t : Tokens) (stands : Stands set.axes o st t) (fair : Fair set.axes greatest o f st w t) where
     -- a corner of the parent that counts is there, as foreseen
-    pub parent_fair : (j : ℕ) → j < 2 ^ set.axes → o.counts (corner set.axes st.parent j) ≡ true → IsFair f greatest w (corner set.axes st.parent j)
+    pub parent_fair : (j : ℕ) → j < 2 ^ set.axes → o.counts (corner set.axes st.parent j) ≡ true → IsFair f greatest (corner set.axes st.parent j) (at w.vertices (corner set.axes st.parent j))
     parent_fair j small on = fair.live (corner set.axes st.parent j) on (inl (stands.parents j small on))
 
     -- and one that does not is not
@@ -57,7 +57,7 @@ module _ {Plan : Type 0} (set : Setting Plan) (o : Outlook) (f : Foresight) (see
     parent_absent j small off = fair.unread (corner set.axes st.parent j) (stands.unmet (corner set.axes st.parent j) off) ∙ (idle_if (corner set.axes st.parent j) off).0
 
     -- by the map: a test of states that agrees with what is foreseen
-    by_map : (test : State → Bool) (seen : Place → Bool) → ((vertex : Place) → o.counts vertex ≡ false → seen vertex ≡ false) → ((vertex : Place) (it : IsFair f greatest w vertex) → test it.it.state ≡ seen vertex)
+    by_map : (test : State → Bool) (seen : Place → Bool) → ((vertex : Place) → o.counts vertex ≡ false → seen vertex ≡ false) → ((vertex : Place) (it : IsFair f greatest vertex (at w.vertices vertex)) → test it.it.state ≡ seen vertex)
         → (j : ℕ) → j < 2 ^ set.axes → passes test (state_of w (corner set.axes st.parent j)) ≡ seen (corner set.axes st.parent j)
     by_map test seen idle live j small = by (o.counts (corner set.axes st.parent j)) refl
       where
@@ -69,7 +69,7 @@ module _ {Plan : Type 0} (set : Setting Plan) (o : Outlook) (f : Foresight) (see
             ap (λ found. passes test (option_map (λ (v : VertexRecord). v.state) found)) (parent_absent j small off) ∙ sym (idle (corner set.axes st.parent j) off)
 
     -- by the corners in hand
-    in_hand : (test : State → Bool) (seen : Place → Bool) → ((vertex : Place) → o.counts vertex ≡ false → seen vertex ≡ false) → ((vertex : Place) (it : IsFair f greatest w vertex) → test it.it.state ≡ seen vertex)
+    in_hand : (test : State → Bool) (seen : Place → Bool) → ((vertex : Place) → o.counts vertex ≡ false → seen vertex ≡ false) → ((vertex : Place) (it : IsFair f greatest vertex (at w.vertices vertex)) → test it.it.state ≡ seen vertex)
         → ((it : VertexRecord) → IsIdle it → test it.state ≡ false) → set.axes ≤ length st.parent.pos
         → (j : ℕ) → j < 2 ^ set.axes → passes test (state_in_hand st.parent (records_of set.axes w st.parent) (corner set.axes st.parent j)) ≡ seen (corner set.axes st.parent j)
     in_hand test seen idle live hung long j small =
