@@ -14,6 +14,6 @@ pub use corner::{load_corner, store_corner};
 pub use kinds::{corner_marks, marks_of};
 pub use load::load_as;
 pub use spot::{Spot, corner_place};
-pub use stop::WalkStop;
+pub use stop::{Halt, WalkStop};
 pub use store::store_as;
 pub use touch::{load_marked, store_placed};

@@ -1,6 +1,7 @@
 ghost use Rattle.std.specs.Prelude.{◌≡◌};
+ghost use Rattle.pe_base.specs.declared.place.Place.{Place as APlace};
 ghost use Rattle.pe_hang.specs.Follows.{failure_at};
-ghost use Rattle.pe_adapt.specs.Stops.{failure_of};
+ghost use Rattle.pe_adapt.specs.Stops.{failure_of, failure_of_halt};
 
 use pe_base::{Event, Place, Stop};
 
@@ -25,6 +26,29 @@ pub enum WalkStop {
     Memory,
 }
 
+/// Why a walk halts. The place is known apart from it.
+#[derive(Clone, Copy, Debug, PartialEq, Eq)]
+pub enum Halt {
+    /// An event stopped it.
+    Event(Stop, Event),
+    /// One cell more was to be walked than may be.
+    CellLimit,
+    /// There was no memory.
+    Memory,
+}
+
+impl Halt {
+    /// The halt by an event.
+    pub fn of_event(stop: Stop, event: Event) -> Halt
+        ensures { (at : APlace) → failure_of_halt at result ≡ failure_at event at stop }
+    {
+        match stop {
+            Stop::Memory => Halt::Memory,
+            Stop::Overflow | Stop::Division | Stop::Sink => Halt::Event(stop, event),
+        }
+    }
+}
+
 impl WalkStop {
     /// The stop of an event at a place.
     pub fn of_event(stop: Stop, event: Event, at: Place) -> WalkStop
@@ -33,6 +57,17 @@ impl WalkStop {
         match stop {
             Stop::Memory => WalkStop::Memory,
             Stop::Overflow | Stop::Division | Stop::Sink => WalkStop::Event { stop, event, at },
+        }
+    }
+
+    /// A halt at a place.
+    pub fn of_halt(halt: Halt, at: Place) -> WalkStop
+        ensures { failure_of result ≡ failure_of_halt at halt }
+    {
+        match halt {
+            Halt::Event(stop, event) => WalkStop::Event { stop, event, at },
+            Halt::CellLimit => WalkStop::CellLimit { at },
+            Halt::Memory => WalkStop::Memory,
         }
     }
 }

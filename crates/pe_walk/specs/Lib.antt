@@ -26,3 +26,7 @@ pub mod Examples
 pub mod CoreKeeps
 -- what holds between the steps of a traversal
 pub mod Standing
+-- the stacks of a traversal's streams
+pub mod Streams
+-- what the calls of a traversal have in hand, as the machine sees it
+pub mod InHand

@@ -6,5 +6,8 @@ pub mod laws;
 mod machine_rows;
 #[cfg(test)]
 mod plain;
+mod progress;
 #[cfg(test)]
 mod rows;
+mod settings;
+mod walked;
