@@ -10,6 +10,8 @@ pub mod Putting
 pub mod FoundKinds
 -- at a load it is the one foreseen
 pub mod LoadedKinds
+-- what is put back at one level changes nothing at others
+pub mod Levels
 -- the core logs nothing
 pub mod Silent
 -- the steps on which the simulation rests, as statements
