@@ -18,3 +18,5 @@ pub mod Silent
 pub mod Leaves
 -- a cell is counted; events of a traversal as a whole
 pub mod Counts
+-- a corner is stored
+pub mod Stores

@@ -51,6 +51,17 @@ turned-then {X = X} course f next = go course.ending
     go (halts cause) = ap₂ (λ a b. behind a b (ends (halts cause))) (append-nil course.text) (append-nil course.log)
     go stuck = ap₂ (λ a b. behind a b (ends stuck)) (append-nil course.text) (append-nil course.log)
 
+-- courses one after another, however they are grouped
+pub then-grouped : {X Y Z : Type 0} (first : Course X) (next : X → Course Y) (last : Y → Course Z) → and_then (and_then first next) last ≡ and_then first (λ x. and_then (next x) last)
+then-grouped {X = X} first next last = go first.ending
+  where
+    go : (e : Ending X) → and_then (behind first.text first.log (from e next)) last ≡ behind first.text first.log (from e (λ x. and_then (next x) last))
+    go (done x) =
+        let rest = from (next x).ending last in
+        ap₂ (λ a b. record { text = a; log = b; ending = rest.ending }) (append_assoc first.text (next x).text rest.text) (append_assoc first.log (next x).log rest.log)
+    go (halts cause) = ap₂ (λ a b. record { text = a; log = b; ending = halts cause }) (append-nil (first.text ++ [])) (append-nil (first.log ++ []))
+    go stuck = ap₂ (λ a b. record { text = a; log = b; ending = stuck }) (append-nil (first.text ++ [])) (append-nil (first.log ++ []))
+
 module _ (room : Push → Type 0) where
   pub record Matches {W M : Type 0} (image : W → M) (model : Course W) (machine : Course M) : Type 0 where
     pub text : machine.text ≡ model.text
@@ -87,6 +98,19 @@ module _ (room : Push → Type 0) where
       go (done r) h = record { text = refl; ending = ap done (same r h); log = logged [] refl }
       go (halts cause) h = record { text = refl; ending = refl; log = logged [] refl }
       go stuck h = record { text = refl; ending = refl; log = logged [] refl }
+
+  -- one core, whose result is put back at once, and by a step that matches
+  pub core-then-matches : {R W M : Type 0} (image : W → M) (core : Course R) (a : R → W) (b : R → Course M) → core.log ≡ [] → ((r : R) → core.ending ≡ done r → Matches image (at_once (a r)) (b r))
+      → Matches image (course_map a core) (and_then core b)
+  core-then-matches {R = R} image core a b silent same = go core.ending refl
+    where
+      logged : (c : List Push) → Each room c → Each room (core.log ++ c)
+      logged c h = subst (λ x. Each room (x ++ c)) (sym silent) h
+
+      go : (e : Ending R) → core.ending ≡ e → Matches image (behind core.text core.log (from e (λ r. at_once (a r)))) (behind core.text core.log (from e b))
+      go (done r) h = let m = same r h in record { text = ap (λ x. core.text ++ x) m.text; ending = m.ending; log = logged (b r).log m.log }
+      go (halts cause) h = record { text = refl; ending = refl; log = logged [] tt }
+      go stuck h = record { text = refl; ending = refl; log = logged [] tt }
 
   -- A step of the model, of the machine and of the tokens: where it holds and the tokens go on, model and machine match, and
   -- what holds goes on.
