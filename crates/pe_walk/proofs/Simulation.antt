@@ -12,6 +12,8 @@ pub mod FoundKinds
 pub mod LoadedKinds
 -- what is put back at one level changes nothing at others
 pub mod Levels
+-- whether the children of a cell are walked, and of which kind
+pub mod Below
 -- the core logs nothing
 pub mod Silent
 -- the steps on which the simulation rests, as statements

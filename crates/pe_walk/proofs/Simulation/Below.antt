@@ -1,0 +1,110 @@
+-- Whether the children of a cell are walked, and of which kind they are: by the cell's corners in hand it is as foreseen.
+use Rattle.std.proofs.Common.{◌≡◌, ℕ, ◌+◌, ◌-◌, ◌^◌, ◌<◌, ◌≤◌, ◌≢◌, Bool, true, false, not, ◌==◌, ◌||◌, List, [], ◌∷◌, map, Option, Some, refl, sym, ap, ap₂, subst, ◌∙◌, inl, inr, arith}
+use Rattle.std.specs.Prelude.{if◌then◌else◌, is_some}
+use Rattle.std.specs.Option.{unwrap_or}
+use Rattle.std.specs.List.{list_any, range_with_len}
+use Rattle.std.proofs.lemmas.Bool.{eqb-true, eqb-false}
+use Rattle.pe_base.specs.declared.place.Place.{Place}
+use Rattle.pe_base.specs.declared.kind.Kind.{Kind}
+use Rattle.pe_base.specs.declared.kind.Kind.TheVariants.{Kept, Born, Dying, Hanging}
+use Rattle.pe_base.specs.Tree.Places.{corner, corners, parent_of}
+use Rattle.pe_base.specs.Life.States.{is_old, is_new}
+use Rattle.pe_base.specs.Life.Kinds.{kind_from, is_hanging}
+use Rattle.pe_base.specs.Acts.Effects.{VertexRecord}
+use Rattle.pe_base.specs.Walk.Maps.{at}
+use Rattle.pe_base.specs.Walk.Core.{Setting}
+use Rattle.pe_base.specs.Walk.Working.{Working, no_vertex, record_at, records_of, family_of}
+use Rattle.pe_base.specs.Walk.Touches.{kind_below, kind_of_children}
+use Rattle.pe_base.proofs.Lists.{Each}
+use Rattle.pe_base.proofs.Walk.Families.{Each-range}
+use Rattle.pe_base.proofs.Walk.Slots.{is_hung}
+use Rattle.pe_walk.specs.Machine.{Machine, kind_of_cell}
+use Rattle.pe_walk.specs.Tokens.{Outlook, Tokens}
+use Rattle.pe_walk.specs.Standing.{Foresight, Foresees, Outset, Stage, IsStage, Stands, Fair, Holds, IsOutset, IsFair, IsIdle}
+use Rattle.pe_walk.proofs.Simulation.LoadedKinds.{found_stored, idle_if}
+
+-- a record's marks are those foreseen of a vertex
+pub record IsMarked (f : Foresight) (vertex : Place) (it : VertexRecord) : Type 0 where
+  pub old : is_old it.state ≡ f.old vertex
+  pub new : is_new it.state ≡ f.new vertex
+
+module _ {Plan : Type 0} (set : Setting Plan) (o : Outlook) (f : Foresight) (see : Foresees set o f) where
+  -- a corner in hand: fair where it counts, and idle where it does not
+  pub corner_marked : (greatest : ℕ) (w : Working) (cell : Place) (k : ℕ)
+      → (o.counts (corner set.axes cell k) ≡ true → (is_hung w cell k ≡ false) × IsFair f greatest (corner set.axes cell k) (at w.vertices (corner set.axes cell k)))
+      → (o.counts (corner set.axes cell k) ≡ false → IsIdle (record_at set.axes w cell k))
+      → IsMarked f (corner set.axes cell k) (record_at set.axes w cell k)
+  corner_marked greatest w cell k on off = by (o.counts (corner set.axes cell k)) refl
+    where
+      by : (b : Bool) → o.counts (corner set.axes cell k) ≡ b → IsMarked f (corner set.axes cell k) (record_at set.axes w cell k)
+      by true counts =
+          let here = on counts in
+          let found : record_at set.axes w cell k ≡ here.1.it = found_stored set o f see w cell k here.0 ∙ ap (λ x. unwrap_or x no_vertex) here.1.there in
+          record { old = ap (λ (v : VertexRecord). is_old v.state) found ∙ here.1.old; new = ap (λ (v : VertexRecord). is_new v.state) found ∙ here.1.new }
+      by false hangs =
+          let here = off hangs in
+          let none = idle_if set o f see (corner set.axes cell k) hangs in
+          record { old = here.old ∙ sym none.1; new = here.new ∙ sym none.2 }
+
+  -- the kind of the children, by the marks of all corners
+  pub below_by_marks : (w : Working) (cell : Place) → 1 ≤ cell.level → ((k : ℕ) → k < 2 ^ set.axes → IsMarked f (corner set.axes cell k) (record_at set.axes w cell k))
+      → kind_below (records_of set.axes w cell) ≡ f.below cell
+  below_by_marks w cell deep marked =
+      ap₂ kind_from (olds (range_with_len 0 (2 ^ set.axes)) (Each-range (λ k. is_old (record_at set.axes w cell k).state ≡ f.old (corner set.axes cell k)) 0 (2 ^ set.axes) (λ k from to. (marked k (omega arith)).old)))
+      (news (range_with_len 0 (2 ^ set.axes)) (Each-range (λ k. is_new (record_at set.axes w cell k).state ≡ f.new (corner set.axes cell k)) 0 (2 ^ set.axes) (λ k from to. (marked k (omega arith)).new)))
+      ∙ sym (see.cell_below cell deep)
+    where
+      olds : (ks : List ℕ) → Each (λ k. is_old (record_at set.axes w cell k).state ≡ f.old (corner set.axes cell k)) ks
+          → list_any (λ it. is_old it.state) (map (record_at set.axes w cell) ks) ≡ list_any f.old (map (corner set.axes cell) ks)
+      olds [] h = refl
+      olds (k ∷ ks) h = ap₂ (λ a b. a || b) h.0 (olds ks h.1)
+
+      news : (ks : List ℕ) → Each (λ k. is_new (record_at set.axes w cell k).state ≡ f.new (corner set.axes cell k)) ks
+          → list_any (λ it. is_new it.state) (map (record_at set.axes w cell) ks) ≡ list_any f.new (map (corner set.axes cell) ks)
+      news [] h = refl
+      news (k ∷ ks) h = ap₂ (λ a b. a || b) h.0 (news ks h.1)
+
+module _ {Plan : Type 0} (set : Setting Plan) (e : Outset) (walked : Place → Bool) (is : IsOutset set e walked) (st : Stage) (w : Working) (t : Tokens) (h : Holds set e st w t) where
+  -- the corners of the parent are marked as foreseen
+  pub parents_marked : (k : ℕ) → k < 2 ^ set.axes → IsMarked e.foresight (corner set.axes st.parent k) (record_at set.axes w st.parent k)
+  parents_marked k small =
+      corner_marked set e.outlook e.foresight is.foresees (set.rules.greatest set.plan) w st.parent k
+      (λ on. (h.fair.parent_flags k small ∙ ap not on, h.fair.live (corner set.axes st.parent k) on (inl (h.stands.parents k small on))))
+      (h.fair.parents k small)
+
+  -- and so are the cell's own corners in hand
+  pub mine_marked : IsStage set.axes e.outlook st → (k : ℕ) → st.from ≤ k → k < 2 ^ set.axes → is_hung w st.cell k ≡ not (e.outlook.counts (corner set.axes st.cell k))
+      → IsMarked e.foresight (corner set.axes st.cell k) (record_at set.axes w st.cell k)
+  mine_marked stage k from small flag =
+      corner_marked set e.outlook e.foresight is.foresees (set.rules.greatest set.plan) w st.cell k
+      (λ on. (flag ∙ ap not on, h.fair.live (corner set.axes st.cell k) on (inl (h.stands.mine k from small on).0)))
+      (h.fair.mine k from small)
+
+  -- the kind of the stage's cell, as the model and the machine find it
+  pub record FindsCell : Type 0 where
+    pub by_map : kind_of_children set w st.parent ≡ e.foresight.below st.parent
+    pub by_hand : (if st.cell.level == 1 then (if set.traversal == 1 then Born else Kept) else kind_below (records_of set.axes w st.parent)) ≡ e.foresight.below st.parent
+
+  pub cell_found : IsStage set.axes e.outlook st → FindsCell
+  cell_found stage = record {
+    by_map = by_level (st.parent.level == 0) refl;
+    by_hand = ap (λ b. if b then (if set.traversal == 1 then Born else Kept) else kind_below (records_of set.axes w st.parent)) (levels (st.cell.level == 1) (st.parent.level == 0) refl refl) ∙ by_level (st.parent.level == 0) refl;
+  }
+    where
+      up : st.parent.level + 1 ≡ st.cell.level
+      up = let one : st.cell.level - 1 ≡ st.parent.level = ap (λ (p : Place). p.level) stage.above in omega (arith, one, stage.deep)
+
+      levels : (b c : Bool) → (st.cell.level == 1) ≡ b → (st.parent.level == 0) ≡ c → (st.cell.level == 1) ≡ (st.parent.level == 0)
+      levels true true p q = p ∙ sym q
+      levels false false p q = p ∙ sym q
+      levels true false p q = let one = eqb-true st.cell.level 1 p in let other = eqb-false st.parent.level 0 q in absurd (other (omega (arith, up, one)))
+      levels false true p q = let one = eqb-false st.cell.level 1 p in let other = eqb-true st.parent.level 0 q in absurd (one (omega (arith, up, other)))
+
+      by_level : (b : Bool) → (st.parent.level == 0) ≡ b → (if b then (if set.traversal == 1 then Born else Kept) else kind_below (records_of set.axes w st.parent)) ≡ e.foresight.below st.parent
+      by_level true q = sym (is.foresees.root_below st.parent (eqb-true st.parent.level 0 q))
+      by_level false q =
+          let other = eqb-false st.parent.level 0 q in
+          below_by_marks set e.outlook e.foresight is.foresees w st.parent (deep st.parent.level other) parents_marked
+        where
+          deep : (n : ℕ) → n ≢ 0 → 1 ≤ n
+          deep n other = omega (arith, other)
