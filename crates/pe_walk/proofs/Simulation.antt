@@ -20,5 +20,7 @@ pub mod Silent
 pub mod Leaves
 -- a cell is counted; events of a traversal as a whole
 pub mod Counts
+-- what loads and stores share
+pub mod Shared
 -- a corner is stored
 pub mod Stores

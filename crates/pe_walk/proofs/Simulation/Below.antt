@@ -39,7 +39,7 @@ module _ {Plan : Type 0} (set : Setting Plan) (o : Outlook) (f : Foresight) (see
       by : (b : Bool) → o.counts (corner set.axes cell k) ≡ b → IsMarked f (corner set.axes cell k) (record_at set.axes w cell k)
       by true counts =
           let here = on counts in
-          let found : record_at set.axes w cell k ≡ here.1.it = found_stored set o f see w cell k here.0 ∙ ap (λ x. unwrap_or x no_vertex) here.1.there in
+          let found : record_at set.axes w cell k ≡ here.1.it = found_stored set.axes w cell k here.0 ∙ ap (λ x. unwrap_or x no_vertex) here.1.there in
           record { old = ap (λ (v : VertexRecord). is_old v.state) found ∙ here.1.old; new = ap (λ (v : VertexRecord). is_new v.state) found ∙ here.1.new }
       by false hangs =
           let here = off hangs in

@@ -28,6 +28,10 @@ use Rattle.pe_walk.proofs.Unwalked.{cell_four}
 use Rattle.pe_walk.specs.Standing.{Foresight, Foresees, IsForeseen, Outset, IsOutset, Stage, IsStage, Holds, Stands, Fair, IsFair, IsIdle, IsLive, KindsAreFound}
 use Rattle.pe_walk.proofs.Simulation.FoundKinds.{kind_by-foreseen, state_in_hand-corner}
 
+-- a corner that does not hang is found under its place, also by its number
+pub found_stored : (axes : ℕ) (w : Working) (cell : Place) (k : ℕ) → is_hung w cell k ≡ false → record_at axes w cell k ≡ vertex_at w (corner axes cell k)
+found_stored axes w cell k e = record_at-is axes w cell k ∙ ap (λ b. read w (slot_if axes b cell k)) e
+
 module _ {Plan : Type 0} (set : Setting Plan) (o : Outlook) (f : Foresight) (see : Foresees set o f) where
   -- what does not count hangs
   pub hangs_if : (vertex : Place) → o.counts vertex ≡ false → f.kind vertex ≡ Hanging
@@ -42,10 +46,6 @@ module _ {Plan : Type 0} (set : Setting Plan) (o : Outlook) (f : Foresight) (see
   -- and is not there before the traversal, and neither old nor new
   pub idle_if : (vertex : Place) → o.counts vertex ≡ false → (f.start vertex ≡ None) × (f.old vertex ≡ false) × (f.new vertex ≡ false)
   idle_if vertex off = subst (λ kind. IsForeseen set f vertex kind (f.start vertex)) (hangs_if vertex off) (see.foreseen vertex)
-
-  -- a corner that counts is found in the map, also by the number of the corner
-  pub found_stored : (w : Working) (cell : Place) (k : ℕ) → is_hung w cell k ≡ false → record_at set.axes w cell k ≡ vertex_at w (corner set.axes cell k)
-  found_stored w cell k e = record_at-is set.axes w cell k ∙ ap (λ b. read w (slot_if set.axes b cell k)) e
 
   module _ (greatest : ℕ) (st : Stage) (w : Working) (t : Tokens) (stands : Stands set.axes o st t) (fair : Fair set.axes greatest o f st w t) where
     -- a corner of the parent that counts is there, as foreseen
@@ -78,7 +78,7 @@ module _ {Plan : Type 0} (set : Setting Plan) (o : Outlook) (f : Foresight) (see
         by : (b : Bool) → o.counts (corner set.axes st.parent j) ≡ b → test (record_at set.axes w st.parent j).state ≡ seen (corner set.axes st.parent j)
         by true on =
             let it = parent_fair j small on in
-            ap (λ (v : VertexRecord). test v.state) (found_stored w st.parent j (fair.parent_flags j small ∙ ap not on) ∙ ap (λ found. unwrap_or found no_vertex) it.there)
+            ap (λ (v : VertexRecord). test v.state) (found_stored set.axes w st.parent j (fair.parent_flags j small ∙ ap not on) ∙ ap (λ found. unwrap_or found no_vertex) it.there)
             ∙ live (corner set.axes st.parent j) it
         by false off = hung (record_at set.axes w st.parent j) (fair.parents j small off) ∙ sym (idle (corner set.axes st.parent j) off)
 
