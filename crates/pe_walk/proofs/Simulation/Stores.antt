@@ -2,3 +2,7 @@
 
 -- the last store of a vertex
 pub mod Lasts
+-- what it does to the places
+pub mod Places
+-- after it the places stand well, and counts stay small
+pub mod Standing
