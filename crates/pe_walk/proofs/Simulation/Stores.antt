@@ -6,3 +6,5 @@ pub mod Lasts
 pub mod Places
 -- after it the places stand well, and counts stay small
 pub mod Standing
+-- what becomes of the vertex
+pub mod Fates
