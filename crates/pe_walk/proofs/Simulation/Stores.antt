@@ -8,3 +8,5 @@ pub mod Places
 pub mod Standing
 -- what becomes of the vertex
 pub mod Fates
+-- what is left in the working state
+pub mod Leaving
