@@ -32,3 +32,9 @@ pub mod TraversalTraffic
 pub mod Short
 -- the traffic of a stack is the crossings there
 pub mod Crossings
+-- counts over lists
+pub mod CountLists
+-- the cells of a walk differ
+pub mod CellsApart
+-- the cells that are still to be entered
+pub mod CellsAhead

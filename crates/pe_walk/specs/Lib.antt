@@ -10,6 +10,8 @@ pub mod Takings
 pub mod TokenLaws
 -- a place is on one stack, or held, or nowhere
 pub mod Apart
+-- the cells that are still to be entered
+pub mod CellsAhead
 -- what the walk over places asks of a grid
 pub mod Outlooks
 -- streams in the order of grids

@@ -27,6 +27,7 @@ ghost use Rattle.pe_walk.specs.Outlooks.{ForecastFits, StoredFits};
 ghost use Rattle.pe_walk.specs.StreamLaws.{FitsTurned, StreamsAreOne, ReadsAreStreams, NextIsFormed, WritesAreStreams, TraversalOfAGrid};
 ghost use Rattle.pe_walk.specs.Traffic.{TrafficOfACell, TrafficOfATraversal, LoadsPerCell, CountsPerCell, TrafficIsCrossings, HangingLoads, FewVertices, StepsKeepCounting, BeginsCounting, StacksAreShort};
 ghost use Rattle.pe_walk.specs.Apart.{StepsKeepApart, BeginsApart, CornersByCounting};
+ghost use Rattle.pe_walk.specs.CellsAhead.{WalkedCellsDiffer, StepsKeepAhead, BeginsAhead, MovesItsCells};
 
 use pe_base::Effects;
 
@@ -125,6 +126,15 @@ pub fn grids_fit()
 pub fn places_stand_apart()
     ensures kept { StepsKeepApart }
     ensures begun { BeginsApart }
+{}
+
+/// The cells of a walk differ, so those that are still to be entered lie where they lay as the traversal began. The walk
+/// of a cell moves no cells but its own.
+pub fn cells_stand_apart()
+    ensures differ { WalkedCellsDiffer }
+    ensures kept { StepsKeepAhead }
+    ensures begun { BeginsAhead }
+    ensures moved { MovesItsCells }
 {}
 
 /// A corner comes from no stack to the first of the cells around it, and goes to none from the last.

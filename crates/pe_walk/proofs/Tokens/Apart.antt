@@ -70,7 +70,7 @@ map_some f None y e = absurd cc
 map_some f (Some x) y e = (x, refl, cc)
 
 -- what is taken was on top, or is new
-taken_was : (from : Option ℕ) (place : Place) (held after : Holdings Place) → taken from place held ≡ Some after
+pub taken_was : (from : Option ℕ) (place : Place) (held after : Holdings Place) → taken from place held ≡ Some after
     → ((from ≡ None) × ((q : Place) → lies after q ≡ lies held q)) ⊎ ((q : Place) → lies after q + one_if (is_same place q) ≡ lies held q)
 taken_was None place held after e = let same : lent held ≡ after = cc in inl (refl, (λ q. ap (λ h. lies h q) (sym same)))
 taken_was (Some s) place held after e = go (items_at held s) refl e
@@ -93,7 +93,7 @@ no_source None true s e = absurd cc
 no_source None false s e = (refl, refl)
 no_source (Some w) r s e = absurd cc
 
-one_more_is : (place q : Place) (f : Place → ℕ) → one_more place f q ≡ f q + one_if (is_same place q)
+pub one_more_is : (place q : Place) (f : Place → ℕ) → one_more place f q ≡ f q + one_if (is_same place q)
 one_more_is place q f = go (is_same place q) (f q)
   where
     go : (b : Bool) (n : ℕ) → (if b then n + 1 else n) ≡ n + one_if b
@@ -214,7 +214,7 @@ steps_keep_apart o dim = record {
 }
 
 -- where all other stacks are empty
-sum_only : {X : Type 0} (f : X → ℕ) (xs : List X) (i : ℕ) (d : X) → i < length xs → ((j : ℕ) → j ≢ i → f (get_or xs j d) ≡ 0) → sum_by f xs ≡ f (get_or xs i d)
+pub sum_only : {X : Type 0} (f : X → ℕ) (xs : List X) (i : ℕ) (d : X) → i < length xs → ((j : ℕ) → j ≢ i → f (get_or xs j d) ≡ 0) → sum_by f xs ≡ f (get_or xs i d)
 sum_only f [] i d h none = absurd (omega arith)
 sum_only f (x ∷ xs) zero d h none = sum_by-cons f x xs ∙ omega (arith, all_none f xs d (λ j. none (suc j) (λ e. omega (arith, e))))
   where

@@ -30,30 +30,10 @@ use Rattle.pe_walk.proofs.Tokens.Counting.{first_around}
 use Rattle.pe_walk.proofs.Tokens.Apart.{one_if, firsts}
 use Rattle.pe_walk.proofs.Tokens.Streams.{fits_turned}
 use Rattle.pe_walk.proofs.Tokens.DepotCounts.{count_none}
+use Rattle.pe_walk.proofs.Tokens.CountLists.{count-flat_map, count-reverse, count-map, count-both, count-not}
 use Rattle.pe_walk.proofs.Tokens.Traffic.{loads_length}
 use Rattle.pe_walk.proofs.Tokens.Short.{sum-both, sum-same, sum-times, turn_same, touches_of}
 use Rattle.pe_walk.proofs.Tests.{and_turned, and_twice, some_power}
-
--- counts over lists
-count-flat_map : {X Y : Type 0} (p : Y → Bool) (f : X → List Y) (xs : List X) → count_by p (flat_map f xs) ≡ sum_by (λ x. count_by p (f x)) xs
-count-flat_map p f [] = refl
-count-flat_map p f (x ∷ xs) = sum_by-append (λ y. one_if (p y)) (f x) (flat_map f xs) ∙ omega (arith, count-flat_map p f xs, sum_by-cons (λ z. count_by p (f z)) x xs)
-
-count-reverse : {X : Type 0} (p : X → Bool) (xs : List X) → count_by p (reverse xs) ≡ count_by p xs
-count-reverse p [] = refl
-count-reverse p (x ∷ xs) = ap (count_by p) (reverse-cons x xs) ∙ sum_by-append (λ y. one_if (p y)) (reverse xs) (x ∷ []) ∙ omega (arith, count-reverse p xs, sum_by-cons (λ y. one_if (p y)) x xs, sum_by-cons (λ y. one_if (p y)) x [])
-
-count-map : {X Y : Type 0} (p : Y → Bool) (f : X → Y) (xs : List X) → count_by p (map f xs) ≡ count_by (λ x. p (f x)) xs
-count-map p f [] = refl
-count-map p f (x ∷ xs) = omega (arith, sum_by-cons (λ y. one_if (p y)) (f x) (map f xs), count-map p f xs, sum_by-cons (λ y. one_if (p (f y))) x xs)
-
-count-both : {X : Type 0} (a b : X → Bool) (xs : List X) → count_by (λ x. a x && b x) xs ≡ count_by b (filter a xs)
-count-both a b [] = refl
-count-both a b (x ∷ xs) = sum_by-cons (λ y. one_if (a y && b y)) x xs ∙ go (a x) (count-both a b xs)
-  where
-    go : (c : Bool) → count_by (λ y. a y && b y) xs ≡ count_by b (filter a xs) → one_if (c && b x) + count_by (λ y. a y && b y) xs ≡ count_by b (cond c (x ∷ filter a xs) (filter a xs))
-    go true e = omega (arith, e, sum_by-cons (λ y. one_if (b y)) x (filter a xs))
-    go false e = omega (arith, e)
 
 -- each touch that passes a test is of one of the places
 by_places : (places : List Place) (q : Touch → Bool) (touches : List Touch) → Each (λ t. q t ≡ true → count_by (λ v. is_same v t.vertex) places ≡ 1) touches
@@ -201,14 +181,6 @@ traffic_is_crossings o walked greatest axis parity dim grown a b =
           ∙ sum-same (λ t. one_if (gives_to o s t)) (λ t. one_if (takes_from (turned o) s t)) (loads_of (turned o) greatest root) (Each-all _ (λ t. ap one_if (gives_by-turned o dim.1 s t)) (loads_of (turned o) greatest root))
           ∙ by_vertices (turned o) walked greatest dim (fits_turned o walked greatest dim grown) axis parity a b (first_vertices o greatest) once counting;
     }
-
-count-not : {X : Type 0} (p : X → Bool) (xs : List X) → count_by (λ x. not (p x)) xs + count_by p xs ≡ length xs
-count-not p [] = refl
-count-not p (x ∷ xs) = omega (arith, count-not p xs, sum_by-cons (λ y. one_if (not (p y))) x xs, sum_by-cons (λ y. one_if (p y)) x xs, either (p x))
-  where
-    either : (b : Bool) → one_if (not b) + one_if b ≡ 1
-    either true = refl
-    either false = refl
 
 pub hanging_loads : HangingLoads
 hanging_loads o walked greatest dim grown =
