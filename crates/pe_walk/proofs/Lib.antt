@@ -29,3 +29,6 @@ pub mod StreamOrders
 pub mod Computed
 -- the walk on stacks is the image of the walk by address
 pub mod Simulation
+-- # The walk in code
+-- a cell is counted, entered and left
+pub mod Visiting
