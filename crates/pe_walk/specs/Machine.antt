@@ -53,6 +53,10 @@ desk_of m = record { vertices = m.vertices; family = m.family }
 abbrev pub with_desk : Desk → Machine → Machine
 with_desk desk m = record m { vertices = desk.vertices; family = desk.family }
 
+-- corners become the parents, or there are none
+abbrev pub with_parents : List VertexRecord → Machine → Machine
+with_parents its m = record m { family = record m.family { parents = its } }
+
 module _ {Plan : Type 0} (set : Setting Plan) (ports : Ports) where
   -- a cell is counted
   abbrev pub within_limit : Place → Machine → Bool → Course Machine
@@ -161,10 +165,10 @@ module _ {Plan : Type 0} (set : Setting Plan) (ports : Ports) where
   abbrev pub plain : Event → Machine → Course Machine
   plain event m = course_map (λ list. record m { family = record m.family { list = list } }) (plain_event set event m.family.list)
 
-  -- a traversal: in the family there is the root's record, and there are no parents yet
+  -- a traversal: in the family there is the root's record, and before and after it there are no parents
   abbrev pub traverse : ℕ → Machine → Course Machine
   traverse greatest m =
       and_then (root_corners (2 ^ set.axes) [] m) (λ it.
-      and_then (plain BeginIteration (record it.1 { family = record it.1.family { parents = it.0 } })) (λ m.
+      and_then (plain BeginIteration (with_parents it.0 it.1)) (λ m.
       and_then (each (walk_cell greatest) (children set.axes (way set) root) m) (λ m.
-      and_then (plain EndIteration m) (λ m. give_up_all m.family.parents m))))
+      and_then (plain EndIteration m) (λ m. give_up_all m.family.parents (with_parents [] m)))))
