@@ -169,7 +169,7 @@ module _ (start_level : ℕ) (grid : Grid) (low : start_level ≤ grid.greatest)
   will_inside (suc zero) vertex t = t
   will_inside (suc (suc n)) vertex t = and_left (is_inside grid.axes vertex) _ t
 
-  counts_inside : (vertex : Place) → counts start_level grid vertex ≡ true → is_inside grid.axes vertex ≡ true
+  pub counts_inside : (vertex : Place) → counts start_level grid vertex ≡ true → is_inside grid.axes vertex ≡ true
   counts_inside vertex t = elim (stored_either vertex t) [
     | inl h ↦ and_left (is_inside grid.axes vertex) _ (sound.stored vertex h)
     | inr h ↦ will_inside vertex.level vertex h

@@ -14,6 +14,10 @@ pub mod LoadedKinds
 pub mod Levels
 -- whether the children of a cell are walked, and of which kind
 pub mod Below
+-- what has a carrier inside is inside
+pub mod Carried
+-- what is foreseen of a grid is a foresight
+pub mod Outsets
 -- the core logs nothing
 pub mod Silent
 -- the steps on which the simulation rests, as statements

@@ -32,3 +32,5 @@ pub mod Standing
 pub mod Streams
 -- what the calls of a traversal have in hand, as the machine sees it
 pub mod InHand
+-- a grid on stacks, and a traversal of it
+pub mod Gridded

@@ -14,17 +14,14 @@ use Rattle.pe_base.specs.Walk.Working.{Working, vertex_at, cell_at, record_at, f
 use Rattle.pe_base.specs.Walk.Touches as model
 use Rattle.pe_base.specs.Walk.Walk as walks
 use Rattle.pe_base.specs.Walk.Streams.{walked_cells}
-use Rattle.pe_stacks.specs.Grid.{input_stack, cell_input_stack}
 use Rattle.pe_hang.specs.InHand.{map_holdings}
 use Rattle.pe_walk.specs.Machine.{Machine, Ports}
 use Rattle.pe_walk.specs.Machine as machine
 use Rattle.pe_walk.specs.Tokens.{Outlook, Tokens}
+use Rattle.pe_walk.specs.Gridded.{ports_of}
 use Rattle.pe_walk.specs.Tokens as tokens
 use Rattle.pe_walk.specs.Standing.{Outset, Stage, per_cell, Holds, IsStage}
 use Rattle.pe_walk.proofs.Simulation.Matching.{Sim}
-
-abbrev pub ports_of : Bool → Ports
-ports_of swapped = record { input = input_stack swapped; cell_input = cell_input_stack swapped }
 
 -- # The stages one after another
 abbrev pub after_count : ℕ → Stage → Stage

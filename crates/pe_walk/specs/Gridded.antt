@@ -1,0 +1,77 @@
+-- A grid on the stacks of the machine of lists, and what a traversal makes of it.
+use Rattle.std.specs.Prelude.{◌≡◌, ◌⊎◌, ℕ, ℤ, ◌+◌, ◌^◌, ◌≤◌, Bool, not, ◌==◌, List, [], map, if◌then◌else◌}
+use Rattle.pe_base.specs.declared.tally.Tally.{Tally}
+use Rattle.pe_base.specs.Acts.Effects.{VertexRecord, AreLawful}
+use Rattle.pe_base.specs.Walk.Course.{Cause, Ending, done, halts, stuck, Course}
+use Rattle.pe_base.specs.Walk.Core.{Setting}
+use Rattle.pe_base.specs.Walk.Working.{no_tally}
+use Rattle.pe_base.specs.Walk.Grids.{Grid, StoredVertex, IsWellFormed}
+use Rattle.pe_base.specs.Walk.Streams.{vertex_stream, cell_stream}
+use Rattle.pe_base.specs.Walk.Walk as model
+use Rattle.pe_stacks.specs.Holdings.{Holdings, stack_count, items_at, CountsWithin}
+use Rattle.pe_stacks.specs.Grid.{input_stack, cell_input_stack}
+use Rattle.pe_walk.specs.Machine.{Machine, Ports}
+use Rattle.pe_walk.specs.Machine as machine
+use Rattle.pe_walk.specs.Outlooks.{IsNew}
+
+-- of a record on a stream what is stored: its kind means nothing between two traversals
+abbrev pub stored_of : VertexRecord → StoredVertex
+stored_of it = record { state = it.state; numbers = it.numbers }
+
+-- The input stacks hold a grid's streams, and nothing else lies anywhere or is out; the root's numbers and the mapping's
+-- list are in hand.
+pub record HoldsGrid (grid : Grid) (swapped : Bool) (m : Machine) : Type 0 where
+  pub stacks : stack_count m.vertices ≡ 10
+  pub cell_stacks : stack_count m.cells ≡ 2
+  pub vertices : (s : ℕ) → map stored_of (items_at m.vertices s) ≡ (if s == input_stack swapped then vertex_stream grid else [])
+  pub cells : (s : ℕ) → items_at m.cells s ≡ (if s == cell_input_stack swapped then cell_stream grid else [])
+  pub none_out : m.vertices.out ≡ 0
+  pub no_cell_out : m.cells.out ≡ 0
+  pub root : m.family.parent ≡ grid.root
+  pub list : m.family.list ≡ grid.list
+
+-- what is set fits the grid
+pub record IsTraversalOf {Plan : Type 0} (set : Setting Plan) (grid : Grid) : Type 0 where
+  pub lawful : AreLawful set.rules
+  pub axes : set.axes ≡ grid.axes
+  pub greatest : set.rules.greatest set.plan ≡ grid.greatest
+  pub start_level : set.start_level ≤ grid.greatest
+  pub traversal : set.traversal ≡ grid.finished + 1
+  pub max_cells : set.max_cells ≤ 4194304
+
+-- a traversal may begin
+pub record MayTurn {Plan : Type 0} (set : Setting Plan) (grid : Grid) (swapped : Bool) (m : Machine) : Type 0 where
+  pub fits : IsTraversalOf set grid
+  pub formed : IsNew grid ⊎ IsWellFormed grid
+  pub holds : HoldsGrid grid swapped m
+  pub counts : CountsWithin m.vertices (2 ^ 60)
+  pub cell_counts : CountsWithin m.cells (2 ^ 60)
+  pub tally : m.tally ≡ no_tally set.traversal
+
+-- what a traversal leaves: the next grid on the stacks, with input and output exchanged, and the same tally
+pub record HasTurned (swapped : Bool) (after : Grid × Tally) (m : Machine) : Type 0 where
+  pub formed : IsWellFormed after.0
+  pub holds : HoldsGrid after.0 (not swapped) m
+  pub tally : m.tally ≡ after.1
+
+-- model and machine end alike
+abbrev pub EndAlike : Bool → Ending (Grid × Tally) → Ending Machine → Type 0
+EndAlike swapped (done after) (done m) = HasTurned swapped after m
+EndAlike swapped (done after) (halts cause) = ⊥
+EndAlike swapped (done after) stuck = ⊥
+EndAlike swapped (halts cause) (done m) = ⊥
+EndAlike swapped (halts cause) (halts other) = cause ≡ other
+EndAlike swapped (halts cause) stuck = ⊥
+EndAlike swapped stuck other = ⊥
+
+-- A traversal on stacks is the walk by address: it adds the same text, and ends alike.
+pub record IsWalked {Plan : Type 0} (set : Setting Plan) (grid : Grid) (swapped : Bool) (course : Course Machine) : Type 0 where
+  pub text : course.text ≡ (model.traverse set grid).text
+  pub ending : EndAlike swapped (model.traverse set grid).ending course.ending
+
+abbrev pub ports_of : Bool → Ports
+ports_of swapped = record { input = input_stack swapped; cell_input = cell_input_stack swapped }
+
+abbrev pub StacksAreAddresses : Type 0 → Type 0
+StacksAreAddresses Plan = (set : Setting Plan) (grid : Grid) (swapped : Bool) (m : Machine) → MayTurn set grid swapped m
+    → IsWalked set grid swapped (machine.traverse set (ports_of swapped) grid.greatest m)
