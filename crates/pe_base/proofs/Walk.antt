@@ -12,3 +12,7 @@ pub mod Families
 pub mod CarrierLaws
 -- triggers and the state table
 pub mod TableLaws
+-- the results of courses, and what a course keeps
+pub mod Courses
+-- above the parent of a cell nothing changes
+pub mod Frames

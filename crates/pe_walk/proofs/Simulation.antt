@@ -28,3 +28,5 @@ pub mod Counts
 pub mod Shared
 -- a corner is stored
 pub mod Stores
+-- the walk of a cell, from its steps
+pub mod Cells

@@ -16,11 +16,8 @@ use Rattle.pe_base.proofs.Lists.{Each, map_same, Each-all}
 use Rattle.pe_base.proofs.Walk.MapLaws.{at-put}
 use Rattle.pe_base.proofs.Walk.Slots.{Slot, read, is_slot, slot_if, slot_of, is_hung, HangsSame, slot_of-same, record_at-is, SameBeside}
 use Rattle.pe_base.proofs.Walk.Families.{slots, slots_from, read-put_records, hangs-put_records, beside-put_records, family_of-put_family, own_of-put_own}
+pub use Rattle.pe_base.proofs.Walk.Frames.{levels_differ}
 use Rattle.pe_walk.proofs.Simulation.Putting.{IsOff, at-put_records}
-
--- places of two levels are two
-pub levels_differ : (a b : Place) → a.level ≢ b.level → is_same a b ≡ false
-levels_differ a b other = ap (λ t. t && is_same_pos a.pos b.pos) (ne_eqb a.level b.level other)
 
 -- corners of cells of two levels have two slots
 slots_apart : (axes : ℕ) (cell x : Place) (j k : ℕ) (b c : Bool) → cell.level ≢ x.level → is_slot (slot_if axes b cell j) (slot_if axes c x k) ≡ false

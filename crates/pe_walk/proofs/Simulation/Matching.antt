@@ -4,6 +4,7 @@ use Rattle.std.proofs.Common.{◌≡◌, ℕ, List, [], ◌∷◌, ◌++◌, ref
 use Rattle.std.specs.Option.{option_and_then}
 use Rattle.std.proofs.lemmas.List.{append_assoc, append-nil}
 use Rattle.pe_base.proofs.Lists.{Each, Each-append}
+pub use Rattle.pe_base.proofs.Walk.Courses.{done_same, mapped-done, then-done}
 use Rattle.pe_walk.specs.Tokens.{each_some}
 use Rattle.pe_base.specs.Walk.Course.{Cause, Ending, done, halts, stuck, Push, Course, ends, at_once, behind, from, and_then, course_map, each}
 
@@ -13,29 +14,8 @@ ending_map f (done x) = done (f x)
 ending_map f (halts cause) = halts cause
 ending_map f stuck = stuck
 
-pub done_same : {X : Type 0} (a b : X) → done a ≡ done b → a ≡ b
-done_same a b e = cc
-
 pub some_same : {X : Type 0} (a b : X) → Some a ≡ Some b → a ≡ b
 some_same a b e = cc
-
--- the result of a course that is put back
-pub mapped-done : {R W : Type 0} (core : Course R) (a : R → W) (w : W) → (course_map a core).ending ≡ done w → (r : R) × (core.ending ≡ done r) × (w ≡ a r)
-mapped-done {R = R} core a w h = go core.ending refl h
-  where
-    go : (e : Ending R) → core.ending ≡ e → (from e (λ r. at_once (a r))).ending ≡ done w → (r : R) × (core.ending ≡ done r) × (w ≡ a r)
-    go (done r) k h = (r, k, cc)
-    go (halts cause) k h = absurd cc
-    go stuck k h = absurd cc
-
--- the result of two courses, one after the other
-pub then-done : {W V : Type 0} (first : Course W) (next : W → Course V) (v : V) → (and_then first next).ending ≡ done v → (w : W) × (first.ending ≡ done w) × ((next w).ending ≡ done v)
-then-done {W = W} first next v h = go first.ending refl h
-  where
-    go : (e : Ending W) → first.ending ≡ e → (from e next).ending ≡ done v → (w : W) × (first.ending ≡ done w) × ((next w).ending ≡ done v)
-    go (done w) k h = (w, k, h)
-    go (halts cause) k h = absurd cc
-    go stuck k h = absurd cc
 
 -- what tokens give in two steps
 pub both_some : {T U : Type 0} (first : Option T) (next : T → Option U) (u : U) → option_and_then next first ≡ Some u → (t : T) × (first ≡ Some t) × (next t ≡ Some u)
@@ -141,6 +121,14 @@ module _ (room : Push → Type 0) where
   sim-nothing holds image w t t' h k =
       subst (λ x. Steps image holds (at_once w) (at_once (image w t)) x) (some_same t t' k)
       (record { same = record { text = refl; ending = refl; log = tt }; holds = λ v e. subst (λ x. holds x t) (done_same w v e) h })
+
+  -- a machine that does the same
+  pub sim-same : {W T M V U N : Type 0} (holds : W → T → Type 0) (image : W → T → M) (holds' : V → U → Type 0) (image' : V → U → N) (model : W → Course V) (machine other : M → Course N) (tokens : T → Option U)
+      → ((m : M) → machine m ≡ other m)
+      → Sim holds image holds' image' model machine tokens → Sim holds image holds' image' model other tokens
+  sim-same holds image holds' image' model machine other tokens same sim w t t' h k =
+      let steps = sim w t t' h k in
+      record { same = matches-same (λ v. image' v t') (model w) (machine (image w t)) (other (image w t)) (same (image w t)) steps.same; holds = steps.holds }
 
   -- what holds before may be stronger, and what holds after weaker
   pub sim-weaker : {W T M V U N : Type 0} (strong holds : W → T → Type 0) (image : W → T → M) (holds' weak : V → U → Type 0) (image' : V → U → N) (model : W → Course V) (machine : M → Course N) (tokens : T → Option U)

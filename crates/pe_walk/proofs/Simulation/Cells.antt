@@ -1,0 +1,4 @@
+-- The walk of a cell, and a traversal, from their steps.
+
+-- all corners of a cell
+pub mod Corners
