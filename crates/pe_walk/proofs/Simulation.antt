@@ -18,6 +18,8 @@ pub mod Below
 pub mod Carried
 -- what is foreseen of a grid is a foresight
 pub mod Outsets
+-- a cell is entered, and left
+pub mod Visits
 -- the core logs nothing
 pub mod Silent
 -- the steps on which the simulation rests, as statements

@@ -171,7 +171,7 @@ module _ {Plan X : Type 0} (f : X → List ℤ) (set : Setting Plan) (ports : Po
             (and_then-fits (course_map (λ cells. record (on_cells held (after a).1) { cells = cells }) (give_up (map_holdings f held))) _ going-fits)) in
             left-then a (λ (u : Unit {0}). ((after a).0.corners, on_cells held' (after a).1)) (Ok tt) new is
             (let course = gives_up a dies
-                ∙ ap (λ c. course_map (λ m. ((after a).0.corners, m)) (course_map (λ cells. record (on_cells held (after a).1) { cells = cells }) c)) gives in
+            ∙ ap (λ c. course_map (λ m. ((after a).0.corners, m)) (course_map (λ cells. record (on_cells held (after a).1) { cells = cells }) c)) gives in
             record {
               ends = ap (λ c. c.ending) course ∙ ap (λ h. done ((after a).0.corners, on_cells h (after a).1)) (sym same);
               told = subst (λ text. Adds new text new) (sym (ap (λ c. c.text) course)) (adds-nothing new);

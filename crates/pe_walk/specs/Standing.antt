@@ -27,6 +27,7 @@ use Rattle.pe_walk.specs.Laws.{IsCell}
 use Rattle.pe_walk.specs.Tokens.{Outlook, Tokens, cells_before}
 use Rattle.pe_walk.specs.Takings.{Grown}
 use Rattle.pe_walk.specs.CoreKeeps.{IsFinest}
+use Rattle.pe_walk.specs.CellsAhead.{CellsAhead}
 use Rattle.pe_walk.specs.Apart.{IsApart, lies, occurs}
 use Rattle.pe_walk.specs.Traffic.{OnlyCounting}
 use Rattle.pe_walk.specs.Outlooks.{was_stored}
@@ -120,11 +121,6 @@ times places place = count_by (λ other. is_same other place) places
 abbrev pub IsLive : Outlook → Tokens → Place → Type 0
 IsLive o t vertex =
     (1 ≤ t.held vertex) ⊎ ((s : ℕ) × (s ≢ output_stack o.swapped) × (1 ≤ times (items_at t.vertices s) vertex) × (1 ≤ t.met vertex))
-
--- Each cell that is still to be entered lies on the input if it is read, and else nowhere; and it comes once.
-pub record CellsAhead (o : Outlook) (ahead : List Place) (t : Tokens) : Type 0 where
-  pub once : (cell : Place) → times ahead cell ≤ 1
-  pub lie : (cell : Place) → 1 ≤ times ahead cell → lies t.cells cell ≡ (if o.reads_cell cell then 1 else 0)
 
 -- the places stand well, at a stage
 pub record Stands (axes : ℕ) (o : Outlook) (st : Stage) (t : Tokens) : Type 0 where

@@ -238,7 +238,7 @@ module _ (axes greatest : ℕ) (o : Outlook) (parent : Place) (family : Family) 
   after_put : Working
   after_put = put_family axes parent family before
 
-  put_count : length family.parents ≡ 2 ^ axes
+  pub put_count : length family.parents ≡ 2 ^ axes
   put_count = length-alike greatest parent.level (records_of axes w parent) family.parents puts.alike ∙ length-map-range_with_len (record_at axes w parent) 0 (2 ^ axes)
 
   put_is : AfterFamily axes parent family before (put_family axes parent family before)

@@ -1,0 +1,4 @@
+-- A cell is entered, and left.
+
+-- what is put back
+pub mod Records
