@@ -10,3 +10,5 @@ pub mod Standing
 pub mod Fates
 -- what is left in the working state
 pub mod Leaving
+-- and the working state is fair
+pub mod Fairness

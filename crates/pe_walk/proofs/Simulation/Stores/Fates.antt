@@ -15,6 +15,7 @@ use Rattle.pe_adapt.specs.Touches.{stack_or}
 use Rattle.pe_walk.specs.Tokens.{given, first_of}
 use Rattle.pe_walk.specs.CoreKeeps.{IsFinest, IsAlike, IsStoredAlike, stays, stored_as}
 use Rattle.pe_walk.specs.Standing.{Foresight, IsFair, IsWritten}
+use Rattle.pe_walk.proofs.Simulation.Shared.{fair-alike}
 
 -- what goes on a stack, by the machine as by the places: it waits there as foreseen, or was written there
 pub record GoesOn {Plan : Type 0} (set : Setting Plan) (f : Foresight) (output : ℕ) (place : Place) (to : Option ℕ) (s : ℕ) (left : Option VertexRecord) : Type 0 where
@@ -44,17 +45,6 @@ module _ {Plan : Type 0} (set : Setting Plan) (f : Foresight) (output : ℕ) (pl
 
   finest : IsFinest greatest place.level it.state
   finest = subst (λ (v : VertexRecord). IsFinest greatest place.level v.state) same fair.finest
-
-  -- what is alike is as foreseen too
-  alike-fair : (after : VertexRecord) → IsAlike greatest place.level it after → IsFair f greatest place (Some after)
-  alike-fair after alike = record {
-    it = after;
-    there = refl;
-    kind = alike.kind ∙ ap (λ (v : VertexRecord). v.kind) (sym same) ∙ fair.kind;
-    old = alike.old ∙ ap (λ (v : VertexRecord). is_old v.state) (sym same) ∙ fair.old;
-    new = alike.new ∙ ap (λ (v : VertexRecord). is_new v.state) (sym same) ∙ fair.new;
-    finest = alike.finest finest;
-  }
 
   -- the last touch of what stays turns new into old, and leaves it settled
   last-written : (kind : Kind) (before : VertexRecord) → is_stored kind ≡ true → last_touch Unrefined kind ≡ Unrefined → IsAlike greatest place.level it before → IsWritten f greatest place (Some (stored_as kind true before))
@@ -92,7 +82,7 @@ module _ {Plan : Type 0} (set : Setting Plan) (f : Foresight) (output : ℕ) (pl
   by_kind kind (Some s) writes None on goes away h = absurd (let on_it = stays_on kind on in cc)
   by_kind kind (Some s) writes (Some left) on goes away h = record {
     stack = refl;
-    waits = λ other. subst (λ (v : VertexRecord). IsFair f greatest place (Some v)) (sym h.3) (alike-fair h.1 h.2);
+    waits = λ other. subst (λ (v : VertexRecord). IsFair f greatest place (Some v)) (sym h.3) (fair-alike f greatest place (Some it) fair h.1 (subst (λ (v : VertexRecord). IsAlike greatest place.level v h.1) (sym same) h.2));
     written = λ e. absurd (away s refl e);
   }
   by_kind Kept None true None on goes away h = absurd cc
@@ -110,3 +100,14 @@ module _ {Plan : Type 0} (set : Setting Plan) (f : Foresight) (output : ℕ) (pl
   pub fate : (to : Option ℕ) (writes : Bool) (left : Option VertexRecord) → not (is_hanging (f.kind place)) ≡ true → writes ≡ is_stored (f.kind place) → ((s : ℕ) → to ≡ Some s → s ≢ output) → IsStoredAlike set (is_none to) place it left
       → Fate set f output place to (first_of to (given writes (Some output))) left
   fate to writes left on goes away h = by_kind (f.kind place) to writes left on goes away (as_kind (f.kind place) (is_none to) left (ap (λ (v : VertexRecord). v.kind) (sym same) ∙ fair.kind) h)
+
+-- by where the place went
+pub fate-on : {Plan : Type 0} (set : Setting Plan) (f : Foresight) (output : ℕ) (place : Place) (to goal : Option ℕ) (left : Option VertexRecord) (s : ℕ) → goal ≡ Some s → Fate set f output place to goal left → GoesOn set f output place to s left
+fate-on set f output place to None left s e h = absurd cc
+fate-on set f output place to (Some r) None s e h = absurd h
+fate-on set f output place to (Some r) (Some it) s e h = let is : r ≡ s = cc in subst (λ n. GoesOn set f output place to n (Some it)) is h
+
+pub fate-off : {Plan : Type 0} (set : Setting Plan) (f : Foresight) (output : ℕ) (place : Place) (to goal : Option ℕ) (left : Option VertexRecord) → goal ≡ None → Fate set f output place to goal left → left ≡ None
+fate-off set f output place to None None e h = refl
+fate-off set f output place to None (Some it) e h = absurd h
+fate-off set f output place to (Some s) left e h = absurd cc

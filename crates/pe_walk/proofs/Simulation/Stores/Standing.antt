@@ -14,6 +14,7 @@ use Rattle.pe_walk.specs.Traffic.{OnlyCounting}
 use Rattle.pe_walk.specs.Standing.{Outset, Stage, per_cell, Stands, Owes}
 use Rattle.pe_walk.proofs.Simulation.Leaves.{after_store}
 use Rattle.pe_walk.proofs.Simulation.Levels.{levels_differ}
+use Rattle.pe_walk.proofs.Simulation.Shared.{owes-more}
 use Rattle.pe_walk.proofs.Simulation.Stores.Places.{stored, Within, held-other, held-most, out-put, fresh-put, count-put, Grows, stack-put, len-put}
 
 -- the places
@@ -44,55 +45,49 @@ stands-stored axes o st t goal k stands at below long above apart counting =
     }
 
 -- what the tally counts of a store
-record Counts (before after : Tally) : Type 0 where
+record Counted (before after : Tally) : Type 0 where
   cells : after.cells ≡ before.cells
-  read : after.read ≡ before.read
+  read : after.read ≤ before.read + 1
   written : after.written ≤ before.written + 1
-  created : after.created ≡ before.created
+  created : after.created ≤ before.created + 1
   destroyed : after.destroyed ≤ before.destroyed + 1
-  hanging : after.hanging ≡ before.hanging
+  hanging : after.hanging ≤ before.hanging + 1
 
-counts-store : (kind : Kind) (last : Bool) (tally : Tally) → Counts tally (tally_store kind last tally)
-counts-store Hanging last tally = record { cells = refl; read = refl; written = omega arith; created = refl; destroyed = omega arith; hanging = refl }
-counts-store Dying true tally = record { cells = refl; read = refl; written = omega arith; created = refl; destroyed = omega arith; hanging = refl }
-counts-store Born true tally = record { cells = refl; read = refl; written = omega arith; created = refl; destroyed = omega arith; hanging = refl }
-counts-store Kept true tally = record { cells = refl; read = refl; written = omega arith; created = refl; destroyed = omega arith; hanging = refl }
-counts-store Dying false tally = record { cells = refl; read = refl; written = omega arith; created = refl; destroyed = omega arith; hanging = refl }
-counts-store Born false tally = record { cells = refl; read = refl; written = omega arith; created = refl; destroyed = omega arith; hanging = refl }
-counts-store Kept false tally = record { cells = refl; read = refl; written = omega arith; created = refl; destroyed = omega arith; hanging = refl }
+uncounted : (tally : Tally) → Counted tally tally
+uncounted tally = record { cells = refl; read = omega arith; written = omega arith; created = omega arith; destroyed = omega arith; hanging = omega arith }
 
--- a count that rises by one, or stays, with one less that is owed
-rises : (x y owed base cells : ℕ) → 1 ≤ owed → y ≤ x + 1 → x + owed ≤ base + 34 * cells → y + (owed - 1) ≤ base + 34 * cells
-rises x y owed base cells some more below = omega (arith, some, more, below)
+counted_written : (tally : Tally) → Counted tally (record tally { written = tally.written + 1 })
+counted_written tally = record { cells = refl; read = omega arith; written = omega arith; created = omega arith; destroyed = omega arith; hanging = omega arith }
 
-longer : (x y unstored len corners : ℕ) → 1 ≤ unstored → y ≤ x + 1 → x + unstored ≤ len + corners → y + (unstored - 1) ≤ len + corners
-longer x y unstored len corners some more below = omega (arith, some, more, below)
+counted_store : (kind : Kind) (last : Bool) (tally : Tally) → Counted tally (tally_store kind last tally)
+counted_store Hanging last tally = uncounted tally
+counted_store Dying true tally = record { cells = refl; read = omega arith; written = omega arith; created = omega arith; destroyed = omega arith; hanging = omega arith }
+counted_store Born true tally = counted_written tally
+counted_store Kept true tally = counted_written tally
+counted_store Dying false tally = uncounted tally
+counted_store Born false tally = uncounted tally
+counted_store Kept false tally = uncounted tally
 
 -- what is owed
 pub owes-stored : (axes max_cells : ℕ) (e : Outset) (st : Stage) (t : Tokens) (counts : Bool) (goal : Option ℕ) (place : Place) (k : ℕ) (kind : Kind) (last : Bool) (tally : Tally)
     → Owes axes max_cells e st tally t → Within goal t.vertices → 1 ≤ st.owed → 1 ≤ st.unstored
     → Owes axes max_cells e (after_store k st) (tally_store kind last tally) (stored counts goal place t)
 owes-stored axes max_cells e st t counts goal place k kind last tally owes within owed unstored =
-    let counted = counts-store kind last tally in
-    let after = tally_store kind last tally in
-    let bound : (x y : ℕ) → y ≤ x + 1 → x + st.owed ≤ e.base + 34 * tally.cells → y + (st.owed - 1) ≤ e.base + 34 * after.cells =
-    λ x y more below. subst (λ n. y + (st.owed - 1) ≤ e.base + 34 * n) (sym counted.cells) (rises x y st.owed e.base tally.cells owed more below) in
+    let counted = counted_store kind last tally in
     let moved = λ (s : ℕ). stack-put goal place t.vertices s within in
-    record {
-      cells = omega (arith, owes.cells, counted.cells);
-      total = omega (arith, owes.total, counted.cells);
-      fresh = bound _ _ (omega (arith, fresh-put goal place t.vertices)) owes.fresh;
-      pushes = λ s. bound _ _ (moved s).pushes (owes.pushes s);
-      pops = λ s. bound _ _ (omega (arith, (moved s).pops)) (owes.pops s);
-      cell_fresh = bound _ _ (omega arith) owes.cell_fresh;
-      cell_pushes = λ s. bound _ _ (omega arith) (owes.cell_pushes s);
-      cell_pops = λ s. bound _ _ (omega arith) (owes.cell_pops s);
-      read = bound _ _ (omega (arith, counted.read)) owes.read;
-      written = bound _ _ counted.written owes.written;
-      created = bound _ _ (omega (arith, counted.created)) owes.created;
-      destroyed = bound _ _ counted.destroyed owes.destroyed;
-      hanging = bound _ _ (omega (arith, counted.hanging)) owes.hanging;
-      lens = λ s. subst (λ n. len_at (stored counts goal place t).vertices s + (st.unstored - 1) ≤ e.lens s + 2 ^ axes * n) (sym counted.cells)
-          (longer (len_at t.vertices s) (len_at (stored counts goal place t).vertices s) st.unstored (e.lens s) (2 ^ axes * tally.cells) unstored (len-put goal place t.vertices s within) (owes.lens s));
-      cell_lens = λ s. omega (arith, owes.cell_lens s, counted.cells);
-    }
+    owes-more axes max_cells e st (after_store k st) tally (tally_store kind last tally) t (stored counts goal place t) owes
+    (record {
+      cells = counted.cells;
+      read = counted.read;
+      written = counted.written;
+      created = counted.created;
+      destroyed = counted.destroyed;
+      hanging = counted.hanging;
+      fresh = omega (arith, fresh-put goal place t.vertices);
+      pushes = λ s. (moved s).pushes;
+      pops = λ s. omega (arith, (moved s).pops);
+      cell_fresh = omega arith;
+      cell_pushes = λ s. omega arith;
+      cell_pops = λ s. omega arith;
+    })
+    (omega (arith, owed)) refl (λ s. omega (arith, unstored, len-put goal place t.vertices s within)) (λ s. omega arith)
