@@ -41,6 +41,29 @@ zero_unless : (n : ℕ) → (1 ≤ n → ⊥) → n ≡ 0
 zero_unless zero h = refl
 zero_unless (suc n) h = absurd (h (omega arith))
 
+-- the flag of a corner after one of its cell is no longer in hand
+flag-moves : (off own at near next below there : Bool) → (at ≡ true → (next ≡ false) × (there ≡ off)) → (at ≡ false → near ≡ next)
+    → (if off && (at && own) then false else own && near && below && there) ≡ (own && next && below && there)
+flag-moves true false true near next below there here beside = refl
+flag-moves true false false near next below there here beside = refl
+flag-moves false false at near next below there here beside = refl
+flag-moves true true true near next below there here beside = sym (ap (λ b. b && below && there) (here refl).0)
+flag-moves false true true near next below there here beside =
+    ap (λ b. near && below && b) (here refl).1 ∙ never near below ∙ sym (ap (λ b. b && below && there) (here refl).0)
+  where
+    never : (a b : Bool) → (a && b && false) ≡ false
+    never true true = refl
+    never true false = refl
+    never false b = refl
+flag-moves true true false near next below there here beside = ap (λ b. b && below && there) (beside refl)
+flag-moves false true false near next below there here beside = ap (λ b. b && below && there) (beside refl)
+
+past : (k : ℕ) → nat_le (k + 1) k ≡ false
+past k = grind (arith, nat_tests)
+
+as_far : (k j : ℕ) → k ≢ j → nat_le k j ≡ nat_le (k + 1) j
+as_far k j other = grind (arith, nat_tests)
+
 module _ {Plan : Type 0} (set : Setting Plan) (o : Outlook) (f : Foresight) (st : Stage) (k : ℕ) (to goal : Option ℕ) (left : Option VertexRecord) (family : Family) (w before after : Working) (t : Tokens)
     (is : IsStored set o f st k to goal left family w before after t) where
   abbrev greatest : ℕ
@@ -152,3 +175,61 @@ module _ {Plan : Type 0} (set : Setting Plan) (o : Outlook) (f : Foresight) (st 
       go false e =
           found_other q (omega (arith, none)) (other_if q e)
           ∙ is.fair.gone q on met (omega (arith, none, held-other (o.counts vertex) vertex q t.held (other_if q e), lies-other goal vertex q t.vertices is.within e))
+
+  -- # Cells
+  cells-stored : (cell : Place) → is_some (at after.cells cell) ≡ (nat_lt 0 (lies now.cells cell) || nat_lt 0 (times st.entered cell))
+  cells-stored cell = ap is_some (is.puts.cells cell) ∙ go (is_same st.parent cell) refl
+    where
+      entered : (a b : Bool) → b ≡ true → true ≡ (a || b)
+      entered true b e = refl
+      entered false b e = sym e
+
+      go : (b : Bool) → is_same st.parent cell ≡ b → is_some (if b then Some family.parent else at before.cells cell) ≡ (nat_lt 0 (lies now.cells cell) || nat_lt 0 (times st.entered cell))
+      go true e =
+          let some : 0 < times st.entered cell = omega (arith, is.stands.parent_entered, ap (times st.entered) (same_places st.parent cell e)) in
+          entered (nat_lt 0 (lies now.cells cell)) (nat_lt 0 (times st.entered cell)) (lt-ltb 0 (times st.entered cell) some)
+      go false e = ap (λ m. is_some (at m cell)) is.leaves.cells ∙ is.fair.cells_there cell
+
+  -- # Hanging vertices
+  hung-stored : (x : Place) (j : ℕ) → is_hung after x j ≡ (if not (o.counts vertex) && (k == j && is_same st.cell x) then false else is_hung w x j)
+  hung-stored x j = is.puts.hung x j ∙ is.leaves.hung x j
+
+  parent_flags-stored : (j : ℕ) → j < 2 ^ set.axes → is_hung after st.parent j ≡ not (o.counts (corner set.axes st.parent j))
+  parent_flags-stored j small =
+      hung-stored st.parent j
+      ∙ ap (λ b. if not (o.counts vertex) && (k == j && b) then false else is_hung w st.parent j) (levels_differ st.cell st.parent (λ e. omega (arith, e, is.deep)))
+      ∙ never (not (o.counts vertex)) (k == j) (is_hung w st.parent j) ∙ is.fair.parent_flags j small
+    where
+      never : (a b c : Bool) → (if a && (b && false) then false else c) ≡ c
+      never true true c = refl
+      never true false c = refl
+      never false b c = refl
+
+  flags-stored : (x : Place) (j : ℕ) → st.parent.level < x.level
+      → is_hung after x j ≡ (is_same st.cell x && nat_le (k + 1) j && nat_lt j (2 ^ set.axes) && not (o.counts (corner set.axes st.cell j)))
+  flags-stored x j deeper =
+      hung-stored x j
+      ∙ ap (λ b. if not (o.counts vertex) && (k == j && is_same st.cell x) then false else b) (is.fair.flags x j deeper)
+      ∙ flag-moves (not (o.counts vertex)) (is_same st.cell x) (k == j) (nat_le st.from j) (nat_le (k + 1) j) (nat_lt j (2 ^ set.axes)) (not (o.counts (corner set.axes st.cell j)))
+      (λ at. let same = eqb-true k j at in (ap (nat_le (k + 1)) (sym same) ∙ past k, ap (λ n. not (o.counts (corner set.axes st.cell n))) (sym same)))
+      (λ away. ap (λ n. nat_le n j) is.from ∙ as_far k j (eqb-false k j away))
+
+  -- # Idle records
+  idle-stored : (j : ℕ) → k + 1 ≤ j → j < 2 ^ set.axes → o.counts (corner set.axes st.cell j) ≡ false → IsIdle (record_at set.axes after st.cell j)
+  idle-stored j past small off =
+      subst IsIdle (sym (is.puts.records st.cell j (λ e. omega (arith, e, is.deep)) ∙ is.leaves.corners j small (λ e. omega (arith, e, past))))
+      (is.fair.mine j (omega (arith, is.from, past)) small off)
+
+  pub fair-stored : Fair set.axes (set.rules.greatest set.plan) o f (after_store k st) after (stored (o.counts (corner set.axes st.cell k)) goal (corner set.axes st.cell k) t)
+  fair-stored = record {
+    loads = loads-stored;
+    unread = unread-stored;
+    live = live-stored;
+    written = written-stored;
+    gone = gone-stored;
+    cells_there = cells-stored;
+    parent_flags = parent_flags-stored;
+    parents = λ j small off. is.puts.idle j small (is.fair.parents j small off);
+    flags = flags-stored;
+    mine = idle-stored;
+  }
