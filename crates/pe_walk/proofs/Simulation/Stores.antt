@@ -6,6 +6,8 @@ pub mod Lasts
 pub mod Places
 -- after it the places stand well, and counts stay small
 pub mod Standing
+-- where the place of the vertex goes
+pub mod Goals
 -- what becomes of the vertex
 pub mod Fates
 -- what is left in the working state

@@ -1,0 +1,75 @@
+-- Where the place of a corner goes that is stored.
+use Rattle.std.proofs.Common.{◌≡◌, ◌≢◌, inl, inr, ℕ, ◌^◌, ◌<◌, ◌≤◌, Bool, true, false, Option, Some, None, refl, sym, ap, subst, ◌∙◌, arith}
+use Rattle.std.specs.Prelude.{nat_lt, if◌then◌else◌}
+use Rattle.pe_base.specs.declared.place.Place.{Place}
+use Rattle.pe_base.specs.declared.way.Way.{Way}
+use Rattle.pe_base.specs.Tree.Dim.{IsDim}
+use Rattle.pe_base.specs.Tree.Places.{corner}
+use Rattle.pe_base.specs.Steps.Routes.{stack_out}
+use Rattle.pe_base.specs.Steps.Faces.{stack_of}
+use Rattle.pe_stacks.specs.Grid.{output_stack}
+use Rattle.pe_walk.specs.Laws.{IsCell}
+use Rattle.pe_walk.specs.Tokens.{Outlook, Tokens, given, first_of, touch_of, target, store_it, store}
+use Rattle.pe_walk.specs.Apart.{IsApart}
+use Rattle.pe_walk.specs.Traffic.{OnlyCounting}
+use Rattle.pe_walk.proofs.Derived.{corners_cross_once}
+use Rattle.pe_walk.proofs.Tokens.Keeping.{given_some}
+use Rattle.pe_walk.proofs.Tokens.Walks.{goes_within}
+use Rattle.pe_walk.proofs.Tokens.Apart.{steps_keep_apart}
+use Rattle.pe_walk.proofs.Tokens.Short.{steps_keep_counting}
+use Rattle.pe_walk.proofs.Simulation.Stores.Places.{stored}
+
+-- to the next cell around it, or to the output if it is written; and nowhere if it does not count
+abbrev pub goal_if : Bool → Outlook → ℕ → Way → Place → Place → Option ℕ
+goal_if true o axes way vertex cell = first_of (stack_out axes way vertex cell) (given (o.writes vertex) (Some (output_stack o.swapped)))
+goal_if false o axes way vertex cell = None
+
+abbrev pub goal_of : Outlook → ℕ → Way → Place → Place → Option ℕ
+goal_of o axes way vertex cell = goal_if (o.counts vertex) o axes way vertex cell
+
+-- what the store of a corner makes of the places
+pub record Goes (o : Outlook) (axes : ℕ) (way : Way) (cell : Place) (k : ℕ) (t after : Tokens) : Type 0 where
+  pub is : stored (o.counts (corner axes cell k)) (goal_of o axes way (corner axes cell k) cell) (corner axes cell k) t ≡ after
+  pub within : (s : ℕ) → goal_of o axes way (corner axes cell k) cell ≡ Some s → s < 10
+  pub apart : IsApart o t → IsApart o after
+  pub counting : OnlyCounting o t → OnlyCounting o after
+
+goes : (o : Outlook) (cell : Place) (k : ℕ) (t after : Tokens) → IsDim o.axes → IsCell o.axes o.way cell → k < 2 ^ o.axes → store o cell k t ≡ Some after → Goes o o.axes o.way cell k t after
+goes o cell k t after dim is_cell below run = record {
+  is = went (o.counts (touch_of o cell k).vertex) run;
+  within = λ s e. few (o.counts (touch_of o cell k).vertex) s e;
+  apart = λ apart. (steps_keep_apart o dim).stores cell k t after is_cell below run apart;
+  counting = λ counting. (steps_keep_counting o dim).stores cell k t after run counting;
+}
+  where
+    went : (b : Bool) → (if b then store_it o (touch_of o cell k) t else (Some (stored false None (touch_of o cell k).vertex t))) ≡ Some after → stored b (goal_if b o o.axes o.way (touch_of o cell k).vertex cell) (touch_of o cell k).vertex t ≡ after
+    went true run = cc ((given_some (nat_lt 0 (t.held (touch_of o cell k).vertex)) (Some (stored true (target o (touch_of o cell k)) (touch_of o cell k).vertex t)) after run).1)
+    went false run = cc
+
+    few : (b : Bool) (s : ℕ) → goal_if b o o.axes o.way (touch_of o cell k).vertex cell ≡ Some s → s < 10
+    few true s e = goes_within o dim cell is_cell k below s e
+    few false s e = absurd cc
+
+-- by axes and a way that are those of the outlook
+pub goes_by : (o : Outlook) (axes : ℕ) (way : Way) (cell : Place) (k : ℕ) (t after : Tokens) → o.axes ≡ axes → o.way ≡ way → IsDim axes → IsCell axes way cell → k < 2 ^ axes → store o cell k t ≡ Some after → Goes o axes way cell k t after
+goes_by o axes way cell k t after same turn dim is_cell below run =
+    subst (λ n. Goes o n way cell k t after) same (subst (λ u. Goes o o.axes u cell k t after) turn
+    (goes o cell k t after (subst IsDim (sym same) dim) (subst (λ n. IsCell n o.way cell) (sym same) (subst (λ u. IsCell axes u cell) (sym turn) is_cell)) (subst (λ n. k < 2 ^ n) (sym same) below) run))
+
+-- the stack of the next cell is not the output
+pub waits_apart : (axes : ℕ) (way : Way) (cell : Place) (k : ℕ) (swapped : Bool) → IsDim axes → IsCell axes way cell → k < 2 ^ axes
+    → (s : ℕ) → stack_out axes way (corner axes cell k) cell ≡ Some s → s ≢ output_stack swapped
+waits_apart axes way cell k swapped dim is_cell below s e out = elim (corners_cross_once axes way cell k dim is_cell below).goes [
+  | inl none ↦ absurd (let no = none.no_stack in cc)
+  | inr one ↦
+      let at : Some (stack_of one.face cell) ≡ Some s = sym one.its_stack ∙ e in
+      let is : stack_of one.face cell ≡ s = cc in
+      let few = one.is_face.0 in
+      let four = dim.1 in
+      let high = far swapped in
+      omega (arith, is, few, four, high, out)
+]
+  where
+    far : (b : Bool) → 8 ≤ output_stack b
+    far true = omega arith
+    far false = omega arith
