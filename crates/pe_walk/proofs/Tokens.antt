@@ -36,5 +36,9 @@ pub mod Crossings
 pub mod CountLists
 -- the cells of a walk differ
 pub mod CellsApart
+-- what each step changes
+pub mod StepFrames
 -- the cells that are still to be entered
 pub mod CellsAhead
+-- what the walk of a cell leaves
+pub mod WalkFrames

@@ -12,8 +12,8 @@ use Rattle.pe_walk.specs.Takings.{Grown, MayTraverse}
 use Rattle.pe_walk.specs.Apart.{lies}
 
 -- how often a place stands in a list
-abbrev pub count_in : List Place → Place → ℕ
-count_in places place = count_by (λ other. is_same other place) places
+abbrev pub times : List Place → Place → ℕ
+times places place = count_by (λ other. is_same other place) places
 
 -- the cells of the walks of a cell's children
 abbrev pub cells_below : Outlook → ℕ → Place → List Place
@@ -21,26 +21,26 @@ cells_below o levels cell = flat_map (walked_cells o.axes o.way o.walks levels) 
 
 -- The cells of the walk of a cell differ, and none lies above the cell. So do those of the walks of its children.
 pub record CellsDiffer (o : Outlook) (levels : ℕ) (cell : Place) : Type 0 where
-  pub once : (x : Place) → count_in (walked_cells o.axes o.way o.walks levels cell) x ≤ 1
-  pub none_above : (x : Place) → x.level < cell.level → count_in (walked_cells o.axes o.way o.walks levels cell) x ≡ 0
-  pub once_below : (x : Place) → count_in (cells_below o levels cell) x ≤ 1
-  pub deeper : (x : Place) → x.level ≤ cell.level → count_in (cells_below o levels cell) x ≡ 0
+  pub once : (x : Place) → times (walked_cells o.axes o.way o.walks levels cell) x ≤ 1
+  pub none_above : (x : Place) → x.level < cell.level → times (walked_cells o.axes o.way o.walks levels cell) x ≡ 0
+  pub once_below : (x : Place) → times (cells_below o levels cell) x ≤ 1
+  pub deeper : (x : Place) → x.level ≤ cell.level → times (cells_below o levels cell) x ≡ 0
 
 abbrev pub WalkedCellsDiffer : Type 0
 WalkedCellsDiffer = (o : Outlook) (levels : ℕ) (cell : Place) → IsDim o.axes → IsCell o.axes o.way cell → CellsDiffer o levels cell
 
 -- The cells that are still to be entered differ, and lie on the stacks once if they are read, and else nowhere.
 pub record CellsAhead (o : Outlook) (ahead : List Place) (t : Tokens) : Type 0 where
-  pub once : (x : Place) → count_in ahead x ≤ 1
-  pub lie : (x : Place) → 1 ≤ count_in ahead x → lies t.cells x ≡ (if o.reads_cell x then 1 else 0)
+  pub once : (x : Place) → times ahead x ≤ 1
+  pub lie : (x : Place) → 1 ≤ times ahead x → lies t.cells x ≡ (if o.reads_cell x then 1 else 0)
 
 -- Each step keeps it. A cell that is entered is on no stack, and may be left when no cell that is the same is ahead.
 pub record KeepsAhead (o : Outlook) : Type 0 where
   pub loads : (cell : Place) (k : ℕ) (ahead : List Place) (t after : Tokens) → load o cell k t ≡ Some after → CellsAhead o ahead t → CellsAhead o ahead after
   pub stores : (cell : Place) (k : ℕ) (ahead : List Place) (t after : Tokens) → store o cell k t ≡ Some after → CellsAhead o ahead t → CellsAhead o ahead after
   pub enters : (cell : Place) (ahead : List Place) (t after : Tokens) → enter o cell t ≡ Some after → CellsAhead o (cell ∷ ahead) t
-      → CellsAhead o ahead after × (lies after.cells cell ≡ 0) × (count_in ahead cell ≡ 0)
-  pub leaves : (cell : Place) (ahead : List Place) (t after : Tokens) → leave o cell t ≡ Some after → count_in ahead cell ≡ 0 → CellsAhead o ahead t → CellsAhead o ahead after
+      → CellsAhead o ahead after × (lies after.cells cell ≡ 0) × (times ahead cell ≡ 0)
+  pub leaves : (cell : Place) (ahead : List Place) (t after : Tokens) → leave o cell t ≡ Some after → times ahead cell ≡ 0 → CellsAhead o ahead t → CellsAhead o ahead after
   pub walks : (levels : ℕ) (cell : Place) (ahead : List Place) (t after : Tokens) → walk o levels cell t ≡ Some after
       → CellsAhead o (walked_cells o.axes o.way o.walks levels cell ++ ahead) t → CellsAhead o ahead after
 
@@ -54,4 +54,4 @@ BeginsAhead = (o : Outlook) (walked : Place → Bool) (greatest : ℕ) (t : Toke
 
 -- The walk of a cell moves no cells but its own.
 abbrev pub MovesItsCells : Type 0
-MovesItsCells = (o : Outlook) (levels : ℕ) (cell x : Place) (t after : Tokens) → walk o levels cell t ≡ Some after → count_in (walked_cells o.axes o.way o.walks levels cell) x ≡ 0 → lies after.cells x ≡ lies t.cells x
+MovesItsCells = (o : Outlook) (levels : ℕ) (cell x : Place) (t after : Tokens) → walk o levels cell t ≡ Some after → times (walked_cells o.axes o.way o.walks levels cell) x ≡ 0 → lies after.cells x ≡ lies t.cells x

@@ -18,6 +18,8 @@ pub mod Outlooks
 pub mod StreamLaws
 -- what is moved, and how much is out
 pub mod Traffic
+-- what each step changes, and what it leaves
+pub mod Frames
 -- grids and streams for the worked rows
 pub mod Grids
 -- the walk on stacks as a machine of lists

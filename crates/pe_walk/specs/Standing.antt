@@ -2,7 +2,7 @@
 --
 -- A stage is a cell that is being walked, with its parent, and which of its corners are in hand: those from a number on.
 -- Loads go down from all to none left to load, stores up.
-use Rattle.std.specs.Prelude.{◌≡◌, ◌⊎◌, ◌≢◌, ℕ, ◌+◌, ◌*◌, ◌^◌, ◌<◌, ◌≤◌, Bool, true, false, not, ◌&&◌, ◌||◌, ◌==◌, nat_le, nat_lt, is_some, count_by, if◌then◌else◌, List, Option, Some, None, length}
+use Rattle.std.specs.Prelude.{◌≡◌, ◌⊎◌, ◌≢◌, ℕ, ◌+◌, ◌*◌, ◌^◌, ◌<◌, ◌≤◌, Bool, true, false, not, ◌&&◌, ◌||◌, ◌==◌, nat_le, nat_lt, is_some, if◌then◌else◌, List, Option, Some, None, length}
 use Rattle.std.specs.List.{list_any}
 use Rattle.pe_base.specs.declared.place.Place.{Place}
 use Rattle.pe_base.specs.declared.kind.Kind.{Kind}
@@ -20,7 +20,7 @@ use Rattle.pe_base.specs.Walk.Course.{Push}
 use Rattle.pe_base.specs.Walk.Core.{Setting, way}
 use Rattle.pe_base.specs.Walk.Working.{Working, loads_of, record_at, family_of}
 use Rattle.pe_base.specs.Walk.Touches.{kind_of_vertex}
-use Rattle.pe_stacks.specs.Holdings.{Holdings, stack_at, items_at, len_at, stack_count}
+use Rattle.pe_stacks.specs.Holdings.{stack_at, items_at, len_at, stack_count}
 use Rattle.pe_stacks.specs.Grid.{output_stack}
 use Rattle.pe_adapt.specs.Touches.{kind_in_hand}
 use Rattle.pe_walk.specs.Laws.{IsCell}
@@ -31,6 +31,7 @@ use Rattle.pe_walk.specs.CellsAhead.{CellsAhead}
 use Rattle.pe_walk.specs.Apart.{IsApart, lies, occurs}
 use Rattle.pe_walk.specs.Traffic.{OnlyCounting}
 use Rattle.pe_walk.specs.Outlooks.{was_stored}
+pub use Rattle.pe_walk.specs.CellsAhead.{times, CellsAhead}
 
 -- What is foreseen of each place: kinds, and old and new from the first touch to the last, of vertices; the kind of the
 -- children of cells; and what the working state holds of a vertex before the first touch.
@@ -112,10 +113,6 @@ pub record Stage : Type 0 where
   pub counted : ℕ
   pub entered : List Place
   pub ahead : List Place
-
--- how often a place is in a list
-abbrev pub times : List Place → Place → ℕ
-times places place = count_by (λ other. is_same other place) places
 
 -- A place is on its way: in hand, or on a stack other than the output after its first load.
 abbrev pub IsLive : Outlook → Tokens → Place → Type 0

@@ -27,6 +27,7 @@ ghost use Rattle.pe_walk.specs.Outlooks.{ForecastFits, StoredFits};
 ghost use Rattle.pe_walk.specs.StreamLaws.{FitsTurned, StreamsAreOne, ReadsAreStreams, NextIsFormed, WritesAreStreams, TraversalOfAGrid};
 ghost use Rattle.pe_walk.specs.Traffic.{TrafficOfACell, TrafficOfATraversal, LoadsPerCell, CountsPerCell, TrafficIsCrossings, HangingLoads, FewVertices, StepsKeepCounting, BeginsCounting, StacksAreShort};
 ghost use Rattle.pe_walk.specs.Apart.{StepsKeepApart, BeginsApart, CornersByCounting};
+ghost use Rattle.pe_walk.specs.Frames.{WhatStepsChange, WhatWalksLeave};
 ghost use Rattle.pe_walk.specs.CellsAhead.{WalkedCellsDiffer, StepsKeepAhead, BeginsAhead, MovesItsCells};
 
 use pe_base::Effects;
@@ -135,6 +136,12 @@ pub fn cells_stand_apart()
     ensures kept { StepsKeepAhead }
     ensures begun { BeginsAhead }
     ensures moved { MovesItsCells }
+{}
+
+/// What each step of the walk over places changes, and what the walk of a cell leaves as it was.
+pub fn steps_and_frames()
+    ensures steps { WhatStepsChange }
+    ensures walks { WhatWalksLeave }
 {}
 
 /// A corner comes from no stack to the first of the cells around it, and goes to none from the last.

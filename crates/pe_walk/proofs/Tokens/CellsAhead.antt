@@ -1,9 +1,8 @@
 -- The cells that are still to be entered lie where they lay as the traversal began.
-use Rattle.std.proofs.Common.{◌≡◌, ◌⊎◌, inl, inr, ℕ, zero, suc, ◌+◌, ◌-◌, ◌<◌, ◌≤◌, Bool, true, false, not, cond, List, [], ◌∷◌, ◌++◌, filter, Option, Some, None, refl, sym, ap, ◌∙◌, subst, append_assoc, arith}
-use Rattle.std.specs.Prelude.{nat_lt, if◌then◌else◌, sum_by}
+use Rattle.std.proofs.Common.{◌≡◌, ◌⊎◌, inl, inr, ℕ, zero, suc, ◌+◌, ◌-◌, ◌<◌, ◌≤◌, Bool, true, false, ◌&&◌, not, cond, List, [], ◌∷◌, ◌++◌, filter, Option, Some, None, refl, sym, ap, ◌∙◌, subst, append_assoc, arith}
+use Rattle.std.specs.Prelude.{if◌then◌else◌, sum_by}
 use Rattle.std.specs.List.{flat_map}
 use Rattle.std.proofs.lemmas.Option.{option_and_then_some}
-use Rattle.std.proofs.lemmas.List.Sums.{sum_by-set}
 use Rattle.pe_base.specs.declared.place.Place.{Place}
 use Rattle.pe_base.specs.Tree.Places.{root, is_same}
 use Rattle.pe_base.specs.Tree.Curve.{children}
@@ -11,73 +10,35 @@ use Rattle.pe_base.specs.Walk.Streams.{if_walks, walked_children, walked_cells}
 use Rattle.pe_base.proofs.Steps.Counts.{eq_false, same_itself, is_same_itself}
 use Rattle.pe_base.proofs.Faces.Quiet.{false_unless}
 use Rattle.pe_base.proofs.Faces.Bridge.{same_places}
-use Rattle.pe_stacks.specs.Holdings.{Holdings, new_stack, stack_count, stack_at, items_at, lent, given_up, pushed, pushed_on}
+use Rattle.pe_stacks.specs.Holdings.{Holdings, new_stack, stack_count, stack_at, pushed, pushed_on}
 use Rattle.pe_stacks.specs.Grid.{cell_input_stack}
-use Rattle.pe_walk.specs.Tokens.{Outlook, Tokens, given, each_some, taken, put, source, target, cell_source, cell_target, one_less, touch_of, load_it, load, store_it, store, enter, leave, around_below, numbers, walk}
+use Rattle.pe_walk.specs.Tokens.{Outlook, Tokens, each_some, put, cell_target, touch_of, load, store, enter, leave, around_below, numbers, walk}
 use Rattle.pe_walk.specs.Takings.{cell_reads_of}
 use Rattle.pe_walk.specs.Apart.{lies}
-use Rattle.pe_walk.specs.CellsAhead.{count_in, cells_below, CellsDiffer, CellsAhead, StepsKeepAhead, BeginsAhead, MovesItsCells}
+use Rattle.pe_walk.specs.CellsAhead.{times, cells_below, CellsDiffer, CellsAhead, StepsKeepAhead, BeginsAhead, MovesItsCells}
 use Rattle.pe_walk.proofs.Trees.{root_is_cell}
 use Rattle.pe_walk.proofs.Tokens.Dues.{root_walks}
 use Rattle.pe_walk.proofs.Tokens.Keeping.{given_some}
-use Rattle.pe_walk.proofs.Tokens.Apart.{map_some, one_if, there, set_past, taken_was, sum_only}
+use Rattle.pe_walk.proofs.Tokens.Apart.{one_if, there, set_past, sum_only}
+use Rattle.pe_walk.proofs.Tokens.StepFrames.{pushed_once, store_by, after_load, after_enter}
 use Rattle.pe_walk.proofs.Tokens.CountLists.{count-cons, count-append}
 use Rattle.pe_walk.proofs.Tokens.CellsApart.{walked_cells_differ}
 
 -- a load, and a store, move no cells
-pub load_cells : (o : Outlook) (cell : Place) (k : ℕ) (t after : Tokens) → load o cell k t ≡ Some after → after.cells ≡ t.cells
-load_cells o cell k t after e = go (o.counts (touch_of o cell k).vertex) e
-  where
-    go : (b : Bool) → (if b then load_it o (touch_of o cell k) t else (Some (record t { vertices = lent t.vertices }))) ≡ Some after → after.cells ≡ t.cells
-    go true f =
-        let g = given_some _ _ after f in
-        let m = map_some _ (taken (source o (touch_of o cell k)) (touch_of o cell k).vertex t.vertices) after g.1 in
-        ap (λ a. a.cells) (sym m.2)
-    go false f =
-        let made : Tokens = record t { vertices = lent t.vertices } in
-        let same : made ≡ after = cc in
-        ap (λ a. a.cells) (sym same)
+load_cells : (o : Outlook) (cell : Place) (k : ℕ) (t after : Tokens) → load o cell k t ≡ Some after → after.cells ≡ t.cells
+load_cells o cell k t after e = (after_load o cell k t after e).cells
 
-pub store_cells : (o : Outlook) (cell : Place) (k : ℕ) (t after : Tokens) → store o cell k t ≡ Some after → after.cells ≡ t.cells
-store_cells o cell k t after e = go (o.counts (touch_of o cell k).vertex) e
-  where
-    go : (b : Bool) → (if b then store_it o (touch_of o cell k) t else (Some (record t { vertices = given_up t.vertices }))) ≡ Some after → after.cells ≡ t.cells
-    go true f =
-        let stored : Tokens = record t { vertices = put (target o (touch_of o cell k)) (touch_of o cell k).vertex t.vertices; held = one_less (touch_of o cell k).vertex t.held } in
-        let g = given_some (nat_lt 0 (t.held (touch_of o cell k).vertex)) (Some stored) after f in
-        let same : stored ≡ after = cc (g.1) in
-        ap (λ a. a.cells) (sym same)
-    go false f =
-        let gone : Tokens = record t { vertices = given_up t.vertices } in
-        let same : gone ≡ after = cc in
-        ap (λ a. a.cells) (sym same)
+store_cells : (o : Outlook) (cell : Place) (k : ℕ) (t after : Tokens) → store o cell k t ≡ Some after → after.cells ≡ t.cells
+store_cells o cell k t after e = (store_by o cell k t after (o.counts (touch_of o cell k).vertex) e).cells
 
 pub each_cells : {A : Type 0} (step : A → Tokens → Option Tokens) → ((a : A) (t after : Tokens) → step a t ≡ Some after → after.cells ≡ t.cells) → (xs : List A) (t after : Tokens) → each_some step xs t ≡ Some after → after.cells ≡ t.cells
 each_cells step one [] t after e = let same : t ≡ after = cc in ap (λ a. a.cells) (sym same)
 each_cells step one (a ∷ xs) t after e = option_and_then_some (each_some step xs) (step a t) after e (λ u f g. each_cells step one xs u after g ∙ one a t u f)
 
--- What the entering of a cell does on the stacks of cells. One that is not read is made.
-pub entered_lies : (o : Outlook) (cell : Place) (t after : Tokens) → enter o cell t ≡ Some after → (x : Place) → lies after.cells x + (if o.reads_cell cell then one_if (is_same cell x) else 0) ≡ lies t.cells x
-entered_lies o cell t after e x =
-    let m = map_some (λ cells. record t { cells = cells }) (taken (cell_source o cell) cell t.cells) after e in
-    subst (λ (a : Tokens). lies a.cells x + (if o.reads_cell cell then one_if (is_same cell x) else 0) ≡ lies t.cells x) m.2 (go (o.reads_cell cell) m.0 m.1)
-  where
-    go : (b : Bool) (held : Holdings Place) → taken (given b (Some (cell_input_stack o.swapped))) cell t.cells ≡ Some held → lies held x + (if b then one_if (is_same cell x) else 0) ≡ lies t.cells x
-    go true held f = elim (taken_was (Some (cell_input_stack o.swapped)) cell t.cells held f) [
-      | inl none ↦ absurd (let no_stack : Some (cell_input_stack o.swapped) ≡ None = none.0 in cc)
-      | inr lay ↦ lay x
-    ]
-    go false held f = let same : lent t.cells ≡ held = cc in ap (λ h. lies h x + 0) (sym same) ∙ omega arith
-
 -- a push puts a place on the stack, if the depot has it, and moves no other
 pub pushed_lies : (held : Holdings Place) (s : ℕ) (place x : Place) → is_same place x ≡ false → lies (pushed held s place) x ≡ lies held x
 pushed_lies held s place x other = elim (within s (stack_count held)) [
-  | inl h ↦ omega (
-    arith,
-    sum_by-set (there x) held.stacks s (pushed_on (stack_at held s) place) new_stack h,
-    count-cons (λ y. is_same y x) place (items_at held s),
-    ap one_if other,
-  )
+  | inl h ↦ omega (arith, pushed_once s place x held h, ap one_if other)
   | inr h ↦ ap (sum_by (there x)) (set_past held.stacks s (pushed_on (stack_at held s) place) h)
 ]
   where
@@ -95,35 +56,35 @@ left_lies o cell t after e x other =
     go (Some s) = pushed_lies t.cells s cell x other
 
 -- in a list where a place does not stand, no other is the same
-none_same : (cells : List Place) (cell x : Place) → count_in cells cell ≡ 0 → 1 ≤ count_in cells x → is_same cell x ≡ false
-none_same cells cell x none some = false_unless (is_same cell x) (λ k. omega (arith, some, none, ap (count_in cells) (same_places cell x k)))
+none_same : (cells : List Place) (cell x : Place) → times cells cell ≡ 0 → 1 ≤ times cells x → is_same cell x ≡ false
+none_same cells cell x none some = false_unless (is_same cell x) (λ k. omega (arith, some, none, ap (times cells) (same_places cell x k)))
+
+-- no other place is moved
+unmoved : (b same : Bool) (n m : ℕ) → same ≡ false → n + one_if (b && same) ≡ m → n ≡ m
+unmoved true same n m k f = omega (arith, f, ap one_if k)
+unmoved false same n m k f = omega (arith, f)
 
 module _ (o : Outlook) where
   same_cells : (ahead : List Place) (t after : Tokens) → after.cells ≡ t.cells → CellsAhead o ahead t → CellsAhead o ahead after
   same_cells ahead t after e a = record { once = a.once; lie = λ x h. ap (λ held. lies held x) e ∙ a.lie x h }
 
-  enter_ahead : (cell : Place) (ahead : List Place) (t after : Tokens) → enter o cell t ≡ Some after → CellsAhead o (cell ∷ ahead) t → CellsAhead o ahead after × (lies after.cells cell ≡ 0) × (count_in ahead cell ≡ 0)
+  enter_ahead : (cell : Place) (ahead : List Place) (t after : Tokens) → enter o cell t ≡ Some after → CellsAhead o (cell ∷ ahead) t → CellsAhead o ahead after × (lies after.cells cell ≡ 0) × (times ahead cell ≡ 0)
   enter_ahead cell ahead t after e a =
-      let one : count_in (cell ∷ ahead) cell ≡ 1 + count_in ahead cell = count-cons (λ y. is_same y cell) cell ahead ∙ ap (λ b. one_if b + count_in ahead cell) (is_same_itself cell) in
-      let none : count_in ahead cell ≡ 0 = omega (arith, a.once cell, one) in (
+      let one : times (cell ∷ ahead) cell ≡ 1 + times ahead cell = count-cons (λ y. is_same y cell) cell ahead ∙ ap (λ b. one_if b + times ahead cell) (is_same_itself cell) in
+      let none : times ahead cell ≡ 0 = omega (arith, a.once cell, one) in (
         record {
           once = λ x. omega (arith, a.once x, count-cons (λ y. is_same y x) cell ahead);
-          lie = λ x h. (let unmoved = ap (λ b. if o.reads_cell cell then one_if b else 0) (none_same ahead cell x none h) ∙ nothing (o.reads_cell cell) in
-              let z : lies after.cells x ≡ lies t.cells x = omega (arith, entered_lies o cell t after e x, unmoved) in z) ∙ a.lie x (omega (arith, h, count-cons (λ y. is_same y x) cell ahead));
+          lie = λ x h. unmoved (o.reads_cell cell) (is_same cell x) _ _ (none_same ahead cell x none h) ((after_enter o cell t after e).its_lies x) ∙ a.lie x (omega (arith, h, count-cons (λ y. is_same y x) cell ahead));
         },
-        gone (o.reads_cell cell) (lies after.cells cell) (entered_lies o cell t after e cell ∙ a.lie cell (omega (arith, one))) (is_same_itself cell),
+        gone (o.reads_cell cell) (is_same cell cell) (lies after.cells cell) (is_same_itself cell) ((after_enter o cell t after e).its_lies cell ∙ a.lie cell (omega (arith, one))),
         none,
       )
     where
-      nothing : (b : Bool) → (if b then one_if false else 0) ≡ 0
-      nothing true = refl
-      nothing false = refl
+      gone : (b same : Bool) (n : ℕ) → same ≡ true → n + one_if (b && same) ≡ (if b then 1 else 0) → n ≡ 0
+      gone true same n k f = omega (arith, f, ap one_if k)
+      gone false same n k f = omega (arith, f)
 
-      gone : (b : Bool) (n : ℕ) → n + (if b then one_if (is_same cell cell) else 0) ≡ (if b then 1 else 0) → is_same cell cell ≡ true → n ≡ 0
-      gone true n f k = omega (arith, f, ap one_if k)
-      gone false n f k = omega (arith, f)
-
-  leave_ahead : (cell : Place) (ahead : List Place) (t after : Tokens) → leave o cell t ≡ Some after → count_in ahead cell ≡ 0 → CellsAhead o ahead t → CellsAhead o ahead after
+  leave_ahead : (cell : Place) (ahead : List Place) (t after : Tokens) → leave o cell t ≡ Some after → times ahead cell ≡ 0 → CellsAhead o ahead t → CellsAhead o ahead after
   leave_ahead cell ahead t after e none a = record { once = a.once; lie = λ x h. left_lies o cell t after e x (none_same ahead cell x none h) ∙ a.lie x h }
 
   -- a cell around what is done below it
@@ -138,7 +99,7 @@ module _ (o : Outlook) where
       same_cells ahead t4 after (each_cells (store o cell) (λ k. store_cells o cell k) (numbers o) t4 after f4)
       (leave_ahead cell ahead t3 t4 e4 (behind entered.2) (goes t2 t3 e3 entered.0))))))
     where
-      behind : count_in (inner ++ ahead) cell ≡ 0 → count_in ahead cell ≡ 0
+      behind : times (inner ++ ahead) cell ≡ 0 → times ahead cell ≡ 0
       behind none = omega (arith, none, count-append (λ y. is_same y cell) inner ahead)
 
   each_ahead : (levels : ℕ) → ((cell : Place) (ahead : List Place) (t after : Tokens) → walk o levels cell t ≡ Some after → CellsAhead o (walked_cells o.axes o.way o.walks levels cell ++ ahead) t → CellsAhead o ahead after)
@@ -170,7 +131,7 @@ steps_keep_ahead o = record {
 }
 
 -- a filter keeps a place that passes as often as it stands there
-count-filter : (test : Place → Bool) (cells : List Place) (x : Place) → count_in (filter test cells) x ≡ (if test x then count_in cells x else 0)
+count-filter : (test : Place → Bool) (cells : List Place) (x : Place) → times (filter test cells) x ≡ (if test x then times cells x else 0)
 count-filter test [] x = either (test x) 0
   where
     either : (b : Bool) (n : ℕ) → n ≡ (if b then n else n)
@@ -178,24 +139,24 @@ count-filter test [] x = either (test x) 0
     either false n = refl
 count-filter test (c ∷ cells) x = go (test c) refl (is_same c x) refl (count-filter test cells x)
   where
-    head : (n : ℕ) (b : Bool) → is_same c x ≡ b → (m : ℕ) → n ≡ count_in cells x → m ≡ one_if b + n → m ≡ count_in (c ∷ cells) x
+    head : (n : ℕ) (b : Bool) → is_same c x ≡ b → (m : ℕ) → n ≡ times cells x → m ≡ one_if b + n → m ≡ times (c ∷ cells) x
     head n b s m e f = omega (arith, count-cons (λ y. is_same y x) c cells, ap one_if s, e, f)
 
-    other : (b : Bool) → is_same c x ≡ false → (if b then count_in cells x else 0) ≡ (if b then count_in (c ∷ cells) x else 0)
+    other : (b : Bool) → is_same c x ≡ false → (if b then times cells x else 0) ≡ (if b then times (c ∷ cells) x else 0)
     other true s = omega (arith, count-cons (λ y. is_same y x) c cells, ap one_if s)
     other false s = refl
 
-    go : (b : Bool) → test c ≡ b → (same : Bool) → is_same c x ≡ same → count_in (filter test cells) x ≡ (if test x then count_in cells x else 0)
-        → count_in (cond b (c ∷ filter test cells) (filter test cells)) x ≡ (if test x then count_in (c ∷ cells) x else 0)
+    go : (b : Bool) → test c ≡ b → (same : Bool) → is_same c x ≡ same → times (filter test cells) x ≡ (if test x then times cells x else 0)
+        → times (cond b (c ∷ filter test cells) (filter test cells)) x ≡ (if test x then times (c ∷ cells) x else 0)
     go true e true s more =
         let passes : test x ≡ true = sym (ap test (same_places c x s)) ∙ e in
-        head (count_in (filter test cells) x) true s (count_in (c ∷ filter test cells) x) (more ∙ ap (λ b. if b then count_in cells x else 0) passes) (count-cons (λ y. is_same y x) c (filter test cells) ∙ ap (λ b. one_if b + count_in (filter test cells) x) s)
-        ∙ ap (λ b. if b then count_in (c ∷ cells) x else 0) (sym passes)
+        head (times (filter test cells) x) true s (times (c ∷ filter test cells) x) (more ∙ ap (λ b. if b then times cells x else 0) passes) (count-cons (λ y. is_same y x) c (filter test cells) ∙ ap (λ b. one_if b + times (filter test cells) x) s)
+        ∙ ap (λ b. if b then times (c ∷ cells) x else 0) (sym passes)
     go false e true s more =
         let fails : test x ≡ false = sym (ap test (same_places c x s)) ∙ e in
-        more ∙ ap (λ b. if b then count_in cells x else 0) fails ∙ ap (λ b. if b then count_in (c ∷ cells) x else 0) (sym fails)
+        more ∙ ap (λ b. if b then times cells x else 0) fails ∙ ap (λ b. if b then times (c ∷ cells) x else 0) (sym fails)
     go true e false s more =
-        let skipped : count_in (c ∷ filter test cells) x ≡ count_in (filter test cells) x = omega (arith, count-cons (λ y. is_same y x) c (filter test cells), ap one_if s) in
+        let skipped : times (c ∷ filter test cells) x ≡ times (filter test cells) x = omega (arith, count-cons (λ y. is_same y x) c (filter test cells), ap one_if s) in
         skipped ∙ more ∙ other (test x) s
     go false e false s more = more ∙ other (test x) s
 
@@ -211,14 +172,14 @@ begins_ahead o walked greatest t dim grown may = record {
     differ : CellsDiffer o (greatest - 1) root
     differ = walked_cells_differ o (greatest - 1) root dim (root_is_cell o.axes o.way)
 
-    all_once : (x : Place) → count_in (walked_cells o.axes o.way o.walks greatest root) x ≤ 1
+    all_once : (x : Place) → times (walked_cells o.axes o.way o.walks greatest root) x ≤ 1
     all_once x = (walked_cells_differ o greatest root dim (root_is_cell o.axes o.way)).once x
 
     all_are : walked_cells o.axes o.way o.walks greatest root ≡ root ∷ cells_below o (greatest - 1) root
     all_are = ap (λ n. walked_cells o.axes o.way o.walks n root) deep ∙ ap (λ b. root ∷ flat_map (walked_cells o.axes o.way o.walks (greatest - 1)) (if_walks o.axes o.way o.walks b (children o.axes o.way root))) (root_walks o walked greatest dim grown)
 
-    just_one : (x : Place) → 1 ≤ count_in (cells_below o (greatest - 1) root) x → count_in (walked_cells o.axes o.way o.walks greatest root) x ≡ 1
-    just_one x h = omega (arith, h, all_once x, ap (λ cs. count_in cs x) all_are, count-cons (λ y. is_same y x) root (cells_below o (greatest - 1) root))
+    just_one : (x : Place) → 1 ≤ times (cells_below o (greatest - 1) root) x → times (walked_cells o.axes o.way o.walks greatest root) x ≡ 1
+    just_one x h = omega (arith, h, all_once x, ap (λ cs. times cs x) all_are, count-cons (λ y. is_same y x) root (cells_below o (greatest - 1) root))
 
     input : ℕ
     input = cell_input_stack o.swapped
@@ -227,18 +188,18 @@ begins_ahead o walked greatest t dim grown may = record {
     near true = omega arith
     near false = omega arith
 
-    on_input : (x : Place) → lies t.cells x ≡ count_in (cell_reads_of o greatest root) x
+    on_input : (x : Place) → lies t.cells x ≡ times (cell_reads_of o greatest root) x
     on_input x =
         sum_only (there x) t.cells.stacks (cell_input_stack o.swapped) new_stack (omega (arith, near o.swapped, may.cell_stacks))
-        (λ s k. ap (λ cs. count_in cs x) (may.reads_cells s ∙ ap (λ b. if b then cell_reads_of o greatest root else []) (eq_false s (cell_input_stack o.swapped) k)))
-        ∙ ap (λ cs. count_in cs x) (may.reads_cells (cell_input_stack o.swapped) ∙ ap (λ b. if b then cell_reads_of o greatest root else []) (same_itself (cell_input_stack o.swapped)))
+        (λ s k. ap (λ cs. times cs x) (may.reads_cells s ∙ ap (λ b. if b then cell_reads_of o greatest root else []) (eq_false s (cell_input_stack o.swapped) k)))
+        ∙ ap (λ cs. times cs x) (may.reads_cells (cell_input_stack o.swapped) ∙ ap (λ b. if b then cell_reads_of o greatest root else []) (same_itself (cell_input_stack o.swapped)))
 
 -- the walk of a cell moves no cells but its own
 module _ (o : Outlook) (x : Place) where
-  not_here : (cell : Place) (inner : List Place) → count_in (cell ∷ inner) x ≡ 0 → (is_same cell x ≡ false) × (count_in inner x ≡ 0)
+  not_here : (cell : Place) (inner : List Place) → times (cell ∷ inner) x ≡ 0 → (is_same cell x ≡ false) × (times inner x ≡ 0)
   not_here cell inner h = go (is_same cell x) refl
     where
-      go : (b : Bool) → is_same cell x ≡ b → (b ≡ false) × (count_in inner x ≡ 0)
+      go : (b : Bool) → is_same cell x ≡ b → (b ≡ false) × (times inner x ≡ 0)
       go true e = absurd (omega (arith, h, count-cons (λ y. is_same y x) cell inner, ap one_if e))
       go false e = (refl, omega (arith, h, count-cons (λ y. is_same y x) cell inner))
 
@@ -252,30 +213,26 @@ module _ (o : Outlook) (x : Place) where
       ap (λ held. lies held x) (each_cells (store o cell) (λ k. store_cells o cell k) (numbers o) t4 after f4)
       ∙ left_lies o cell t3 t4 e4 x other
       ∙ goes t2 t3 e3
-      ∙ (let same : lies t2.cells x ≡ lies t1.cells x = unmoved (o.reads_cell cell) (lies t2.cells x) (lies t1.cells x) (entered_lies o cell t1 t2 e2 x) in same)
+      ∙ unmoved (o.reads_cell cell) (is_same cell x) (lies t2.cells x) (lies t1.cells x) other ((after_enter o cell t1 t2 e2).its_lies x)
       ∙ ap (λ held. lies held x) (each_cells (load o cell) (λ k. load_cells o cell k) _ t t1 e1)))))
-    where
-      unmoved : (b : Bool) (n m : ℕ) → n + (if b then one_if (is_same cell x) else 0) ≡ m → n ≡ m
-      unmoved true n m f = omega (arith, f, ap one_if other)
-      unmoved false n m f = omega (arith, f)
 
-  each_moves : (levels : ℕ) → ((cell : Place) (t after : Tokens) → walk o levels cell t ≡ Some after → count_in (walked_cells o.axes o.way o.walks levels cell) x ≡ 0 → lies after.cells x ≡ lies t.cells x)
-      → (cells : List Place) (t after : Tokens) → each_some (walk o levels) cells t ≡ Some after → count_in (flat_map (walked_cells o.axes o.way o.walks levels) cells) x ≡ 0 → lies after.cells x ≡ lies t.cells x
+  each_moves : (levels : ℕ) → ((cell : Place) (t after : Tokens) → walk o levels cell t ≡ Some after → times (walked_cells o.axes o.way o.walks levels cell) x ≡ 0 → lies after.cells x ≡ lies t.cells x)
+      → (cells : List Place) (t after : Tokens) → each_some (walk o levels) cells t ≡ Some after → times (flat_map (walked_cells o.axes o.way o.walks levels) cells) x ≡ 0 → lies after.cells x ≡ lies t.cells x
   each_moves levels law [] t after e h = let same : t ≡ after = cc in ap (λ (a : Tokens). lies a.cells x) (sym same)
   each_moves levels law (c ∷ cs) t after e h =
       let parts = count-append (λ y. is_same y x) (walked_cells o.axes o.way o.walks levels c) (flat_map (walked_cells o.axes o.way o.walks levels) cs) in
-      let first : count_in (walked_cells o.axes o.way o.walks levels c) x ≡ 0 = omega (arith, parts, h) in
-      let others : count_in (flat_map (walked_cells o.axes o.way o.walks levels) cs) x ≡ 0 = omega (arith, parts, h) in
+      let first : times (walked_cells o.axes o.way o.walks levels c) x ≡ 0 = omega (arith, parts, h) in
+      let others : times (flat_map (walked_cells o.axes o.way o.walks levels) cs) x ≡ 0 = omega (arith, parts, h) in
       option_and_then_some (each_some (walk o levels) cs) (walk o levels c t) after e (λ u f g. each_moves levels law cs u after g others ∙ law c t u f first)
 
-  walk_moves : (levels : ℕ) (cell : Place) (t after : Tokens) → walk o levels cell t ≡ Some after → count_in (walked_cells o.axes o.way o.walks levels cell) x ≡ 0 → lies after.cells x ≡ lies t.cells x
+  walk_moves : (levels : ℕ) (cell : Place) (t after : Tokens) → walk o levels cell t ≡ Some after → times (walked_cells o.axes o.way o.walks levels cell) x ≡ 0 → lies after.cells x ≡ lies t.cells x
   walk_moves zero cell t after e h = around_moves _ cell (not_here cell [] h).0 (λ u v f. let g = given_some (not (o.walks cell)) (Some u) v f in let same : u ≡ v = cc (g.1) in ap (λ (a : Tokens). lies a.cells x) (sym same)) t after e
   walk_moves (suc levels) cell t after e h =
       let parts = not_here cell (flat_map (walked_cells o.axes o.way o.walks levels) (walked_children o.axes o.way o.walks cell)) h in
       around_moves _ cell parts.0 (λ u v f. below (o.walks cell) parts.1 u v (each_moves levels (walk_moves levels) (children o.axes o.way cell) u v) f) t after e
     where
-      below : (b : Bool) → count_in (flat_map (walked_cells o.axes o.way o.walks levels) (if_walks o.axes o.way o.walks b (children o.axes o.way cell))) x ≡ 0
-          → (u v : Tokens) → (each_some (walk o levels) (children o.axes o.way cell) u ≡ Some v → count_in (flat_map (walked_cells o.axes o.way o.walks levels) (children o.axes o.way cell)) x ≡ 0 → lies v.cells x ≡ lies u.cells x)
+      below : (b : Bool) → times (flat_map (walked_cells o.axes o.way o.walks levels) (if_walks o.axes o.way o.walks b (children o.axes o.way cell))) x ≡ 0
+          → (u v : Tokens) → (each_some (walk o levels) (children o.axes o.way cell) u ≡ Some v → times (flat_map (walked_cells o.axes o.way o.walks levels) (children o.axes o.way cell)) x ≡ 0 → lies v.cells x ≡ lies u.cells x)
           → (if b then each_some (walk o levels) (children o.axes o.way cell) u else (Some u)) ≡ Some v → lies v.cells x ≡ lies u.cells x
       below true none u v run f = run f none
       below false none u v run f = let same : u ≡ v = cc in ap (λ (a : Tokens). lies a.cells x) (sym same)

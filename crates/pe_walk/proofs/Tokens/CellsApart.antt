@@ -15,7 +15,7 @@ use Rattle.pe_base.proofs.Faces.Quiet.{false_unless}
 use Rattle.pe_base.proofs.Faces.Bridge.{same_places}
 use Rattle.pe_walk.specs.Laws.{IsCell}
 use Rattle.pe_walk.specs.Tokens.{Outlook}
-use Rattle.pe_walk.specs.CellsAhead.{count_in, cells_below, WalkedCellsDiffer}
+use Rattle.pe_walk.specs.CellsAhead.{times, cells_below, WalkedCellsDiffer}
 use Rattle.pe_walk.proofs.Unwalked.{in_contains, cell_four}
 use Rattle.pe_walk.proofs.Trees.{child_is_cell}
 use Rattle.pe_walk.proofs.Tokens.Walks.{each_with}
@@ -33,11 +33,11 @@ abbrev Under : Place → Place → Type 0
 Under cell x = (cell.level ≤ x.level) × (climb (x.level - cell.level) x ≡ cell)
 
 -- in a rising list no place stands twice
-rising_once : (r : Place → ℕ) → ((x y : Place) → is_same x y ≡ true → r x ≡ r y) → (low high : ℕ) (xs : List Place) → Rising r low xs high → (x : Place) → count_in xs x ≤ 1
+rising_once : (r : Place → ℕ) → ((x y : Place) → is_same x y ≡ true → r x ≡ r y) → (low high : ℕ) (xs : List Place) → Rising r low xs high → (x : Place) → times xs x ≤ 1
 rising_once r ranks low high [] s x = omega arith
 rising_once r ranks low high (y ∷ ys) s x = go (is_same y x) refl (rising_once r ranks (suc (r y)) high ys s.1 x)
   where
-    go : (b : Bool) → is_same y x ≡ b → count_in ys x ≤ 1 → count_in (y ∷ ys) x ≤ 1
+    go : (b : Bool) → is_same y x ≡ b → times ys x ≤ 1 → times (y ∷ ys) x ≤ 1
     go true e more =
         let above = Rising-above r (suc (r y)) high ys s.1 in
         let none = count_none (λ z. is_same z x) ys (Each-weaker _ _ (λ z h. false_unless (is_same z x) (λ k. omega (arith, h, ranks z x k, ranks y x e))) ys above) in
@@ -63,7 +63,7 @@ children_of axes way cell four is =
       parent = i.1.1;
     }) (children axes way cell) (each_with _ (children axes way cell) parts)
 
-children_once : (axes : ℕ) (way : Way) (cell x : Place) → axes ≤ 4 → IsCell axes way cell → count_in (children axes way cell) x ≤ 1
+children_once : (axes : ℕ) (way : Way) (cell x : Place) → axes ≤ 4 → IsCell axes way cell → times (children axes way cell) x ≤ 1
 children_once axes way cell x four is =
     rising_once (rank_of axes way (suc cell.level)) (λ a b e. ap (λ p. rank axes way (suc cell.level) p) (is_same-true a b e).1) _ _ (children axes way cell) (children_rise axes way cell.level cell four (cell_four axes way cell four is)) x
 
@@ -89,35 +89,35 @@ module _ (o : Outlook) (four : o.axes ≤ 4) where
       go false e = tt
 
   -- a cell that is the same as none of a list
-  none_same : (P : Place → Type 0) (x : Place) → (P x → 1 ≤ 0) → (cells : List Place) → Each P cells → count_in cells x ≡ 0
+  none_same : (P : Place → Type 0) (x : Place) → (P x → 1 ≤ 0) → (cells : List Place) → Each P cells → times cells x ≡ 0
   none_same P x out cells each = count_none (λ y. is_same y x) cells (Each-weaker P _ (λ y p. false_unless (is_same y x) (λ k. out (subst P (same_places y x k) p))) cells each)
 
-  above_none : (levels : ℕ) (cell x : Place) → IsCell o.axes o.way cell → x.level < cell.level → count_in (walked_cells o.axes o.way o.walks levels cell) x ≡ 0
+  above_none : (levels : ℕ) (cell x : Place) → IsCell o.axes o.way cell → x.level < cell.level → times (walked_cells o.axes o.way o.walks levels cell) x ≡ 0
   above_none levels cell x is h = none_same (Under cell) x (λ u. omega (arith, u.0)) (walked_cells o.axes o.way o.walks levels cell) (walk_under levels cell is)
 
-  below_deeper : (levels : ℕ) (cell x : Place) → IsCell o.axes o.way cell → x.level ≤ cell.level → count_in (cells_below o levels cell) x ≡ 0
+  below_deeper : (levels : ℕ) (cell x : Place) → IsCell o.axes o.way cell → x.level ≤ cell.level → times (cells_below o levels cell) x ≡ 0
   below_deeper levels cell x is h = none_same _ x (λ u. omega (arith, u.1)) (cells_below o levels cell) (walk_below levels (walk_under levels) cell is)
 
   -- where the walks of the children have each place once, so have they together: it lies below just one of them
-  below_once : (levels : ℕ) → ((cell x : Place) → IsCell o.axes o.way cell → count_in (walked_cells o.axes o.way o.walks levels cell) x ≤ 1)
-      → (cell x : Place) → IsCell o.axes o.way cell → count_in (cells_below o levels cell) x ≤ 1
+  below_once : (levels : ℕ) → ((cell x : Place) → IsCell o.axes o.way cell → times (walked_cells o.axes o.way o.walks levels cell) x ≤ 1)
+      → (cell x : Place) → IsCell o.axes o.way cell → times (cells_below o levels cell) x ≤ 1
   below_once levels once cell x is =
       let way_up = climb (x.level - suc cell.level) x in
       omega (
         arith,
         count-flat_map (λ y. is_same y x) (walked_cells o.axes o.way o.walks levels) (children o.axes o.way cell),
-        sum-less (λ c. count_in (walked_cells o.axes o.way o.walks levels c) x) (λ c. one_if (is_same c way_up)) (children o.axes o.way cell)
+        sum-less (λ c. times (walked_cells o.axes o.way o.walks levels c) x) (λ c. one_if (is_same c way_up)) (children o.axes o.way cell)
             (Each-weaker (ChildOf o.axes o.way cell) _ (λ c i. within c i (is_same c way_up) refl) (children o.axes o.way cell) (children_of o.axes o.way cell four is)),
         children_once o.axes o.way cell way_up four is,
       )
     where
-      within : (c : Place) → ChildOf o.axes o.way cell c → (b : Bool) → is_same c (climb (x.level - suc cell.level) x) ≡ b → count_in (walked_cells o.axes o.way o.walks levels c) x ≤ one_if b
+      within : (c : Place) → ChildOf o.axes o.way cell c → (b : Bool) → is_same c (climb (x.level - suc cell.level) x) ≡ b → times (walked_cells o.axes o.way o.walks levels c) x ≤ one_if b
       within c i true e = once c x i.is_cell
       within c i false e =
           let other : Under c x → 1 ≤ 0 = λ u. absurd (true≢false (sym (ap (is_same c) (ap (λ n. climb (x.level - n) x) (sym i.level) ∙ u.1) ∙ is_same_itself c) ∙ e)) in
           omega (arith, none_same (Under c) x other (walked_cells o.axes o.way o.walks levels c) (walk_under levels c i.is_cell))
 
-  walk_once : (levels : ℕ) (cell x : Place) → IsCell o.axes o.way cell → count_in (walked_cells o.axes o.way o.walks levels cell) x ≤ 1
+  walk_once : (levels : ℕ) (cell x : Place) → IsCell o.axes o.way cell → times (walked_cells o.axes o.way o.walks levels cell) x ≤ 1
   walk_once zero cell x is = omega (arith, count-cons (λ y. is_same y x) cell [], at_most (is_same cell x))
     where
       at_most : (b : Bool) → one_if b ≤ 1
@@ -125,8 +125,8 @@ module _ (o : Outlook) (four : o.axes ≤ 4) where
       at_most false = omega arith
   walk_once (suc levels) cell x is = go (o.walks cell) (is_same cell x) refl (below_once levels (walk_once levels) cell x is)
     where
-      go : (b same : Bool) → is_same cell x ≡ same → count_in (cells_below o levels cell) x ≤ 1
-          → count_in (cell ∷ flat_map (walked_cells o.axes o.way o.walks levels) (if_walks o.axes o.way o.walks b (children o.axes o.way cell))) x ≤ 1
+      go : (b same : Bool) → is_same cell x ≡ same → times (cells_below o levels cell) x ≤ 1
+          → times (cell ∷ flat_map (walked_cells o.axes o.way o.walks levels) (if_walks o.axes o.way o.walks b (children o.axes o.way cell))) x ≤ 1
       go true true e h = omega (arith, count-cons (λ y. is_same y x) cell (cells_below o levels cell), ap one_if e, below_deeper levels cell x is (omega (arith, (is_same-true cell x e).0)))
       go true false e h = omega (arith, count-cons (λ y. is_same y x) cell (cells_below o levels cell), ap one_if e, h)
       go false true e h = omega (arith, count-cons (λ y. is_same y x) cell [], ap one_if e)

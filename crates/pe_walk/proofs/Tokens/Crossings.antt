@@ -1,10 +1,10 @@
 -- The traffic of the stacks of the axes is the crossings of the vertices that count.
-use Rattle.std.proofs.Common.{◌≡◌, ◌≢◌, inl, inr, ℕ, ◌+◌, ◌*◌, ◌%◌, ◌^◌, ◌<◌, ◌≤◌, Bool, true, false, not, cond, ◌&&◌, ◌==◌, List, [], ◌∷◌, map, filter, reverse, length, slice_index, Option, Some, None, refl, sym, ap, ap₂, ◌∙◌, subst, true≢false, arith}
+use Rattle.std.proofs.Common.{◌≡◌, ◌≢◌, inl, inr, ℕ, ◌+◌, ◌*◌, ◌%◌, ◌^◌, ◌<◌, ◌≤◌, Bool, true, false, cond, ◌&&◌, ◌==◌, List, [], ◌∷◌, map, filter, length, slice_index, Option, Some, None, refl, sym, ap, ap₂, ◌∙◌, subst, true≢false, arith}
 use Rattle.std.specs.Prelude.{is_none, if◌then◌else◌, sum_by, count_by}
 use Rattle.std.specs.Option.{option_map}
 use Rattle.std.specs.List.{flat_map}
 use Rattle.std.proofs.lemmas.List.{take_all}
-use Rattle.std.proofs.lemmas.List.Sums.{sum_by-cons, sum_by-append, length-filter}
+use Rattle.std.proofs.lemmas.List.Sums.{sum_by-cons, length-filter}
 use Rattle.pe_base.specs.declared.place.Place.{Place}
 use Rattle.pe_base.specs.declared.way.Way.{Way}
 use Rattle.pe_base.specs.Tree.Dim.{IsDim}
@@ -13,7 +13,7 @@ use Rattle.pe_base.specs.Steps.Around.{around, steps, crossings}
 use Rattle.pe_base.specs.Steps.Routes.{axis_of, waiting_stack, stack_in}
 use Rattle.pe_base.specs.Steps.Faces.{Touch, steps_to}
 use Rattle.pe_base.specs.Steps.Stacks.{is_stack}
-use Rattle.pe_base.proofs.Lists.{Each, Each-all, Each-weaker, Each-map, Each-filter, In, filter_same, filter-filter, reverse-cons}
+use Rattle.pe_base.proofs.Lists.{Each, Each-all, Each-weaker, Each-map, Each-filter, In, filter_same, filter-filter}
 use Rattle.pe_base.proofs.Tree.Ranks.{and_left}
 use Rattle.pe_base.proofs.Steps.Counts.{is_same_itself, steps_to_cells, eq_true, eq_false, true_eq}
 use Rattle.pe_base.proofs.Steps.Turned.{find_none, find_first, one_step_to}

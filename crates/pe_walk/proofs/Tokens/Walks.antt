@@ -246,7 +246,7 @@ walk_each o greatest levels law (c ∷ cs) each t a b ca cb n m its cells turns 
       },
     )
 
-children_levels : (axes : ℕ) (way : Way) (cell : Place) → Each (λ c. c.level ≡ cell.level + 1) (children axes way cell)
+pub children_levels : (axes : ℕ) (way : Way) (cell : Place) → Each (λ c. c.level ≡ cell.level + 1) (children axes way cell)
 children_levels axes way cell = subst (Each (λ c. c.level ≡ cell.level + 1)) (sym (children_are axes way cell)) (Each-map (λ c. c.level ≡ cell.level + 1) (child_of axes way cell) (digit_lists axes) (Each-all _ (λ ts. refl) (digit_lists axes)))
 
 -- each item of a list with what holds of it
