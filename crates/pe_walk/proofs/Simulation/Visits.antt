@@ -2,3 +2,5 @@
 
 -- what is put back
 pub mod Records
+-- a cell is entered
+pub mod Entering
