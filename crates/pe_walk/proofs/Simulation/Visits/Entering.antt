@@ -25,14 +25,15 @@ use Rattle.pe_walk.specs.Machine.{Machine, cell_comes}
 use Rattle.pe_walk.specs.Machine as machine
 use Rattle.pe_walk.specs.Tokens.{Outlook, Tokens, given, taken, cell_source, is_top}
 use Rattle.pe_walk.specs.Tokens as tokens
-use Rattle.pe_walk.specs.CoreKeeps.{AreAlike}
+use Rattle.pe_walk.specs.CoreKeeps.{AreAlike, KeepsParents}
 use Rattle.pe_walk.specs.CellsAhead.{CellsAhead}
 use Rattle.pe_walk.specs.Apart.{IsApart, lies, occurs}
 use Rattle.pe_walk.specs.Gridded.{ports_of}
 use Rattle.pe_walk.specs.Outlooks.{was_stored}
 use Rattle.pe_walk.specs.Standing.{Foresight, Outset, Stage, per_cell, Stands, Fair, Owes, Holds, IsOutset, IsStage, IsWritten, times}
 use Rattle.pe_walk.proofs.Tokens.Apart.{map_some, one_if}
-use Rattle.pe_walk.proofs.Tokens.CellsAhead.{steps_keep_ahead, entered_lies}
+use Rattle.pe_walk.proofs.Tokens.CellsAhead.{steps_keep_ahead}
+use Rattle.pe_walk.proofs.Tokens.StepFrames as frames
 use Rattle.pe_walk.proofs.Tokens.CountLists.{count-cons}
 use Rattle.pe_walk.proofs.Tokens.DepotCounts.{Took, take_counts}
 use Rattle.pe_walk.proofs.Tokens.Stacks.{popped_same, popped_other, same_or_other}
@@ -42,9 +43,9 @@ use Rattle.pe_walk.proofs.Simulation.Silent.{enter-silent}
 use Rattle.pe_walk.proofs.Simulation.CoreLaws.{core_keeps}
 use Rattle.pe_walk.proofs.Simulation.Counts.{small_rises}
 use Rattle.pe_walk.proofs.Simulation.Below.{FindsCell, cell_found}
-use Rattle.pe_walk.proofs.Simulation.Shared.{lend-image, pop-image, on_one, lies_unheld, cells-image, vertices-image, OneMore, owes-more}
+use Rattle.pe_walk.proofs.Simulation.Shared.{lend-image, pop-image, cells-image, OneMore, owes-more}
 use Rattle.pe_walk.proofs.Simulation.Leaves.{image_of, in_hand, own_in_hand, record_of, records_from, ports, after_enter, EnterLeaf}
-use Rattle.pe_walk.proofs.Simulation.Visits.Records.{Visited, visited, stage_levels, stage_up}
+use Rattle.pe_walk.proofs.Simulation.Visits.Records.{Visited, visited, fair_visited, vertices_visited}
 
 -- what a list has of a place that it begins with
 pub times-here : (x : Place) (xs : List Place) (y : Place) → is_same x y ≡ true → times (x ∷ xs) y ≡ 1 + times xs y
@@ -52,6 +53,10 @@ times-here x xs y e = omega (arith, count-cons (λ other. is_same other y) x xs,
 
 pub times-there : (x : Place) (xs : List Place) (y : Place) → is_same x y ≡ false → times (x ∷ xs) y ≡ times xs y
 times-there x xs y e = omega (arith, count-cons (λ other. is_same other y) x xs, ap {B = ℕ} one_if e)
+
+pub at_most_one : (b : Bool) → one_if b ≤ 1
+at_most_one true = omega arith
+at_most_one false = omega arith
 
 -- a cell taken from a stack leaves no stack longer
 pub len-taken : (from : Option ℕ) (place : Place) (held after : Holdings Place) → taken from place held ≡ Some after → (s : ℕ) → len_at after s ≤ len_at held s
@@ -138,7 +143,7 @@ module _ {Plan : Type 0} (set : Setting Plan) (e : Outset) (walked : Place → B
 
   -- # What holds afterwards
   lies_less : (x : Place) → lies t'.cells x ≤ lies t.cells x
-  lies_less x = let all = entered_lies e.outlook st.cell t t' runs x in omega (arith, all)
+  lies_less x = let all = (frames.after_enter e.outlook st.cell t t' runs).its_lies x in omega (arith, all)
 
   same_vertices : t'.vertices ≡ t.vertices
   same_vertices = sym (ap (λ (x : Tokens). x.vertices) took.2)
@@ -217,62 +222,42 @@ module _ {Plan : Type 0} (set : Setting Plan) (e : Outset) (walked : Place → B
       distinct x true q = omega (arith, times-here st.cell st.entered x q, not_entered x q)
       distinct x false q = omega (arith, times-there st.cell st.entered x q, h.stands.entered_distinct x)
 
-  -- the working state with what the core left
-  module _ (own : Own) (it : Family) (after : Working) (v : Visited set e st own it w after t) where
-    unheld : (q : Place) → 1 ≤ lies t.vertices q → t.held q ≡ 0
-    unheld q some = lies_unheld e.outlook t h.stands.apart h.stands.counting q some
+  -- # The working state with what the core left
+  module _ (own : Own) (it : Family) (alike_own : AreAlike (set.rules.greatest set.plan) st.cell.level (records_of set.axes w st.cell) own.corners) (alike : KeepsParents set st.cell (records_of set.axes w st.parent) it.parents) where
+    abbrev after : Working
+    after = after_cell set st.parent st.cell (own, it) w
 
-    on_stack : (s : ℕ) (q : Place) → 1 ≤ times (items_at t.vertices s) q → t.held q ≡ 0
-    on_stack s q some = unheld q (omega (arith, some, on_one t.vertices s q))
+    seen : Visited set e st own it w (after_cell set st.parent st.cell (own, it) w) t
+    seen = visited set e walked is st stage w t h all own it alike_own alike
 
-    none_held : (q : Place) → t.met q ≡ 0 → t.held q ≡ 0
-    none_held q unmet = by (t.held q) refl
+    is_there : (x : Place) → is_some (at after.cells x) ≡ (nat_lt 0 (lies took.0 x) || nat_lt 0 (times (st.cell ∷ st.entered) x))
+    is_there x = ap is_some (seen.cells x) ∙ by_parent (is_same st.parent x) refl (is_same st.cell x) refl
       where
-        by : (n : ℕ) → t.held q ≡ n → n ≡ 0
-        by zero p = refl
-        by (suc n) p = let some : 1 ≤ t.met q = h.stands.held_met q (omega (arith, p)) in absurd (omega (arith, some, unmet))
-
-    is_there : (x : Place) → is_some (at after.cells x) ≡ (nat_lt 0 (lies t'.cells x) || nat_lt 0 (times (st.cell ∷ st.entered) x))
-    is_there x = ap is_some (v.cells x) ∙ by_parent (is_same st.parent x) refl (is_same st.cell x) refl
-      where
-        entered : 1 ≤ times (st.cell ∷ st.entered) x → true ≡ (nat_lt 0 (lies t'.cells x) || nat_lt 0 (times (st.cell ∷ st.entered) x))
-        entered some = sym (or_true (nat_lt 0 (lies t'.cells x)) (nat_lt 0 (times (st.cell ∷ st.entered) x)) (lt-ltb 0 (times (st.cell ∷ st.entered) x) some))
+        entered : 1 ≤ times (st.cell ∷ st.entered) x → true ≡ (nat_lt 0 (lies took.0 x) || nat_lt 0 (times (st.cell ∷ st.entered) x))
+        entered some = sym (or_true (nat_lt 0 (lies took.0 x)) (nat_lt 0 (times (st.cell ∷ st.entered) x)) (lt-ltb 0 (times (st.cell ∷ st.entered) x) some))
           where
             or_true : (a b : Bool) → b ≡ true → (a || b) ≡ true
             or_true true b q = refl
             or_true false b q = q
 
         by_parent : (b : Bool) → is_same st.parent x ≡ b → (c : Bool) → is_same st.cell x ≡ c
-            → is_some (if b then Some it.parent else if c then Some own.cell else at w.cells x) ≡ (nat_lt 0 (lies t'.cells x) || nat_lt 0 (times (st.cell ∷ st.entered) x))
+            → is_some (if b then Some it.parent else if c then Some own.cell else at w.cells x) ≡ (nat_lt 0 (lies took.0 x) || nat_lt 0 (times (st.cell ∷ st.entered) x))
         by_parent true p c q = entered (subst (λ y. 1 ≤ times (st.cell ∷ st.entered) y) (same_places st.parent x p) stands.parent_entered)
         by_parent false p true q = entered (omega (arith, times-here st.cell st.entered x q))
         by_parent false p false q =
             h.fair.cells_there x
             ∙ ap₂ (λ a b. nat_lt 0 a || nat_lt 0 b) (sym lies_same) (sym (times-there st.cell st.entered x q))
           where
-            lies_same : lies t'.cells x ≡ lies t.cells x
-            lies_same = by (e.outlook.reads_cell st.cell) (entered_lies e.outlook st.cell t t' runs x)
+            lies_same : lies took.0 x ≡ lies t.cells x
+            lies_same = ap (λ (u : Tokens). lies u.cells x) took.2 ∙ by (e.outlook.reads_cell st.cell) (is_same st.cell x) q ((frames.after_enter e.outlook st.cell t t' runs).its_lies x)
               where
-                by : (b : Bool) → lies t'.cells x + (if b then one_if (is_same st.cell x) else 0) ≡ lies t.cells x → lies t'.cells x ≡ lies t.cells x
-                by true sum = omega (arith, sum, ap {B = ℕ} one_if q)
-                by false sum = omega (arith, sum)
-
-    fair : Fair set.axes (set.rules.greatest set.plan) e.outlook e.foresight (after_enter rest st) after t'
-    fair = subst (λ (x : Tokens). Fair set.axes (set.rules.greatest set.plan) e.outlook e.foresight (after_enter rest st) after x) took.2 (let f = h.fair in record {
-      loads = λ q. ap (λ loads. unwrap_or (at loads q) 0) v.loads ∙ f.loads q;
-      unread = λ q unmet. v.vertices q (none_held q unmet) ∙ f.unread q unmet;
-      live = λ q on live. v.fair q on (f.live q on live);
-      written = λ q some met. subst (IsWritten e.foresight (set.rules.greatest set.plan) q) (sym (v.vertices q (on_stack (output_stack e.outlook.swapped) q some))) (f.written q some met);
-      gone = λ q on met none. v.vertices q (omega (arith, none)) ∙ f.gone q on met none;
-      cells_there = λ x. is_there x ∙ ap (λ (u : Tokens). nat_lt 0 (lies u.cells x) || nat_lt 0 (times (st.cell ∷ st.entered) x)) (sym took.2);
-      parent_flags = λ k small. v.hung st.parent k ∙ f.parent_flags k small;
-      parents = λ k small off. v.idle_parents k small (f.parents k small off);
-      flags = λ x k deep. v.hung x k ∙ f.flags x k deep;
-      mine = λ k from small off. v.idle k small (f.mine k from small off);
-    })
+                by : (b c : Bool) → c ≡ false → lies t'.cells x + (if b && c then 1 else 0) ≡ lies t.cells x → lies t'.cells x ≡ lies t.cells x
+                by b true never sum = absurd (true≢false never)
+                by true false never sum = omega (arith, sum)
+                by false false never sum = omega (arith, sum)
 
     owes : Owes set.axes set.max_cells e (after_enter rest st) after.tally t'
-    owes = subst (λ tally. Owes set.axes set.max_cells e (after_enter rest st) tally t') (sym v.tally)
+    owes = subst (λ tally. Owes set.axes set.max_cells e (after_enter rest st) tally t') (sym seen.tally)
         (owes-more set.axes set.max_cells e st (after_enter rest st) w.tally w.tally t t' h.owes (record {
           cells = refl;
           read = omega arith;
@@ -291,28 +276,29 @@ module _ {Plan : Type 0} (set : Setting Plan) (e : Outset) (walked : Place → B
         (λ s. let less = len-taken (cell_source e.outlook st.cell) st.cell t.cells took.0 took.1 s in
         omega (arith, less, ap (λ (x : Tokens). len_at x.cells s) took.2, counted)))
       where
-        at_most_one : (b : Bool) → one_if b ≤ 1
-        at_most_one true = omega arith
-        at_most_one false = omega arith
-
         plus : (n : ℕ) → suc n ≡ n + 1
         plus n = omega arith
 
     holds : Holds set e (after_enter rest st) after t'
-    holds = record { stands = stands; fair = fair; owes = owes }
+    holds = record {
+      stands = stands;
+      fair = subst (λ (u : Tokens). Fair set.axes (set.rules.greatest set.plan) e.outlook e.foresight (after_enter rest st) after u) took.2
+          (fair_visited set e walked is st stage w t h all own it alike_own alike (st.owed - 1) (st.counted - 1) (st.cell ∷ st.entered) rest after.cells took.0 is_there);
+      owes = owes;
+    }
 
     -- the machine with what the core left is the image of it
     image_after : (own, record (record (image_of set e st.parent w t) { cells = map_holdings (cell_at w) took.0 }) { family = it }) ≡ own_in_hand set e (after_enter rest st) after t'
     image_after =
-        let vertices = vertices-image set e w after t t' t.vertices (λ x some. (v.vertices x (unheld x some), ap (λ met. met x) same_met)) in
-        let cells = cells-image w after took.0 (λ x some. v.cells x ∙ ap₂ (λ a b. if a then Some it.parent else if b then Some own.cell else at w.cells x) (not_parent x some) (not_cell x some)) in
+        let vertices = vertices_visited set e walked is st stage w t h all own it alike_own alike after.cells took.0 in
+        let cells = cells-image w after took.0 (λ x some. seen.cells x ∙ ap₂ (λ a b. if a then Some it.parent else if b then Some own.cell else at w.cells x) (not_parent x some) (not_cell x some)) in
         λ i. (
-          sym v.own i,
+          sym seen.own i,
           record {
-            vertices = (sym vertices ∙ ap (map_holdings (record_of set e after t')) (sym same_vertices)) i;
-            cells = (sym cells ∙ ap (λ (x : Tokens). map_holdings (cell_at after) x.cells) took.2) i;
-            family = sym v.family i;
-            tally = sym v.tally i;
+            vertices = (sym vertices ∙ ap (λ (u : Tokens). map_holdings (record_of set e after u) u.vertices) took.2) i;
+            cells = (sym cells ∙ ap (λ (u : Tokens). map_holdings (cell_at after) u.cells) took.2) i;
+            family = sym seen.family i;
+            tally = sym seen.tally i;
           },
         )
       where
@@ -339,11 +325,9 @@ module _ {Plan : Type 0} (set : Setting Plan) (e : Outset) (walked : Place → B
   abbrev core : Course (Own × Family)
   core = enter_touch set kind (cell_at w st.cell) st.cell (records_of set.axes w st.cell) (family_of set.axes w st.parent)
 
-  left : (r : Own × Family) → (enter_touch set kind (cell_at w st.cell) st.cell (records_of set.axes w st.cell) (family_of set.axes w st.parent)).ending ≡ done r
-      → Visited set e st r.0 r.1 w (after_cell set st.parent st.cell r w) t
-  left r ends =
-      let alike = (core_keeps set is.foresees.lawful).enters kind (cell_at w st.cell) st.cell (records_of set.axes w st.cell) (family_of set.axes w st.parent) r ends in
-      visited set e walked is st stage w t h all r.0 r.1 alike.0 alike.1
+  alike_after : (r : Own × Family) → (enter_touch set kind (cell_at w st.cell) st.cell (records_of set.axes w st.cell) (family_of set.axes w st.parent)).ending ≡ done r
+      → AreAlike (set.rules.greatest set.plan) st.cell.level (records_of set.axes w st.cell) r.0.corners × KeepsParents set st.cell (records_of set.axes w st.parent) r.1.parents
+  alike_after r ends = (core_keeps set is.foresees.lawful).enters kind (cell_at w st.cell) st.cell (records_of set.axes w st.cell) (family_of set.axes w st.parent) r ends
 
   pub entered_steps : (room : Push → Type 0)
       → Steps room (own_in_hand set e (after_enter rest st)) (Holds set e (after_enter rest st)) (model.enter_cell set st.parent st.cell w)
@@ -368,9 +352,9 @@ module _ {Plan : Type 0} (set : Setting Plan) (e : Outset) (walked : Place → B
             ))
             (core-matches room (λ u. own_in_hand set e (after_enter rest st) u t') core (λ it. after_cell set st.parent st.cell it w) (λ it. (it.0, record m' { family = it.1 }))
             (enter-silent set kind (cell_at w st.cell) st.cell (records_of set.axes w st.cell) (family_of set.axes w st.parent))
-            (λ r ends. image_after r.0 r.1 (after_cell set st.parent st.cell r w) (left r ends)));
-        holds = λ u ends. let at = mapped-done core (λ it. after_cell set st.parent st.cell it w) u ends in
-            subst (λ x. Holds set e (after_enter rest st) x t') (sym at.2) (holds at.0.0 at.0.1 (after_cell set st.parent st.cell at.0 w) (left at.0 at.1));
+            (λ r ends. let alike = alike_after r ends in image_after r.0 r.1 alike.0 alike.1));
+        holds = λ u ends. let at = mapped-done core (λ it. after_cell set st.parent st.cell it w) u ends in let alike = alike_after at.0 at.1 in
+            subst (λ x. Holds set e (after_enter rest st) x t') (sym at.2) (holds at.0.0 at.0.1 alike.0 alike.1);
       })
     where
       is_walked : (b : Bool) → not b ≡ true → b ≡ false

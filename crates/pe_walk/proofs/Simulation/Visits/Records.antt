@@ -1,10 +1,11 @@
 -- The records in hand of a cell that is entered or left are put back: its own, and those of its family.
-use Rattle.std.proofs.Common.{◌≡◌, ℕ, ◌+◌, ◌-◌, ◌^◌, ◌<◌, ◌≤◌, ◌≢◌, Bool, true, false, not, ◌&&◌, List, length, Option, Some, refl, sym, ap, ap₂, subst, ◌∙◌, arith, is_some, if◌then◌else◌}
+use Rattle.std.proofs.Common.{◌≡◌, ℕ, ℤ, zero, suc, ◌+◌, ◌-◌, ◌^◌, ◌<◌, ◌≤◌, ◌≢◌, Bool, true, false, not, ◌&&◌, ◌||◌, List, length, Option, Some, refl, sym, ap, ap₂, subst, ◌∙◌, arith, is_some, if◌then◌else◌}
 use Rattle.std.specs.Prelude.{nat_le, nat_lt}
 use Rattle.std.proofs.lemmas.Bool.{lt-ltb, le-leb}
 use Rattle.pe_base.specs.declared.place.Place.{Place}
 use Rattle.pe_base.specs.Tree.Places.{corner, parent_of, is_same}
-use Rattle.pe_base.specs.Walk.Maps.{at, at_corner}
+use Rattle.std.specs.Option.{unwrap_or}
+use Rattle.pe_base.specs.Walk.Maps.{Map, at, at_corner}
 use Rattle.pe_base.specs.Walk.Core.{Setting, Family, Own, way}
 use Rattle.pe_base.specs.Walk.Working.{Working, record_at, records_of, family_of, put_family, own_of, put_own}
 use Rattle.pe_base.specs.Walk.Touches.{after_cell}
@@ -13,11 +14,16 @@ use Rattle.pe_base.proofs.Walk.Slots.{is_hung}
 use Rattle.pe_walk.specs.Laws.{IsCell}
 use Rattle.pe_walk.specs.CoreKeeps.{AreAlike, KeepsParents}
 use Rattle.pe_walk.specs.Tokens.{Tokens}
-use Rattle.pe_walk.specs.Standing.{Foresight, Outset, Stage, IsStage, Holds, IsOutset, IsFair, IsIdle}
+use Rattle.pe_stacks.specs.Holdings.{Holdings, items_at}
+use Rattle.pe_stacks.specs.Grid.{output_stack}
+use Rattle.pe_hang.specs.InHand.{map_holdings}
+use Rattle.pe_walk.specs.Apart.{lies}
+use Rattle.pe_walk.specs.Standing.{Foresight, Outset, Stage, IsStage, Holds, IsOutset, Fair, IsFair, IsWritten, IsIdle, times}
 use Rattle.pe_walk.proofs.Unwalked.{cell_four}
 use Rattle.pe_walk.proofs.Simulation.LoadedKinds.{parent_long}
 use Rattle.pe_walk.proofs.Simulation.Levels.{levels_differ, at-put_family, records_of-put_family, own_of-put_family}
-use Rattle.pe_walk.proofs.Simulation.Shared.{PutsBack, HasPut, has_put, put_count}
+use Rattle.pe_walk.proofs.Simulation.Shared.{PutsBack, HasPut, has_put, put_count, on_one, lies_unheld, vertices-image}
+use Rattle.pe_walk.proofs.Simulation.Leaves.{record_of}
 
 -- After it, cell and family are found as they were put; what is not held, other cells, hanging vertices, loads and the
 -- tally are as they were; and what is as foreseen, or hangs, stays so.
@@ -108,3 +114,40 @@ module _ {Plan : Type 0} (set : Setting Plan) (e : Outset) (walked : Place → B
         idle_parents = λ k small idle. family_put.idle k small (subst (λ v. IsIdle v) (sym (own_put.records st.parent k back)) idle);
         idle = λ k small idle. subst (λ v. IsIdle v) (sym (family_put.records st.cell k stage_levels)) (own_put.idle k small idle);
       }
+
+      -- what lies on stacks is not held, nor what was not met
+      pub unheld : (q : Place) → 1 ≤ lies t.vertices q → t.held q ≡ 0
+      unheld q some = lies_unheld e.outlook t h.stands.apart h.stands.counting q some
+
+      none_held : (q : Place) → t.met q ≡ 0 → t.held q ≡ 0
+      none_held q unmet = by (t.held q) refl
+        where
+          by : (n : ℕ) → t.held q ≡ n → n ≡ 0
+          by zero p = refl
+          by (suc n) p = let some : 1 ≤ t.met q = h.stands.held_met q (omega (arith, p)) in absurd (omega (arith, some, unmet))
+
+      -- so the working state stays fair, whichever cells are there now, as the places have them
+      pub fair_visited : (owed counted : ℕ) (entered ahead : List Place) (cells : Map (List ℤ)) (places : Holdings Place)
+          → ((x : Place) → is_some (at cells x) ≡ (nat_lt 0 (lies places x) || nat_lt 0 (times entered x)))
+          → Fair set.axes (set.rules.greatest set.plan) e.outlook e.foresight (record st { owed = owed; counted = counted; entered = entered; ahead = ahead })
+          (record (after_cell set st.parent st.cell (own, it) w) { cells = cells }) (record t { cells = places })
+      fair_visited owed counted entered ahead cells places there = let f = h.fair in let v = visited in record {
+        loads = λ q. ap (λ loads. unwrap_or (at loads q) 0) v.loads ∙ f.loads q;
+        unread = λ q unmet. v.vertices q (none_held q unmet) ∙ f.unread q unmet;
+        live = λ q on live. v.fair q on (f.live q on live);
+        written = λ q some met. let lying = on_one t.vertices (output_stack e.outlook.swapped) q in
+            subst (IsWritten e.foresight (set.rules.greatest set.plan) q) (sym (v.vertices q (unheld q (omega (arith, some, lying))))) (f.written q some met);
+        gone = λ q on met none. v.vertices q (omega (arith, none)) ∙ f.gone q on met none;
+        cells_there = there;
+        parent_flags = λ k small. v.hung st.parent k ∙ f.parent_flags k small;
+        parents = λ k small off. v.idle_parents k small (f.parents k small off);
+        flags = λ x k deep. v.hung x k ∙ f.flags x k deep;
+        mine = λ k from small off. v.idle k small (f.mine k from small off);
+      }
+
+      -- and what is seen of vertices on stacks is as it was
+      pub vertices_visited : (cells : Map (List ℤ)) (places : Holdings Place)
+          → map_holdings (record_of set e (record (after_cell set st.parent st.cell (own, it) w) { cells = cells }) (record t { cells = places })) t.vertices ≡ map_holdings (record_of set e w t) t.vertices
+      vertices_visited cells places =
+          vertices-image set e w (record (after_cell set st.parent st.cell (own, it) w) { cells = cells }) t (record t { cells = places }) t.vertices
+          (λ x some. (visited.vertices x (unheld x some), refl))
