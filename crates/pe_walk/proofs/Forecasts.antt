@@ -64,7 +64,7 @@ fresh grid is = record {
   finest = λ v s e h. absurd (no_state (λ it. it.state) (at grid.vertices v) s (is.no_vertices v) e);
 }
 
-any_weaker : {X : Type 0} (p q : X → Bool) (P : X → Type 0) → ((x : X) → P x → p x ≡ true → q x ≡ true) → (xs : List X) → Each P xs → list_any p xs ≡ true → list_any q xs ≡ true
+pub any_weaker : {X : Type 0} (p q : X → Bool) (P : X → Type 0) → ((x : X) → P x → p x ≡ true → q x ≡ true) → (xs : List X) → Each P xs → list_any p xs ≡ true → list_any q xs ≡ true
 any_weaker p q P h [] e t = t
 any_weaker p q P h (x ∷ xs) e t = go (p x) refl (q x) refl t (any_weaker p q P h xs e.1)
   where
@@ -217,7 +217,7 @@ module _ (start_level : ℕ) (grid : Grid) (low : start_level ≤ grid.greatest)
       go true false = refl
       go false b = both (list_any (old_foreseen start_level grid) (corners grid.axes cell)) (list_any (new_foreseen start_level grid) (corners grid.axes cell))
 
-  forecast_carried : Carried grid.axes grid.greatest (counts start_level grid) active (walks start_level grid) (walked start_level grid)
+  pub forecast_carried : Carried grid.axes grid.greatest (counts start_level grid) active (walks start_level grid) (walked start_level grid)
   forecast_carried = record {
     dim = sound.dim;
     few = sound.few;
@@ -279,7 +279,7 @@ module _ (grid : Grid) (is : IsWellFormed grid) where
     ]
   ]
 
-  stored_carried : Carried grid.axes grid.greatest here refined (goes_below grid) (stored_walked grid)
+  pub stored_carried : Carried grid.axes grid.greatest here refined (goes_below grid) (stored_walked grid)
   stored_carried = record {
     dim = is.axes;
     few = is.few_levels;

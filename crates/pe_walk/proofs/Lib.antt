@@ -24,6 +24,8 @@ pub mod Outlooks
 pub mod Forecasts
 -- streams in the order of grids
 pub mod StreamOrders
+-- how many cells a grid has
+pub mod GridCells
 -- # The tests
 -- one round of the loops that compute the definitions
 pub mod Computed

@@ -42,3 +42,5 @@ pub mod StepFrames
 pub mod CellsAhead
 -- what the walk of a cell leaves
 pub mod WalkFrames
+-- a traversal walks no more cells than its vertices allow
+pub mod FewCells

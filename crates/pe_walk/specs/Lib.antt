@@ -20,6 +20,8 @@ pub mod StreamLaws
 pub mod Traffic
 -- what each step changes, and what it leaves
 pub mod Frames
+-- how many cells are walked
+pub mod FewCells
 -- grids and streams for the worked rows
 pub mod Grids
 -- the walk on stacks as a machine of lists

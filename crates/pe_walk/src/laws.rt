@@ -27,6 +27,7 @@ ghost use Rattle.pe_walk.specs.Outlooks.{ForecastFits, StoredFits};
 ghost use Rattle.pe_walk.specs.StreamLaws.{FitsTurned, StreamsAreOne, ReadsAreStreams, NextIsFormed, WritesAreStreams, TraversalOfAGrid};
 ghost use Rattle.pe_walk.specs.Traffic.{TrafficOfACell, TrafficOfATraversal, LoadsPerCell, CountsPerCell, TrafficIsCrossings, HangingLoads, FewVertices, StepsKeepCounting, BeginsCounting, StacksAreShort};
 ghost use Rattle.pe_walk.specs.Apart.{StepsKeepApart, BeginsApart, CornersByCounting};
+ghost use Rattle.pe_walk.specs.FewCells.{FewCells, FewCellsOfTraversals, FewCellsOfGrids};
 ghost use Rattle.pe_walk.specs.Frames.{WhatStepsChange, WhatWalksLeave};
 ghost use Rattle.pe_walk.specs.CellsAhead.{WalkedCellsDiffer, StepsKeepAhead, BeginsAhead, MovesItsCells};
 
@@ -181,6 +182,13 @@ pub fn stacks_are_short()
     ensures kept { StepsKeepCounting }
     ensures begun { BeginsCounting }
     ensures short { StacksAreShort }
+{}
+
+/// A traversal walks no more cells than its vertices allow: 3^d + 6^d n below the root, for n vertices that count.
+pub fn cells_are_few()
+    ensures few { FewCells }
+    ensures traversals { FewCellsOfTraversals }
+    ensures grids { FewCellsOfGrids }
 {}
 
 /// The core of a walk keeps kinds, and old and new, of all that its events see, by the law of effects.
