@@ -10,6 +10,8 @@ pub mod Standing
 pub mod Goals
 -- what becomes of the vertex
 pub mod Fates
+-- the record in hand
+pub mod InHand
 -- what is left in the working state
 pub mod Leaving
 -- and the working state is fair

@@ -28,7 +28,6 @@ pub record Leaves (axes : ℕ) (cell : Place) (k : ℕ) (counts : Bool) (left : 
   pub corners : (j : ℕ) → j < 2 ^ axes → k ≢ j → record_at axes after cell j ≡ record_at axes w cell j
   pub cells : after.cells ≡ w.cells
   pub loads : after.loads ≡ w.loads
-  pub tally : after.tally ≡ w.tally
 
 none_if : {X : Type 0} (b : Bool) (o : Option X) → is_some (if b then None else o) ≡ (if b then false else is_some o)
 none_if true o = refl
@@ -46,20 +45,18 @@ module _ {Plan : Type 0} (set : Setting Plan) (cell : Place) (k : ℕ) (w : Work
         (found-changed w.hanging k (cell.level ∷ cell.pos) None j (cell.level ∷ cell.pos) ∙ ap (λ b. if b && is_same cell cell then None else at_corner w.hanging cell j) (ne_eqb k j other));
     cells = refl;
     loads = refl;
-    tally = refl;
   }
 
   -- the map of vertices has something else, or nothing, at a corner
   leaves-changed : (left : Option VertexRecord) (after : Working) → ((q : Place) → at after.vertices q ≡ (if is_same (corner set.axes cell k) q then left else at w.vertices q))
-      → after.hanging ≡ w.hanging → after.cells ≡ w.cells → after.loads ≡ w.loads → after.tally ≡ w.tally → Leaves set.axes cell k true left w after
-  leaves-changed left after changed hanging cells loads tally = record {
+      → after.hanging ≡ w.hanging → after.cells ≡ w.cells → after.loads ≡ w.loads → Leaves set.axes cell k true left w after
+  leaves-changed left after changed hanging cells loads = record {
     vertices = λ q other. elsewhere q (other refl);
     vertex = λ c. changed vertex ∙ ap (λ b. if b then left else at w.vertices vertex) (is_same_itself vertex);
     hung = λ x j. ap (λ m. is_some (at_corner m x j)) hanging;
     corners = λ j small other. ap₂ (λ m found. unwrap_or (at_corner m cell j) (unwrap_or found no_vertex)) hanging (elsewhere (corner set.axes cell j) (corners_apart set.axes cell k j long below small other));
     cells = cells;
     loads = loads;
-    tally = tally;
   }
     where
       vertex : Place
@@ -68,15 +65,31 @@ module _ {Plan : Type 0} (set : Setting Plan) (cell : Place) (k : ℕ) (w : Work
       elsewhere : (q : Place) → is_same (corner set.axes cell k) q ≡ false → at after.vertices q ≡ at w.vertices q
       elsewhere q e = changed q ∙ ap (λ b. if b then left else at w.vertices q) e
 
-  pub leaves : (kind : Kind) (counts : Bool) (left : Option VertexRecord) → counts ≡ not (is_hanging kind) → Leaves set.axes cell k counts left w (put_stored set kind cell k left w)
-  leaves Hanging true left e = absurd cc
-  leaves Hanging false left e = leaves-hanging left
-  leaves Kept false left e = absurd cc
-  leaves Born false left e = absurd cc
-  leaves Dying false left e = absurd cc
-  leaves Kept true None e = leaves-changed None (put_stored set Kept cell k None w) (at-removed w.vertices (corner set.axes cell k)) refl refl refl refl
-  leaves Born true None e = leaves-changed None (put_stored set Born cell k None w) (at-removed w.vertices (corner set.axes cell k)) refl refl refl refl
-  leaves Dying true None e = leaves-changed None (put_stored set Dying cell k None w) (at-removed w.vertices (corner set.axes cell k)) refl refl refl refl
-  leaves Kept true (Some it) e = leaves-changed (Some it) (put_stored set Kept cell k (Some it) w) (λ q. at-put w.vertices (corner set.axes cell k) q it) refl refl refl refl
-  leaves Born true (Some it) e = leaves-changed (Some it) (put_stored set Born cell k (Some it) w) (λ q. at-put w.vertices (corner set.axes cell k) q it) refl refl refl refl
-  leaves Dying true (Some it) e = leaves-changed (Some it) (put_stored set Dying cell k (Some it) w) (λ q. at-put w.vertices (corner set.axes cell k) q it) refl refl refl refl
+  by_kind : (kind : Kind) (counts : Bool) (left : Option VertexRecord) → counts ≡ not (is_hanging kind) → Leaves set.axes cell k counts left w (put_stored set kind cell k left w)
+  by_kind Hanging true left e = absurd cc
+  by_kind Hanging false left e = leaves-hanging left
+  by_kind Kept false left e = absurd cc
+  by_kind Born false left e = absurd cc
+  by_kind Dying false left e = absurd cc
+  by_kind Kept true None e = leaves-changed None (put_stored set Kept cell k None w) (at-removed w.vertices (corner set.axes cell k)) refl refl refl
+  by_kind Born true None e = leaves-changed None (put_stored set Born cell k None w) (at-removed w.vertices (corner set.axes cell k)) refl refl refl
+  by_kind Dying true None e = leaves-changed None (put_stored set Dying cell k None w) (at-removed w.vertices (corner set.axes cell k)) refl refl refl
+  by_kind Kept true (Some it) e = leaves-changed (Some it) (put_stored set Kept cell k (Some it) w) (λ q. at-put w.vertices (corner set.axes cell k) q it) refl refl refl
+  by_kind Born true (Some it) e = leaves-changed (Some it) (put_stored set Born cell k (Some it) w) (λ q. at-put w.vertices (corner set.axes cell k) q it) refl refl refl
+  by_kind Dying true (Some it) e = leaves-changed (Some it) (put_stored set Dying cell k (Some it) w) (λ q. at-put w.vertices (corner set.axes cell k) q it) refl refl refl
+
+-- whatever is counted, which a store does not change
+pub leaves : {Plan : Type 0} (set : Setting Plan) (cell : Place) (k : ℕ) (w : Working) (tally : Tally) (kind : Kind) (counts : Bool) (left : Option VertexRecord) → set.axes ≤ length cell.pos → k < 2 ^ set.axes → counts ≡ not (is_hanging kind)
+    → Leaves set.axes cell k counts left w (put_stored set kind cell k left (record w { tally = tally }))
+leaves set cell k w tally kind counts left long below e =
+    let it = by_kind set cell k (record w { tally = tally }) long below kind counts left e in
+    record { vertices = it.vertices; vertex = it.vertex; hung = it.hung; corners = it.corners; cells = it.cells; loads = it.loads }
+
+pub tally-put_stored : {Plan : Type 0} (set : Setting Plan) (kind : Kind) (cell : Place) (k : ℕ) (left : Option VertexRecord) (w : Working) → (put_stored set kind cell k left w).tally ≡ w.tally
+tally-put_stored set Hanging cell k left w = refl
+tally-put_stored set Kept cell k None w = refl
+tally-put_stored set Kept cell k (Some it) w = refl
+tally-put_stored set Born cell k None w = refl
+tally-put_stored set Born cell k (Some it) w = refl
+tally-put_stored set Dying cell k None w = refl
+tally-put_stored set Dying cell k (Some it) w = refl
