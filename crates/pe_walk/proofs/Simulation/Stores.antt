@@ -16,3 +16,5 @@ pub mod InHand
 pub mod Leaving
 -- and the working state is fair
 pub mod Fairness
+-- all holds after a store
+pub mod Stored

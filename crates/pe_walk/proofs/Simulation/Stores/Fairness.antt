@@ -22,7 +22,7 @@ use Rattle.pe_walk.proofs.Simulation.Levels.{levels_differ}
 use Rattle.pe_walk.proofs.Simulation.Shared.{HasPut, on_one, lies_counts, lies_unheld}
 use Rattle.pe_walk.proofs.Simulation.Stores.Places.{stored, Within, IsOther, held-other, held-most, held-itself, times-other, lies-other, went, went_nowhere}
 use Rattle.pe_walk.proofs.Simulation.Stores.Fates.{Fate, fate-on, fate-off}
-use Rattle.pe_walk.proofs.Simulation.Stores.Leaving.{Leaves}
+use Rattle.pe_walk.proofs.Simulation.Stores.Leaving.{Leaves, leaves-hung}
 
 -- A corner of the stage's cell was stored, in the working state as in the places: what held before, and what was left.
 pub record IsStored {Plan : Type 0} (set : Setting Plan) (o : Outlook) (f : Foresight) (st : Stage) (k : ℕ) (to goal : Option ℕ) (left : Option VertexRecord) (family : Family) (w before after : Working) (t : Tokens) : Type 0 where
@@ -196,14 +196,7 @@ module _ {Plan : Type 0} (set : Setting Plan) (o : Outlook) (f : Foresight) (st 
 
   parent_flags-stored : (j : ℕ) → j < 2 ^ set.axes → is_hung after st.parent j ≡ not (o.counts (corner set.axes st.parent j))
   parent_flags-stored j small =
-      hung-stored st.parent j
-      ∙ ap (λ b. if not (o.counts vertex) && (k == j && b) then false else is_hung w st.parent j) (levels_differ st.cell st.parent (λ e. omega (arith, e, is.deep)))
-      ∙ never (not (o.counts vertex)) (k == j) (is_hung w st.parent j) ∙ is.fair.parent_flags j small
-    where
-      never : (a b c : Bool) → (if a && (b && false) then false else c) ≡ c
-      never true true c = refl
-      never true false c = refl
-      never false b c = refl
+      is.puts.hung st.parent j ∙ leaves-hung set.axes st.cell k (o.counts vertex) left w before is.leaves st.parent j (λ e. omega (arith, e, is.deep)) ∙ is.fair.parent_flags j small
 
   flags-stored : (x : Place) (j : ℕ) → st.parent.level < x.level
       → is_hung after x j ≡ (is_same st.cell x && nat_le (k + 1) j && nat_lt j (2 ^ set.axes) && not (o.counts (corner set.axes st.cell j)))

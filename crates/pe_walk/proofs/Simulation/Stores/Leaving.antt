@@ -18,6 +18,7 @@ use Rattle.pe_base.proofs.Steps.Counts.{is_same_itself}
 use Rattle.pe_base.proofs.Walk.MapLaws.{found-changed, at-put, at-removed}
 use Rattle.pe_base.proofs.Walk.Slots.{is_hung}
 use Rattle.pe_base.proofs.Walk.CellCorners.{corners_apart}
+use Rattle.pe_walk.proofs.Simulation.Levels.{levels_differ}
 use Rattle.pe_walk.proofs.Simulation.Stores.Places.{IsOther}
 
 -- a corner that hangs is no longer there; one that counts is left, or is gone
@@ -28,6 +29,16 @@ pub record Leaves (axes : ℕ) (cell : Place) (k : ℕ) (counts : Bool) (left : 
   pub corners : (j : ℕ) → j < 2 ^ axes → k ≢ j → record_at axes after cell j ≡ record_at axes w cell j
   pub cells : after.cells ≡ w.cells
   pub loads : after.loads ≡ w.loads
+
+-- hanging vertices of cells of other levels are as they were
+pub leaves-hung : (axes : ℕ) (cell : Place) (k : ℕ) (counts : Bool) (left : Option VertexRecord) (w after : Working) → Leaves axes cell k counts left w after → (x : Place) (j : ℕ) → cell.level ≢ x.level → is_hung after x j ≡ is_hung w x j
+leaves-hung axes cell k counts left w after it x j other =
+    it.hung x j ∙ ap (λ b. if not counts && (k == j && b) then false else is_hung w x j) (levels_differ cell x other) ∙ never (not counts) (k == j) (is_hung w x j)
+  where
+    never : (a b c : Bool) → (if a && (b && false) then false else c) ≡ c
+    never true true c = refl
+    never true false c = refl
+    never false b c = refl
 
 none_if : {X : Type 0} (b : Bool) (o : Option X) → is_some (if b then None else o) ≡ (if b then false else is_some o)
 none_if true o = refl
