@@ -18,3 +18,7 @@ pub mod Leaving
 pub mod Fairness
 -- all holds after a store
 pub mod Stored
+-- the record goes where its place goes
+pub mod Sending
+-- the whole step
+pub mod Leaf

@@ -91,7 +91,7 @@ module _ {Plan : Type 0} (set : Setting Plan) (o : Outlook) (f : Foresight) (st 
       go false e = absurd cc
 
   -- it is found as it was left
-  found : o.counts vertex ≡ true → at after.vertices vertex ≡ left
+  pub found : o.counts vertex ≡ true → at after.vertices vertex ≡ left
   found on = is.puts.vertices vertex (unheld on) ∙ is.leaves.vertex on
 
   -- and lies where its place went
@@ -116,6 +116,22 @@ module _ {Plan : Type 0} (set : Setting Plan) (o : Outlook) (f : Foresight) (st 
   -- other places that are not held are found as they were
   found_other : (q : Place) → now.held q ≡ 0 → IsOther (o.counts vertex) vertex q → at after.vertices q ≡ at w.vertices q
   found_other q none other = is.puts.vertices q none ∙ is.leaves.vertices q other
+
+  -- so are those that lie on stacks, and the numbers of cells that do
+  pub found_lying : (q : Place) → 1 ≤ lies t.vertices q → at after.vertices q ≡ at w.vertices q
+  found_lying q lying =
+      found_other q (omega (arith, held-most (o.counts vertex) vertex q t.held, lies_unheld o t is.stands.apart is.stands.counting q lying)) (λ on. go on (is_same vertex q) refl)
+    where
+      go : o.counts vertex ≡ true → (b : Bool) → is_same vertex q ≡ b → b ≡ false
+      go on true e = absurd (omega (arith, lying, off_stacks on, ap (lies t.vertices) (same_places vertex q e)))
+      go on false e = refl
+
+  pub cells_lying : (cell : Place) → 1 ≤ lies t.cells cell → at after.cells cell ≡ at w.cells cell
+  cells_lying cell lying = is.puts.cells cell ∙ go (is_same st.parent cell) refl
+    where
+      go : (b : Bool) → is_same st.parent cell ≡ b → (if b then Some family.parent else at before.cells cell) ≡ at w.cells cell
+      go true e = let same : st.parent ≡ cell = same_places st.parent cell e in absurd (omega (arith, lying, is.stands.entered_off st.parent is.stands.parent_entered, ap (lies t.cells) same))
+      go false e = ap (λ m. at m cell) is.leaves.cells
 
   -- # Vertices
   loads-stored : (q : Place) → loads_of after q ≡ now.met q
@@ -208,10 +224,12 @@ module _ {Plan : Type 0} (set : Setting Plan) (o : Outlook) (f : Foresight) (st 
       (λ away. ap (λ n. nat_le n j) is.from ∙ as_far k j (eqb-false k j away))
 
   -- # Idle records
+  pub records-stored : (j : ℕ) → k + 1 ≤ j → j < 2 ^ set.axes → record_at set.axes after st.cell j ≡ record_at set.axes w st.cell j
+  records-stored j past small = is.puts.records st.cell j (λ e. omega (arith, e, is.deep)) ∙ is.leaves.corners j small (λ e. omega (arith, e, past))
+
   idle-stored : (j : ℕ) → k + 1 ≤ j → j < 2 ^ set.axes → o.counts (corner set.axes st.cell j) ≡ false → IsIdle (record_at set.axes after st.cell j)
   idle-stored j past small off =
-      subst IsIdle (sym (is.puts.records st.cell j (λ e. omega (arith, e, is.deep)) ∙ is.leaves.corners j small (λ e. omega (arith, e, past))))
-      (is.fair.mine j (omega (arith, is.from, past)) small off)
+      subst IsIdle (sym (records-stored j past small)) (is.fair.mine j (omega (arith, is.from, past)) small off)
 
   pub fair-stored : Fair set.axes (set.rules.greatest set.plan) o f (after_store k st) after (stored (o.counts (corner set.axes st.cell k)) goal (corner set.axes st.cell k) t)
   fair-stored = record {
