@@ -11,7 +11,7 @@ use Rattle.pe_base.specs.Acts.Effects.{VertexRecord}
 use Rattle.pe_base.specs.Walk.Maps.{at}
 use Rattle.pe_base.specs.Walk.Course.{Push, Course, done, at_once, and_then, course_map}
 use Rattle.pe_base.specs.Walk.Core.{Setting, Family, way}
-use Rattle.pe_base.specs.Walk.Working.{Working, no_vertex, vertex_at, cell_at, loads_of, record_at}
+use Rattle.pe_base.specs.Walk.Working.{Working, no_vertex, vertex_at, cell_at, record_at, family_of}
 use Rattle.pe_base.specs.Walk.Touches.{tally_store, store_corner}
 use Rattle.pe_base.proofs.Lists.{Each, map_same}
 use Rattle.pe_base.proofs.Walk.Families.{Each-range}
@@ -177,3 +177,26 @@ module _ {Plan : Type 0} (set : Setting Plan) (e : Outset) (walked : Place → B
     where
       both : (a b : Bool) → a ≡ true → b ≡ true → (a && b) ≡ true
       both a b p q = ap₂ (λ x y. x && y) p q
+
+  pub stored_steps : (room : Push → Type 0) → HasRoom set e room → 1 ≤ st.owed → 1 ≤ st.unstored
+      → Steps room (in_hand set e (after_store k st)) (Holds set e (after_store k st)) (store_corner set st.parent st.cell k w) (store_first set e room st.cell k (in_hand set e st w t)) t'
+  stored_steps room rooms owed unstored =
+      let its_hand = hand set e walked is st stage w t h k from below t' run in
+      let last = is_none (to_of set st k) in
+      subst (λ (c : Course Working). Steps room (in_hand set e (after_store k st)) (Holds set e (after_store k st)) c (store_first set e room st.cell k (in_hand set e st w t)) t') (sym its_hand.same)
+      (subst (λ x. Steps room (in_hand set e (after_store k st)) (Holds set e (after_store k st)) (stored_by set st k w last) (store_first set e room st.cell k (in_hand set e st w t)) x)
+      (places_are set e walked is st stage w t h k from below t' run)
+      (record {
+        same = matches-same room (λ v. in_hand set e (after_store k st) v now) (stored_by set st k w last) _ _ (sym (machine_is room))
+            (core-then-matches room (λ v. in_hand set e (after_store k st) v now) (core_of set st k w) (after_of set st k w)
+            (λ r. sent (17 - input_stack e.outlook.swapped) (map_holdings (record_of set e w t) t.vertices) r)
+            (store-silent set last vertex (record_at set.axes w st.cell k) (family_of set.axes w st.parent))
+            (λ r run_core. sent_matches r run_core room rooms owed unstored));
+        holds = λ v q.
+            let at = mapped-done (core_of set st k w) (after_of set st k w) v q in
+            subst (λ x. Holds set e (after_store k st) x now) (sym at.2) (holds_after set e walked is st stage w t h k from below t' run at.0 at.1 owed unstored);
+      }))
+
+-- A corner is stored by model and machine alike.
+pub store_leaf : {Plan : Type 0} (set : Setting Plan) (e : Outset) (walked : Place → Bool) (room : Push → Type 0) → IsOutset set e walked → HasRoom set e room → StoreLeaf set e room
+store_leaf set e walked room is rooms st k stage below from owed unstored w t t' h run = stored_steps set e walked is st stage w t h k from below t' run room rooms owed unstored
