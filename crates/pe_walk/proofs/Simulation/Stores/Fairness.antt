@@ -1,5 +1,5 @@
 -- After the store of a corner the working state is fair.
-use Rattle.std.proofs.Common.{◌≡◌, ◌≢◌, ◌⊎◌, inl, inr, ℕ, zero, suc, ◌+◌, ◌-◌, ◌^◌, ◌<◌, ◌≤◌, Bool, true, false, not, ◌&&◌, ◌||◌, ◌==◌, List, length, Option, Some, None, refl, sym, ap, ap₂, subst, ◌∙◌, true≢false, arith}
+use Rattle.std.proofs.Common.{◌≡◌, ◌≢◌, inl, inr, ℕ, zero, suc, ◌+◌, ◌^◌, ◌<◌, ◌≤◌, Bool, true, false, not, ◌&&◌, ◌||◌, ◌==◌, Option, Some, None, refl, sym, ap, subst, ◌∙◌, arith}
 use Rattle.std.specs.Prelude.{nat_lt, nat_le, is_some, if◌then◌else◌}
 use Rattle.std.specs.Option.{unwrap_or}
 use Rattle.std.proofs.lemmas.Bool.{lt-ltb, eqb-true, eqb-false}
@@ -7,7 +7,7 @@ use Rattle.std.proofs.lemmas.Bool.Decides.{nat_tests}
 use Rattle.pe_base.specs.declared.place.Place.{Place}
 use Rattle.pe_base.specs.Tree.Places.{corner, is_same}
 use Rattle.pe_base.specs.Acts.Effects.{VertexRecord}
-use Rattle.pe_base.specs.Walk.Maps.{at, at_corner}
+use Rattle.pe_base.specs.Walk.Maps.{at}
 use Rattle.pe_base.specs.Walk.Core.{Setting, Family}
 use Rattle.pe_base.specs.Walk.Working.{Working, loads_of, record_at}
 use Rattle.pe_base.proofs.Faces.Bridge.{same_places}
@@ -18,7 +18,6 @@ use Rattle.pe_walk.specs.Tokens.{Outlook, Tokens}
 use Rattle.pe_walk.specs.Apart.{lies, occurs}
 use Rattle.pe_walk.specs.Standing.{Foresight, Stage, Stands, Fair, IsFair, IsWritten, IsIdle, IsLive, times}
 use Rattle.pe_walk.proofs.Simulation.Leaves.{after_store}
-use Rattle.pe_walk.proofs.Simulation.Levels.{levels_differ}
 use Rattle.pe_walk.proofs.Simulation.Shared.{HasPut, on_one, lies_counts, lies_unheld}
 use Rattle.pe_walk.proofs.Simulation.Stores.Places.{stored, Within, IsOther, held-other, held-most, held-itself, times-other, lies-other, went, went_nowhere}
 use Rattle.pe_walk.proofs.Simulation.Stores.Fates.{Fate, fate-on, fate-off}

@@ -1,11 +1,11 @@
 -- What becomes of a vertex that is stored: it waits on a stack, or is written, or is gone.
-use Rattle.std.proofs.Common.{◌≡◌, ◌≢◌, ℕ, ◌-◌, Bool, true, false, not, Option, Some, None, refl, sym, ap, subst, ◌∙◌}
+use Rattle.std.proofs.Common.{◌≡◌, ◌≢◌, ℕ, Bool, true, false, not, Option, Some, None, refl, sym, ap, subst, ◌∙◌}
 use Rattle.std.specs.Prelude.{is_none}
 use Rattle.pe_base.specs.declared.place.Place.{Place}
 use Rattle.pe_base.specs.declared.state.State.TheVariants.{Unrefined}
 use Rattle.pe_base.specs.declared.kind.Kind.{Kind}
 use Rattle.pe_base.specs.declared.kind.Kind.TheVariants.{Kept, Born, Dying, Hanging}
-use Rattle.pe_base.specs.Life.States.{is_old, is_new, is_stored}
+use Rattle.pe_base.specs.Life.States.{is_new, is_stored}
 use Rattle.pe_base.specs.Life.Table.{last_touch}
 use Rattle.pe_base.specs.Life.Kinds.{is_hanging}
 use Rattle.pe_base.specs.Acts.Effects.{VertexRecord}

@@ -1,18 +1,18 @@
 -- The record of a corner in hand that is stored: what it is, and what becomes of it.
-use Rattle.std.proofs.Common.{◌≡◌, inl, ℕ, ◌+◌, ◌^◌, ◌<◌, ◌≤◌, Bool, true, false, not, ◌&&◌, ◌||◌, ◌==◌, Option, Some, None, refl, sym, ap, subst, ◌∙◌, arith}
+use Rattle.std.proofs.Common.{◌≡◌, inl, ℕ, ◌+◌, ◌^◌, ◌<◌, Bool, true, false, not, ◌&&◌, ◌||◌, ◌==◌, Option, Some, None, refl, sym, ap, subst, ◌∙◌, arith}
 use Rattle.std.specs.Prelude.{is_none, nat_le, nat_lt}
 use Rattle.std.specs.Option.{unwrap_or}
 use Rattle.pe_base.specs.declared.place.Place.{Place}
 use Rattle.pe_base.specs.declared.kind.Kind.{Kind}
-use Rattle.pe_base.specs.declared.kind.Kind.TheVariants.{Kept, Born, Dying, Hanging}
+use Rattle.pe_base.specs.declared.kind.Kind.TheVariants.{Hanging}
 use Rattle.pe_base.specs.Tree.Places.{corner, is_same}
 use Rattle.pe_base.specs.Life.Kinds.{is_hanging, is_inside}
 use Rattle.pe_base.specs.Steps.Routes.{stack_out}
 use Rattle.pe_base.specs.Acts.Effects.{VertexRecord}
 use Rattle.pe_base.specs.Walk.Maps.{at}
 use Rattle.pe_base.specs.Walk.Course.{Course, course_map}
-use Rattle.pe_base.specs.Walk.Core.{Setting, way, store_of, store_touch}
-use Rattle.pe_base.specs.Walk.Working.{Working, no_vertex, vertex_at, loads_of, record_at, family_of}
+use Rattle.pe_base.specs.Walk.Core.{Setting, way, store_of}
+use Rattle.pe_base.specs.Walk.Working.{Working, no_vertex, loads_of, record_at, family_of}
 use Rattle.pe_base.specs.Walk.Touches as model
 use Rattle.pe_base.proofs.Walk.Slots.{is_hung}
 use Rattle.pe_stacks.specs.Grid.{output_stack}

@@ -1,5 +1,5 @@
 -- A corner is stored by model and machine alike.
-use Rattle.std.proofs.Common.{◌≡◌, ℕ, suc, ◌+◌, ◌-◌, ◌*◌, ◌^◌, ◌<◌, ◌≤◌, Bool, true, false, ◌&&◌, ◌==◌, List, [], ◌∷◌, ◌++◌, map, Option, Some, None, refl, sym, ap, ap₂, subst, ◌∙◌, arith}
+use Rattle.std.proofs.Common.{◌≡◌, ℕ, suc, ◌+◌, ◌-◌, ◌*◌, ◌^◌, ◌<◌, ◌≤◌, Bool, true, false, ◌&&◌, ◌==◌, List, [], ◌∷◌, ◌++◌, Option, Some, None, refl, sym, ap, ap₂, subst, ◌∙◌, arith}
 use Rattle.std.specs.Prelude.{is_none, if◌then◌else◌}
 use Rattle.std.specs.Option.{unwrap_or}
 use Rattle.std.specs.List.{range_with_len}
@@ -15,7 +15,7 @@ use Rattle.pe_base.specs.Walk.Working.{Working, no_vertex, vertex_at, cell_at, r
 use Rattle.pe_base.specs.Walk.Touches.{tally_store, store_corner}
 use Rattle.pe_base.proofs.Lists.{Each, map_same}
 use Rattle.pe_base.proofs.Walk.Families.{Each-range}
-use Rattle.pe_stacks.specs.Holdings.{Holdings, stack_at, stack_count, len_at}
+use Rattle.pe_stacks.specs.Holdings.{Holdings, len_at}
 use Rattle.pe_stacks.specs.Grid.{input_stack, output_stack}
 use Rattle.pe_hang.specs.InHand.{map_holdings}
 use Rattle.pe_hang.specs.Moves.{allowed}
@@ -23,15 +23,15 @@ use Rattle.pe_adapt.specs.Touches.{Desk}
 use Rattle.pe_adapt.specs.Touches as corners
 use Rattle.pe_walk.specs.Machine.{Machine, desk_of, with_desk, tally_may_rise, is_placed}
 use Rattle.pe_walk.specs.Tokens.{Tokens, store, put}
-use Rattle.pe_walk.specs.Standing.{Outset, Stage, per_cell, Holds, HasRoom, IsOutset, IsStage}
+use Rattle.pe_walk.specs.Standing.{Outset, Stage, Holds, HasRoom, IsOutset, IsStage}
 use Rattle.pe_walk.proofs.Simulation.Counts.{tally_rises}
-use Rattle.pe_walk.proofs.Simulation.Leaves.{StoreLeaf, after_store, record_of, image_of, records_from, in_hand, ports, store_first}
+use Rattle.pe_walk.proofs.Simulation.Leaves.{StoreLeaf, after_store, record_of, image_of, records_from, in_hand, store_first}
 use Rattle.pe_walk.proofs.Simulation.Matching.{Matches, Steps, then-grouped, core-then-matches, matches-same, mapped-done}
 use Rattle.pe_walk.proofs.Simulation.Shared.{cells-image, vertices-image}
 use Rattle.pe_walk.proofs.Simulation.Silent.{store-silent}
 use Rattle.pe_walk.proofs.Simulation.Stores.Places.{len-pushed}
 use Rattle.pe_walk.proofs.Simulation.Stores.Goals.{goal_if}
-use Rattle.pe_walk.proofs.Simulation.Stores.InHand.{InHand, stored_by}
+use Rattle.pe_walk.proofs.Simulation.Stores.InHand.{stored_by}
 use Rattle.pe_walk.proofs.Simulation.Stores.Fairness.{IsStored, found, found_lying, cells_lying, records-stored}
 use Rattle.pe_walk.proofs.Simulation.Stores.Stored.{to_of, goal_at, core_of, before_of, after_of, places_of, places_are, hand, within, is_stored, tally_after, holds_after}
 use Rattle.pe_walk.proofs.Simulation.Stores.Sending.{log_of, MayGo, goes-image}
@@ -121,8 +121,11 @@ module _ {Plan : Type 0} (set : Setting Plan) (e : Outset) (walked : Place → B
         sym (ap (λ b. if b then (record (vertex_at after vertex) { kind = e.stale vertex }) else vertex_at after vertex) met ∙ ap (λ x. unwrap_or x no_vertex) there)
 
     -- what the machine has then is the image of what the model has
-    machine_same : (its, with_desk (record { vertices = map_holdings (record_of set e (after_of set st k w r) (places_of set e st k t)) (put (goal_at set e st k) vertex t.vertices); family = r.1 })
-        (record (image_of set e st.parent w t) { tally = tally_store (record_at set.axes w st.cell k).kind (is_none (to_of set st k)) w.tally }))
+    machine_same : (
+      its,
+      with_desk (record { vertices = map_holdings (record_of set e (after_of set st k w r) (places_of set e st k t)) (put (goal_at set e st k) vertex t.vertices); family = r.1 })
+          (record (image_of set e st.parent w t) { tally = tally_store (record_at set.axes w st.cell k).kind (is_none (to_of set st k)) w.tally }),
+    )
         ≡ in_hand set e (after_store k st) (after_of set st k w r) (places_of set e st k t)
     machine_same =
         let family = sym stored_is.puts.family in

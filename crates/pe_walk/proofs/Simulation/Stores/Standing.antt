@@ -1,21 +1,20 @@
 -- After the store of a corner the places stand well, and counts stay small.
-use Rattle.std.proofs.Common.{◌≡◌, ◌≢◌, ℕ, suc, ◌+◌, ◌-◌, ◌*◌, ◌^◌, ◌<◌, ◌≤◌, Bool, true, false, length, Option, Some, None, refl, sym, ap, subst, ◌∙◌, arith}
+use Rattle.std.proofs.Common.{◌≡◌, ℕ, ◌+◌, ◌^◌, ◌<◌, ◌≤◌, Bool, true, false, length, Option, refl, ◌∙◌, arith}
 use Rattle.pe_base.specs.declared.place.Place.{Place}
 use Rattle.pe_base.specs.declared.kind.Kind.{Kind}
 use Rattle.pe_base.specs.declared.kind.Kind.TheVariants.{Kept, Born, Dying, Hanging}
 use Rattle.pe_base.specs.declared.tally.Tally.{Tally}
-use Rattle.pe_base.specs.Tree.Places.{corner, is_same}
+use Rattle.pe_base.specs.Tree.Places.{corner}
 use Rattle.pe_base.specs.Walk.Touches.{tally_store}
 use Rattle.pe_base.proofs.Walk.CellCorners.{corners_apart}
-use Rattle.pe_stacks.specs.Holdings.{stack_at, len_at}
 use Rattle.pe_walk.specs.Tokens.{Outlook, Tokens}
 use Rattle.pe_walk.specs.Apart.{IsApart}
 use Rattle.pe_walk.specs.Traffic.{OnlyCounting}
-use Rattle.pe_walk.specs.Standing.{Outset, Stage, per_cell, Stands, Owes}
+use Rattle.pe_walk.specs.Standing.{Outset, Stage, Stands, Owes}
 use Rattle.pe_walk.proofs.Simulation.Leaves.{after_store}
 use Rattle.pe_walk.proofs.Simulation.Levels.{levels_differ}
 use Rattle.pe_walk.proofs.Simulation.Shared.{owes-more}
-use Rattle.pe_walk.proofs.Simulation.Stores.Places.{stored, Within, held-other, held-most, out-put, fresh-put, count-put, Grows, stack-put, len-put}
+use Rattle.pe_walk.proofs.Simulation.Stores.Places.{stored, Within, held-other, held-most, out-put, fresh-put, count-put, stack-put, len-put}
 
 -- the places
 pub stands-stored : (axes : ℕ) (o : Outlook) (st : Stage) (t : Tokens) (goal : Option ℕ) (k : ℕ) → Stands axes o st t → st.from ≡ k → k < 2 ^ axes → axes ≤ length st.cell.pos → st.parent.level + 1 ≡ st.cell.level

@@ -1,6 +1,6 @@
 -- After the store of a corner all holds that held before it.
-use Rattle.std.proofs.Common.{◌≡◌, ◌≢◌, ℕ, ◌+◌, ◌-◌, ◌^◌, ◌<◌, ◌≤◌, Bool, true, false, not, ◌&&◌, ◌==◌, length, Option, Some, None, refl, sym, ap, subst, ◌∙◌, arith}
-use Rattle.std.specs.Prelude.{is_none, if◌then◌else◌}
+use Rattle.std.proofs.Common.{◌≡◌, ℕ, ◌+◌, ◌-◌, ◌^◌, ◌<◌, ◌≤◌, Bool, false, length, Option, Some, sym, ap, subst, ◌∙◌, arith}
+use Rattle.std.specs.Prelude.{is_none}
 use Rattle.pe_base.specs.declared.place.Place.{Place}
 use Rattle.pe_base.specs.Tree.Places.{corner, is_same}
 use Rattle.pe_base.specs.Steps.Routes.{stack_out}
@@ -10,7 +10,6 @@ use Rattle.pe_base.specs.Walk.Core.{Setting, Family, way, store_touch}
 use Rattle.pe_base.specs.Walk.Working.{Working, record_at, records_of, family_of}
 use Rattle.pe_base.specs.Walk.Touches.{tally_store, put_stored}
 use Rattle.pe_base.specs.Walk.Touches as model
-use Rattle.pe_base.proofs.Walk.Slots.{is_hung}
 use Rattle.pe_walk.specs.Laws.{IsCell}
 use Rattle.pe_walk.specs.Tokens.{Tokens, store}
 use Rattle.pe_walk.specs.Apart.{IsApart}
