@@ -29,7 +29,7 @@ abbrev pub accepts : List Frame → List Lexeme → Bool
 accepts fs [] = ends fs
 accepts fs (x ∷ xs) = on_step (step fs x.kind) (λ gs. accepts gs xs)
 
-abbrev head : List Lexeme → Option TokenKind
+abbrev pub head : List Lexeme → Option TokenKind
 head v = kind_in (slice_get v 0)
 
 takes_on : (f : Frame) (g fs : List Frame) (x : Lexeme) (v : List Lexeme) (k : TokenKind) → x.kind ≡ k → move f k ≡ Takes g → accepts (f ∷ fs) (x ∷ v) ≡ accepts (g ++ fs) v
@@ -43,51 +43,51 @@ needs_on : (k : TokenKind) (fs : List Frame) (x : Lexeme) (v : List Lexeme) → 
 needs_on k fs x v is = takes_on (Needs k) [] fs x v k is (needs_takes k)
 
 -- what does not go on with an operand of a chain of a rank, or with the chain
-record AfterOperand (o : Option TokenKind) : Type 0 where
-  second : skips Second o ≡ true
+pub record AfterOperand (o : Option TokenKind) : Type 0 where
+  pub second : skips Second o ≡ true
 
-record AfterProduct (o : Option TokenKind) : Type 0 where
-  inside : AfterOperand o
-  links : (n : ℕ) → skips (Links Product n) o ≡ true
+pub record AfterProduct (o : Option TokenKind) : Type 0 where
+  pub inside : AfterOperand o
+  pub links : (n : ℕ) → skips (Links Product n) o ≡ true
 
-record AfterSum (o : Option TokenKind) : Type 0 where
-  inside : AfterProduct o
-  links : (n : ℕ) → skips (Links Sum n) o ≡ true
+pub record AfterSum (o : Option TokenKind) : Type 0 where
+  pub inside : AfterProduct o
+  pub links : (n : ℕ) → skips (Links Sum n) o ≡ true
 
-record AfterComparison (o : Option TokenKind) : Type 0 where
-  inside : AfterSum o
-  links : (n : ℕ) → skips (Links Comparison n) o ≡ true
+pub record AfterComparison (o : Option TokenKind) : Type 0 where
+  pub inside : AfterSum o
+  pub links : (n : ℕ) → skips (Links Comparison n) o ≡ true
 
-record AfterConjunction (o : Option TokenKind) : Type 0 where
-  inside : AfterComparison o
-  links : (n : ℕ) → skips (Links Conjunction n) o ≡ true
+pub record AfterConjunction (o : Option TokenKind) : Type 0 where
+  pub inside : AfterComparison o
+  pub links : (n : ℕ) → skips (Links Conjunction n) o ≡ true
 
-record AfterDisjunction (o : Option TokenKind) : Type 0 where
-  inside : AfterConjunction o
-  links : (n : ℕ) → skips (Links Disjunction n) o ≡ true
+pub record AfterDisjunction (o : Option TokenKind) : Type 0 where
+  pub inside : AfterConjunction o
+  pub links : (n : ℕ) → skips (Links Disjunction n) o ≡ true
 
-abbrev Inside : Rank → Option TokenKind → Type 0
+abbrev pub Inside : Rank → Option TokenKind → Type 0
 Inside Product o = AfterOperand o
 Inside Sum o = AfterProduct o
 Inside Comparison o = AfterSum o
 Inside Conjunction o = AfterComparison o
 Inside Disjunction o = AfterConjunction o
 
-abbrev After : Rank → Option TokenKind → Type 0
+abbrev pub After : Rank → Option TokenKind → Type 0
 After Product o = AfterProduct o
 After Sum o = AfterSum o
 After Comparison o = AfterComparison o
 After Conjunction o = AfterConjunction o
 After Disjunction o = AfterDisjunction o
 
-inside_of : (r : Rank) (o : Option TokenKind) → After r o → Inside r o
+pub inside_of : (r : Rank) (o : Option TokenKind) → After r o → Inside r o
 inside_of Product o a = a.inside
 inside_of Sum o a = a.inside
 inside_of Comparison o a = a.inside
 inside_of Conjunction o a = a.inside
 inside_of Disjunction o a = a.inside
 
-links_of : (r : Rank) (o : Option TokenKind) (n : ℕ) → After r o → skips (Links r n) o ≡ true
+pub links_of : (r : Rank) (o : Option TokenKind) (n : ℕ) → After r o → skips (Links r n) o ≡ true
 links_of Product o n a = a.links n
 links_of Sum o n a = a.links n
 links_of Comparison o n a = a.links n
@@ -95,7 +95,7 @@ links_of Conjunction o n a = a.links n
 links_of Disjunction o n a = a.links n
 
 -- what stands behind an expression in a rule
-abbrev closes : TokenKind → Bool
+abbrev pub closes : TokenKind → Bool
 closes kind.CloseRound = true
 closes kind.Comma = true
 closes kind.Semicolon = true
@@ -109,7 +109,7 @@ after_closing kind.Semicolon h = record { inside = record { inside = record { in
 after_closing kind.OpenCurly h = record { inside = record { inside = record { inside = record { inside = record { inside = record { second = refl }; links = λ n. refl }; links = λ n. refl }; links = λ n. refl }; links = λ n. refl }; links = λ n. refl }
 after_closing _ h = absurd (cc)
 
-closing_head : (y : Lexeme) (v : List Lexeme) (k : TokenKind) → y.kind ≡ k → closes k ≡ true → AfterDisjunction (head (y ∷ v))
+pub closing_head : (y : Lexeme) (v : List Lexeme) (k : TokenKind) → y.kind ≡ k → closes k ≡ true → AfterDisjunction (head (y ∷ v))
 closing_head y v k is h = after_closing y.kind (ap closes is ∙ h)
 
 -- a sign of a rank ends each operand of its chain
@@ -124,7 +124,7 @@ other_rank r s k n is other =
 differ : (r q : Rank) (s : Sign) → rank_of s ≡ q → same_rank r q ≡ false → same_rank r (rank_of s) ≡ false
 differ r q s is h = ap (same_rank r) is ∙ h
 
-sign_inside : (r : Rank) (s : Sign) (k : TokenKind) → sign_of k ≡ Some s → rank_of s ≡ r → Inside r (Some k)
+pub sign_inside : (r : Rank) (s : Sign) (k : TokenKind) → sign_of k ≡ Some s → rank_of s ≡ r → Inside r (Some k)
 sign_inside Product s k is rank = record { second = sign_second k s is }
 sign_inside Sum s k is rank = record { inside = record { second = sign_second k s is }; links = λ n. other_rank Product s k n is (differ Product Sum s rank refl) }
 sign_inside Comparison s k is rank = record {
@@ -166,11 +166,11 @@ operand_taken Conjunction e w t = t
 operand_taken Disjunction e w t = t
 
 -- what follows an operand: a link of its chain, or what follows the chain
-linked_head : (r : Rank) (links : List (Sign × Expr)) (w v : List Lexeme) → Spells (Linked r links) w → After r (head v) → Inside r (head (w ++ v))
+pub linked_head : (r : Rank) (links : List (Sign × Expr)) (w v : List Lexeme) → Spells (Linked r links) w → After r (head v) → Inside r (head (w ++ v))
 linked_head r links w v (linked_none r2) after_ = inside_of r (head v) after_
 linked_head r links w v (linked r2 x s is rank may first rest) after_ = sign_inside r s x.kind is rank
 
-rank_same : (r : Rank) → same_rank r r ≡ true
+pub rank_same : (r : Rank) → same_rank r r ≡ true
 rank_same Disjunction = refl
 rank_same _ = refl
 
@@ -181,7 +181,7 @@ link_takes_on r s k n is rank =
 empty_links : (r : Rank) (w : List Lexeme) → Spells (Linked r []) w → w ≡ []
 empty_links r w (linked_none r2) = refl
 
-none_left : (r : Rank) (ls : List (Sign × Expr)) (w : List Lexeme) → ls ≡ [] → Spells (Linked r ls) w → w ≡ []
+pub none_left : (r : Rank) (ls : List (Sign × Expr)) (w : List Lexeme) → ls ≡ [] → Spells (Linked r ls) w → w ≡ []
 none_left r ls w h d = empty_links r w (subst (λ (ls : List (Sign × Expr)). Spells (Linked r ls) w) h d)
 
 more_taken : (r : Rank) (links : List (Sign × Expr)) (w : List Lexeme) → MayFollow r links → Spells (Linked r links) w → Taken (Linked r links) w → (n : ℕ) (fs : List Frame) (v : List Lexeme) → After r (head v)
@@ -208,7 +208,7 @@ ending_on : (fs : List Frame) (v : List Lexeme) → accepts (Ending ∷ fs) v �
 ending_on fs [] = refl
 ending_on fs (x ∷ v) = refl
 
-listed_head : (es : List Expr) (ys v : List Lexeme) → Spells (Listed es) ys → AfterDisjunction (head v) → AfterDisjunction (head (ys ++ v))
+pub listed_head : (es : List Expr) (ys v : List Lexeme) → Spells (Listed es) ys → AfterDisjunction (head v) → AfterDisjunction (head (ys ++ v))
 listed_head es ys v listed_none after_ = after_
 listed_head es ys v (listed x comma first rest) after_ = after_closing x.kind (ap closes comma)
 
@@ -232,7 +232,7 @@ one_head s w v (prints x z is first rest close) = kind_otherwise x kind.Print is
 one_head s w v (chooses x o y is condition open_ body close) = kind_otherwise x kind.If is refl
 one_head s w v (chooses_else x o y e p z is condition open_ body close else_ open2 body2 close2) = kind_otherwise x kind.If is refl
 
-all_head : (ss : Statements) (w v : List Lexeme) → Spells (All ss) w → skips Otherwise (head v) ≡ true → skips Otherwise (head (w ++ v)) ≡ true
+pub all_head : (ss : Statements) (w v : List Lexeme) → Spells (All ss) w → skips Otherwise (head v) ≡ true → skips Otherwise (head (w ++ v)) ≡ true
 all_head ss w v nothing h = h
 all_head ss w v (then_more {xs = us} {ys = vs} {s = s} one rest) h = subst (λ (u : List Lexeme). skips Otherwise (head u) ≡ true) (sym (append_assoc us vs v)) (one_head s us (vs ++ v) one)
 

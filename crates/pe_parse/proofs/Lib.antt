@@ -22,3 +22,7 @@ pub mod Accepts
 pub mod Refusals
 -- tokens that may come begin a body
 pub mod Completes
+-- tokens read by descent
+pub mod Descent
+-- each text has at most one tree
+pub mod OneTree

@@ -261,7 +261,7 @@ kind_found _ = refl
 pub kind_same : (a b : TokenKind) → kind_number a ≡ kind_number b → a ≡ b
 kind_same a b h = let e : Some a ≡ Some b = sym (kind_found a) ∙ ap (slice_get kinds) h ∙ kind_found b in cc
 
-kind_self : (k : TokenKind) → (kind_number k == kind_number k) ≡ true
+pub kind_self : (k : TokenKind) → (kind_number k == kind_number k) ≡ true
 kind_self k = grind (arith, nat_tests)
 
 kind_other : (a b : TokenKind) (e : Bool) → (kind_number a == kind_number b) ≡ e → (a ≡ b → ⊥) → e ≡ false

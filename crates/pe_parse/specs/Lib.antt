@@ -14,3 +14,5 @@ pub mod Faults
 pub mod Reading
 -- what it means that a body begins with tokens
 pub mod Bodies
+-- what makes the grammar one reading of a text
+pub mod Laws

@@ -3,6 +3,7 @@
 
 mod expr;
 mod fault;
+mod laws;
 mod rank;
 mod read;
 mod reader;
@@ -13,6 +14,7 @@ mod tree;
 mod words;
 
 pub use fault::ParseFault;
+pub use laws::one_tree;
 pub use rank::Rank;
 pub use read::parse;
 pub use tree::{Body, Choice, Expr, Name, Prefix, Sign, Stmt, Trigger, Values, Word};

@@ -1,0 +1,17 @@
+-- What makes the grammar one reading of a text.
+use Rattle.std.specs.Prelude.{ℕ, ◌≡◌, List, Ok}
+use Rattle.pe_lex.specs.declared.token.Token.{Token}
+use Rattle.pe_lex.specs.Tokens.{tokens_of}
+use Rattle.pe_parse.specs.Lexemes.{lexemes_of}
+use Rattle.pe_parse.specs.Statements.{Statements}
+use Rattle.pe_parse.specs.Grammar.{All, Spells}
+
+-- the text has tokens, and they spell the body
+pub record IsTextOf (text : List ℕ) (body : Statements) : Type 0 where
+  pub tokens : List Token
+  pub lexed : tokens_of text ≡ Ok tokens
+  pub spelled : Spells (All body) (lexemes_of text tokens)
+
+-- a text is that of one body at most
+abbrev pub HasOneTree : Type 0
+HasOneTree = (text : List ℕ) (a b : Statements) → IsTextOf text a → IsTextOf text b → a ≡ b
