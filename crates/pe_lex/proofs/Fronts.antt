@@ -62,11 +62,11 @@ not_past_run p [] k above within = absurd (omega arith)
 not_past_run p (x ∷ xs) zero above within = absurd (omega arith)
 not_past_run p (x ∷ xs) (suc k) above within = past_step p x xs k (p x) refl above (λ h. not_past_run p xs k h (omega arith))
 
-to_false : (b : Bool) → (b ≡ true → ⊥) → b ≡ false
+pub to_false : (b : Bool) → (b ≡ true → ⊥) → b ≡ false
 to_false true h = absurd (h refl)
 to_false false h = refl
 
-not_true : (b : Bool) → b ≡ false → b ≡ true → ⊥
+pub not_true : (b : Bool) → b ≡ false → b ≡ true → ⊥
 not_true b no_ yes_ = cc
 
 not_is : (b : Bool) → not b ≡ true → b ≡ false

@@ -8,3 +8,5 @@ pub mod Fronts
 pub mod Reading
 -- each token of a text is what it says
 pub mod Spans
+-- tokens with a space behind each
+pub mod Spaced

@@ -25,7 +25,7 @@ skipped zero at text fits = ap (λ (n : ℕ). tokens_from 0 n text) (omega arith
 skipped (suc k) at [] fits = absurd (omega arith)
 skipped (suc k) at (c ∷ cs) fits = skipped k (at + 1) cs (omega arith) ∙ ap (λ (n : ℕ). tokens_from 0 n (drop k cs)) (omega arith)
 
-white_step : (at : ℕ) (c : ℕ) (cs : List ℕ) → is_white c ≡ true → tokens_from 0 at (c ∷ cs) ≡ tokens_from 0 (at + 1) cs
+pub white_step : (at : ℕ) (c : ℕ) (cs : List ℕ) → is_white c ≡ true → tokens_from 0 at (c ∷ cs) ≡ tokens_from 0 (at + 1) cs
 white_step at c cs h = ap (λ (b : Bool). begin_at b (longest (c ∷ cs)) at (λ passed. tokens_from (passed - 1) (at + 1) cs)) h
 
 none_step : (at : ℕ) (c : ℕ) (cs : List ℕ) → is_white c ≡ false → longest (c ∷ cs) ≡ None → tokens_from 0 at (c ∷ cs) ≡ Err at
@@ -33,7 +33,7 @@ none_step at c cs white is =
     ap (λ (b : Bool). begin_at b (longest (c ∷ cs)) at (λ passed. tokens_from (passed - 1) (at + 1) cs)) white
     ∙ ap (λ (o : Option (TokenKind × ℕ)). begin_at false o at (λ passed. tokens_from (passed - 1) (at + 1) cs)) is
 
-token_step : (at : ℕ) (c : ℕ) (cs : List ℕ) (kind : TokenKind) (n : ℕ) → is_white c ≡ false → longest (c ∷ cs) ≡ Some (kind, suc n) → n ≤ length cs
+pub token_step : (at : ℕ) (c : ℕ) (cs : List ℕ) (kind : TokenKind) (n : ℕ) → is_white c ≡ false → longest (c ∷ cs) ≡ Some (kind, suc n) → n ≤ length cs
     → tokens_from 0 at (c ∷ cs) ≡ with_token (record { kind = kind; start = at; end = at + suc n }) (tokens_from 0 (at + suc n) (drop n cs))
 token_step at c cs kind n white is fits =
     let one_less : suc n - 1 ≡ n = omega arith in

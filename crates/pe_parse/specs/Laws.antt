@@ -5,6 +5,7 @@ use Rattle.pe_lex.specs.Tokens.{tokens_of}
 use Rattle.pe_parse.specs.Lexemes.{lexemes_of}
 use Rattle.pe_parse.specs.Statements.{Statements}
 use Rattle.pe_parse.specs.Grammar.{All, Spells}
+use Rattle.pe_parse.specs.Printed.{text_of, unplaced}
 
 -- the text has tokens, and they spell the body
 pub record IsTextOf (text : List ℕ) (body : Statements) : Type 0 where
@@ -15,3 +16,7 @@ pub record IsTextOf (text : List ℕ) (body : Statements) : Type 0 where
 -- a text is that of one body at most
 abbrev pub HasOneTree : Type 0
 HasOneTree = (text : List ℕ) (a b : Statements) → IsTextOf text a → IsTextOf text b → a ≡ b
+
+-- the text of a body that was read is read as that body, but for the offsets
+abbrev pub IsReadAsPrinted : Type 0
+IsReadAsPrinted = (text : List ℕ) (body : Statements) → IsTextOf text body → (again : Statements) × IsTextOf (text_of body) again × (unplaced again ≡ unplaced body)

@@ -14,5 +14,7 @@ pub mod Faults
 pub mod Reading
 -- what it means that a body begins with tokens
 pub mod Bodies
+-- how a body is printed
+pub mod Printed
 -- what makes the grammar one reading of a text
 pub mod Laws
