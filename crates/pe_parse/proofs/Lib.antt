@@ -26,3 +26,11 @@ pub mod Completes
 pub mod Descent
 -- each text has at most one tree
 pub mod OneTree
+-- folds over an expression, by its variants
+pub mod Layers
+-- what is spelled, without offsets
+pub mod Unplaced
+-- a body that is printed is spelled
+pub mod Printing
+-- and is read as itself
+pub mod Again
