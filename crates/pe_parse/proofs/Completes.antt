@@ -1,5 +1,5 @@
 -- What is open can be completed: tokens that may come begin a body.
-use Rattle.std.proofs.Common.{◌≡◌, ℕ, ◌+◌, pos, List, [], ◌∷◌, ◌++◌, Option, Some, None, Bool, true, false, cond, refl, sym, ◌∙◌, ap, subst, append_assoc, append-nil, arith}
+use Rattle.std.proofs.Common.{◌≡◌, ℕ, ◌+◌, pos, List, [], ◌∷◌, ◌++◌, Option, Some, None, Bool, true, false, cond, ◌&&◌, refl, sym, ◌∙◌, ap, subst, append_assoc, append-nil, arith}
 use Rattle.std.specs.Prelude.{◌==◌}
 use Rattle.std.proofs.lemmas.Bool.Decides.{nat_tests}
 use Rattle.pe_lex.specs.declared.token.TokenKind.{TokenKind}
@@ -18,9 +18,10 @@ use Rattle.pe_parse.specs.declared.tree.Expr.TheVariants as expr
 use Rattle.pe_parse.specs.Lexemes.{Lexeme, value_of}
 use Rattle.pe_parse.specs.Statements.{Statement, Statements, Nothing, Then}
 use Rattle.pe_parse.specs.Grammar.{Phrase, Chained, Operand, Linked, Listed, One, All, plain, dotted, Spells, number, name, prefixed, group, extreme, absolute, single, chain, linked_none, linked, listed_none, listed, assigns, marks, prints, chooses, chooses_else, nothing, then_more, MayFollow, operand_of, rank_of, sign_of, prefix_kind, choice_kind, trigger_kind}
-use Rattle.pe_parse.specs.Places.{Frame, Needs, Value, Links, Second, Ending, Pair, Single, Values, Block, Otherwise, Sequence, Move, Takes, Skips, Refuses, move, moved, link_move, sign_if, same_rank, step, kind_number, operand_frames, more_links, expression}
+use Rattle.pe_parse.specs.Places.{Frame, Needs, Value, Links, Second, Ending, Pair, Single, Values, Block, Otherwise, Sequence, Move, Takes, Skips, Refuses, move, moved, link_move, sign_if, same_rank, step, kind_number, operand_frames, more_links, expression, can_end, ends}
 use Rattle.pe_parse.specs.Bodies.{Begins, open_next, open_after}
 use Rattle.pe_parse.proofs.Steps.{kind_same}
+use Rattle.pe_parse.proofs.Accepts.{accepts, on_step}
 
 -- what a frame may be filled with
 data SecondFill : List Lexeme → Type 0 where
@@ -402,3 +403,36 @@ begins_body gs xs h =
     let all = found_all [] (xs ++ w.0) (open_completes (Sequence ∷ []) gs xs w.0 h w.1) in
     let whole : all.front ≡ xs ++ w.0 = sym (all.whole ∙ ap (λ (v : List Lexeme). all.front ++ v) (nothing_left all.back all.rest) ∙ append-nil all.front) in
     record { more = w.0; body = all.trees; spelled = subst (λ (v : List Lexeme). Spells (All all.trees) v) whole all.spelled }
+
+-- what may end is filled by nothing
+empty_fill : (f : Frame) → can_end f ≡ true → Fills f []
+empty_fill (Links r n) h = ([], linked_none r)
+empty_fill Second h = no_second
+empty_fill Ending h = no_token
+empty_fill (Values n) h = ([], listed_none)
+empty_fill Otherwise h = no_else
+empty_fill Sequence h = (Nothing, nothing)
+empty_fill _ h = absurd (cc)
+
+both : (a b : Bool) → (a && b) ≡ true → (a ≡ true) × (b ≡ true)
+both true b h = (refl, h)
+both false b h = absurd (cc)
+
+ends_complete : (fs : List Frame) → ends fs ≡ true → Completes fs []
+ends_complete [] h = done
+ends_complete (f ∷ fs) h = let parts = both (can_end f) (ends fs) h in fill [] (empty_fill f parts.0) (ends_complete fs parts.1)
+
+accept_step : (fs : List Frame) (x : Lexeme) (xs : List Lexeme) (o : Option (List Frame)) → step fs x.kind ≡ o → ((gs : List Frame) → accepts gs xs ≡ true → Completes gs xs) → on_step o (λ gs. accepts gs xs) ≡ true → Completes fs (x ∷ xs)
+accept_step fs x xs None e later h = absurd (cc)
+accept_step fs x xs (Some gs) e later h = step_completes fs gs x xs e (later gs h)
+
+accepts_completes : (fs : List Frame) (xs : List Lexeme) → accepts fs xs ≡ true → Completes fs xs
+accepts_completes fs [] h = ends_complete fs h
+accepts_completes fs (x ∷ xs) h = accept_step fs x xs (step fs x.kind) refl (λ gs later. accepts_completes gs xs later) h
+
+-- Tokens that are accepted are spelled.
+pub accepted_body : (xs : List Lexeme) → accepts (Sequence ∷ []) xs ≡ true → (body : Statements) × Spells (All body) xs
+accepted_body xs h =
+    let all = found_all [] xs (accepts_completes (Sequence ∷ []) xs h) in
+    let whole : all.front ≡ xs = sym (all.whole ∙ ap (λ (v : List Lexeme). all.front ++ v) (nothing_left all.back all.rest) ∙ append-nil all.front) in
+    (all.trees, subst (λ (v : List Lexeme). Spells (All all.trees) v) whole all.spelled)

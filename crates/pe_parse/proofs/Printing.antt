@@ -1,5 +1,5 @@
 -- A body that was read is, as it is printed, spelled: token by token, without offsets.
-use Rattle.std.proofs.Common.{◌≡◌, ℕ, ◌+◌, ◌-◌, ◌*◌, ◌<◌, ◌≤◌, pos, suc, zero, List, [], ◌∷◌, ◌++◌, map, codes, Option, Some, None, Bool, true, false, cond, ◌&&◌, refl, sym, ◌∙◌, ap, subst, append_assoc, arith}
+use Rattle.std.proofs.Common.{◌≡◌, ℕ, ◌+◌, ◌*◌, ◌<◌, pos, List, [], ◌∷◌, ◌++◌, map, codes, Option, Some, None, Bool, true, false, cond, refl, sym, ◌∙◌, ap, subst, append_assoc, arith}
 use Rattle.std.specs.Prelude.{◌==◌}
 use Rattle.std.specs.List.{list_all}
 use Rattle.std.specs.Int.Digits.{digits_of, number_from_digits, number_from_digits_after, AllBelowBase}
@@ -24,7 +24,7 @@ use Rattle.pe_parse.specs.declared.tree.Name.{Name}
 use Rattle.pe_parse.specs.declared.tree.Expr.{Expr}
 use Rattle.pe_parse.specs.declared.tree.Expr.TheVariants as expr
 use Rattle.pe_parse.specs.Lexemes.{Lexeme, value_from, value_of}
-use Rattle.pe_parse.specs.Statements.{Statement, Statements, Assigns, Marks, Chooses, ChoosesElse, Nothing, Then}
+use Rattle.pe_parse.specs.Statements.{Statement, Statements, Assigns, Marks, Chooses, ChoosesElse, Then}
 use Rattle.pe_parse.specs.Grammar.{Phrase, Chained, Operand, Linked, Listed, One, All, Names, plain, dotted, Spells, number, name, prefixed, group, extreme, absolute, single, chain, linked_none, linked, listed_none, listed, assigns, marks, prints, chooses, chooses_else, nothing, then_more, MayFollow, operand_of, rank_of, sign_of, prefix_kind, choice_kind, trigger_kind}
 use Rattle.pe_parse.specs.Printed.{Pieces, sign_text, prefix_text, choice_text, trigger_text, numeral, name_pieces, link_pieces, operand_step, operand_pieces, more_pieces, statement_pieces, body_pieces, unplaced_step, unplaced_expr, unplaced_statement, unplaced}
 use Rattle.pe_parse.proofs.Layers.{of_number, of_name, of_unary, of_chain, of_extreme, of_abs}
@@ -373,12 +373,12 @@ else_printed e ss ts ps qs rs d f g =
       tokens = (
         token_by (codes "if") kind.If if_word,
         tokens-append ps (codes "{" ∷ (qs ++ last)) d.tokens (
-              token_by (codes "{") kind.OpenCurly curly_open,
-              tokens-append qs last f.tokens (
-                    token_by (codes "}") kind.CloseCurly curly_close,
-                    (token_by (codes "else") kind.Else else_word, (token_by (codes "{") kind.OpenCurly curly_open, tokens-append rs (codes "}" ∷ []) g.tokens close_curly)),
-                  ),
-            ),
+          token_by (codes "{") kind.OpenCurly curly_open,
+          tokens-append qs last f.tokens (
+            token_by (codes "}") kind.CloseCurly curly_close,
+            (token_by (codes "else") kind.Else else_word, (token_by (codes "{") kind.OpenCurly curly_open, tokens-append rs (codes "}" ∷ []) g.tokens close_curly)),
+          ),
+        ),
       );
     }
 

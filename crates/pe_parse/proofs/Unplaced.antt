@@ -1,5 +1,5 @@
 -- What tokens spell, they spell without offsets too.
-use Rattle.std.proofs.Common.{◌≡◌, pos, List, [], ◌∷◌, ◌++◌, map, Bool, refl, sym, ◌∙◌, ap, subst}
+use Rattle.std.proofs.Common.{◌≡◌, pos, List, [], ◌∷◌, ◌++◌, map, sym, ap, subst}
 use Rattle.std.proofs.lemmas.List.{map-append}
 use Rattle.pe_parse.specs.declared.rank.Rank.{Rank}
 use Rattle.pe_parse.specs.declared.rank.Rank.TheVariants.{Disjunction, Conjunction, Comparison, Sum, Product}
@@ -8,7 +8,6 @@ use Rattle.pe_parse.specs.declared.tree.Name.{Name}
 use Rattle.pe_parse.specs.declared.tree.Expr.{Expr}
 use Rattle.pe_parse.specs.declared.tree.Expr.TheVariants as expr
 use Rattle.pe_parse.specs.Lexemes.{Lexeme, value_of}
-use Rattle.pe_parse.specs.Statements.{Statement, Statements}
 use Rattle.pe_parse.specs.Grammar.{Phrase, Chained, Operand, Linked, Listed, One, All, Names, plain, dotted, Spells, number, name, prefixed, group, extreme, absolute, single, chain, linked_none, linked, listed_none, listed, assigns, marks, prints, chooses, chooses_else, nothing, then_more, MayFollow, operand_of}
 use Rattle.pe_parse.specs.Printed.{unplaced_step, unplaced_expr, unplaced_statement, unplaced}
 use Rattle.pe_parse.proofs.Layers.{of_number, of_name, of_unary, of_chain, of_extreme, of_abs}
