@@ -4,3 +4,5 @@
 pub mod Records
 -- a cell is entered
 pub mod Entering
+-- a cell is left
+pub mod Leaving
