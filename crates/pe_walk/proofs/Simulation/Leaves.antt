@@ -3,13 +3,16 @@
 --
 -- A place that was not met yet has a record of some kind, which means nothing: its first touch overwrites the kind.
 use Rattle.std.specs.Prelude.{◌≡◌, ℕ, zero, suc, ◌+◌, ◌-◌, ◌^◌, ◌<◌, ◌≤◌, Bool, true, ◌==◌, if◌then◌else◌, List, [], ◌∷◌, ◌++◌, map, Option, Some}
-use Rattle.std.specs.List.{range_with_len}
+use Rattle.std.specs.List.{range_with_len, flat_map}
 use Rattle.pe_base.specs.declared.place.Place.{Place}
 use Rattle.pe_base.specs.declared.kind.Kind.{Kind}
 use Rattle.pe_base.specs.declared.event.Event.{Event}
+use Rattle.pe_base.specs.declared.event.Event.TheVariants.{BeginIteration, EndIteration}
+use Rattle.pe_base.specs.Tree.Places.{root}
+use Rattle.pe_base.specs.Tree.Curve.{children}
 use Rattle.pe_base.specs.Acts.Effects.{VertexRecord}
-use Rattle.pe_base.specs.Walk.Course.{Push, Course, at_once, course_map}
-use Rattle.pe_base.specs.Walk.Core.{Setting, Own}
+use Rattle.pe_base.specs.Walk.Course.{Push, Course, at_once, and_then, course_map, each}
+use Rattle.pe_base.specs.Walk.Core.{Setting, Own, way}
 use Rattle.pe_base.specs.Walk.Working.{Working, vertex_at, cell_at, record_at, family_of, own_of}
 use Rattle.pe_base.specs.Walk.Touches as model
 use Rattle.pe_base.specs.Walk.Walk as walks
@@ -17,7 +20,7 @@ use Rattle.pe_base.specs.Walk.Streams.{walked_cells}
 use Rattle.pe_hang.specs.InHand.{map_holdings}
 use Rattle.pe_walk.specs.Machine.{Machine, Ports}
 use Rattle.pe_walk.specs.Machine as machine
-use Rattle.pe_walk.specs.Tokens.{Outlook, Tokens}
+use Rattle.pe_walk.specs.Tokens.{Outlook, Tokens, each_some}
 use Rattle.pe_walk.specs.Gridded.{ports_of}
 use Rattle.pe_walk.specs.Tokens as tokens
 use Rattle.pe_walk.specs.Standing.{Outset, Stage, per_cell, Holds, IsStage}
@@ -130,3 +133,18 @@ module _ {Plan : Type 0} (set : Setting Plan) (e : Outset) where
         → st.ahead ≡ walked_cells e.outlook.axes e.outlook.way e.outlook.walks levels st.cell ++ rest
         → Sim room (Holds set e st) (image_of st.parent) (Holds set e (record st { ahead = rest })) (image_of st.parent)
         (walks.walk_cell set levels st.parent st.cell) (machine.walk_cell set ports (suc levels) st.cell) (tokens.walk e.outlook levels st.cell)
+
+    -- # A traversal, with the root's corners in hand
+    -- what was entered is the root alone, and these cells are ahead
+    abbrev pub at_root : List Place → Stage
+    at_root ahead = record { out = 2 ^ set.axes; parent = root; cell = root; from = 2 ^ set.axes; owed = 0; unstored = 0; counted = 0; entered = root ∷ []; ahead = ahead }
+
+    -- from its first event to its last
+    abbrev pub RootSim : ℕ → Type 0
+    RootSim levels = Sim room
+        (Holds set e (at_root (flat_map (walked_cells e.outlook.axes e.outlook.way e.outlook.walks levels) (children e.outlook.axes e.outlook.way root)))) (image_of root)
+        (Holds set e (at_root [])) (image_of root)
+        (λ w. and_then (walks.plain set BeginIteration w) (λ w. and_then (each (walks.walk_cell set levels root) (children set.axes (way set) root) w) (walks.plain set EndIteration)))
+        (λ m. and_then (machine.plain set ports BeginIteration m) (λ m. and_then (each (machine.walk_cell set ports (suc levels)) (children set.axes (way set) root) m) (machine.plain set ports EndIteration)))
+        (each_some (tokens.walk e.outlook levels) (children e.outlook.axes e.outlook.way root))
+
