@@ -2,3 +2,5 @@
 
 -- all corners of a cell
 pub mod Corners
+-- what it leaves of the places
+pub mod Frames
