@@ -4,3 +4,5 @@
 pub mod Corners
 -- what it leaves of the places
 pub mod Frames
+-- going down to children, and coming back
+pub mod Inside
