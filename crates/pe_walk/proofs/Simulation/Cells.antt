@@ -6,3 +6,5 @@ pub mod Corners
 pub mod Frames
 -- going down to children, and coming back
 pub mod Inside
+-- the walks of children
+pub mod Children

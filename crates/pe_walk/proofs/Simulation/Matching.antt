@@ -66,6 +66,19 @@ module _ (room : Push → Type 0) where
         let rest = from-matches f g model.ending machine.ending first.ending next in
         record { text = ap₂ (λ a b. a ++ b) first.text rest.text; ending = rest.ending; log = Each-append room machine.log (from machine.ending g).log first.log rest.log }
 
+  -- a machine whose result is turned
+  pub mapped-matches : {W M N : Type 0} (image : W → M) (image' : W → N) (f : M → N) (model : Course W) (machine : Course M) → Matches image model machine
+      → ((w : W) → model.ending ≡ done w → f (image w) ≡ image' w) → Matches image' model (course_map f machine)
+  mapped-matches {W = W} {M = M} {N = N} image image' f model machine same turned = go model.ending machine.ending refl same.ending
+    where
+      ends_as : (e : Ending N) → ending_map image' model.ending ≡ e → Matches image' model (behind machine.text machine.log (ends e))
+      ends_as e k = record { text = append-nil machine.text ∙ same.text; ending = sym k; log = subst (Each room) (sym (append-nil machine.log)) same.log }
+
+      go : (e : Ending W) (em : Ending M) → model.ending ≡ e → em ≡ ending_map image e → Matches image' model (behind machine.text machine.log (from em (λ x. at_once (f x))))
+      go (done w) em k h = subst (λ x. Matches image' model (behind machine.text machine.log (from x (λ x. at_once (f x))))) (sym h) (ends_as (done (f (image w))) (ap (ending_map image') k ∙ ap done (sym (turned w k))))
+      go (halts cause) em k h = subst (λ x. Matches image' model (behind machine.text machine.log (from x (λ x. at_once (f x))))) (sym h) (ends_as (halts cause) (ap (ending_map image') k))
+      go stuck em k h = subst (λ x. Matches image' model (behind machine.text machine.log (from x (λ x. at_once (f x))))) (sym h) (ends_as stuck (ap (ending_map image') k))
+
   -- one core, whose result is put back in two ways
   pub core-matches : {R W M : Type 0} (image : W → M) (core : Course R) (a : R → W) (b : R → M) → core.log ≡ [] → ((r : R) → core.ending ≡ done r → b r ≡ image (a r))
       → Matches image (course_map a core) (course_map b core)
@@ -122,13 +135,13 @@ module _ (room : Push → Type 0) where
       subst (λ x. Steps image holds (at_once w) (at_once (image w t)) x) (some_same t t' k)
       (record { same = record { text = refl; ending = refl; log = tt }; holds = λ v e. subst (λ x. holds x t) (done_same w v e) h })
 
-  -- a machine that does the same
-  pub sim-same : {W T M V U N : Type 0} (holds : W → T → Type 0) (image : W → T → M) (holds' : V → U → Type 0) (image' : V → U → N) (model : W → Course V) (machine other : M → Course N) (tokens : T → Option U)
-      → ((m : M) → machine m ≡ other m)
-      → Sim holds image holds' image' model machine tokens → Sim holds image holds' image' model other tokens
-  sim-same holds image holds' image' model machine other tokens same sim w t t' h k =
+  -- a machine that does the same with another image of the state
+  pub sim-alike : {W T M P V U N : Type 0} (holds : W → T → Type 0) (image : W → T → M) (other : W → T → P) (holds' : V → U → Type 0) (image' : V → U → N) (model : W → Course V) (machine : M → Course N) (machine' : P → Course N) (tokens : T → Option U)
+      → ((w : W) (t : T) → holds w t → machine (image w t) ≡ machine' (other w t))
+      → Sim holds image holds' image' model machine tokens → Sim holds other holds' image' model machine' tokens
+  sim-alike holds image other holds' image' model machine machine' tokens same sim w t t' h k =
       let steps = sim w t t' h k in
-      record { same = matches-same (λ v. image' v t') (model w) (machine (image w t)) (other (image w t)) (same (image w t)) steps.same; holds = steps.holds }
+      record { same = matches-same (λ v. image' v t') (model w) (machine (image w t)) (machine' (other w t)) (same w t h) steps.same; holds = steps.holds }
 
   -- what holds before may be stronger, and what holds after weaker
   pub sim-weaker : {W T M V U N : Type 0} (strong holds : W → T → Type 0) (image : W → T → M) (holds' weak : V → U → Type 0) (image' : V → U → N) (model : W → Course V) (machine : M → Course N) (tokens : T → Option U)

@@ -15,7 +15,7 @@ use Rattle.pe_walk.specs.Machine as machine
 use Rattle.pe_walk.specs.Tokens.{Tokens, each_some}
 use Rattle.pe_walk.specs.Tokens as tokens
 use Rattle.pe_walk.specs.Standing.{Outset, Stage, Holds, IsStage}
-use Rattle.pe_walk.proofs.Simulation.Matching.{Sim, Steps, sim-nothing, sim-then, sim-same, turned-then}
+use Rattle.pe_walk.proofs.Simulation.Matching.{Sim, Steps, sim-nothing, sim-then, sim-alike, turned-then}
 use Rattle.pe_walk.proofs.Simulation.Leaves.{image_of, in_hand, ports, after_load, load_before, LoadLeaf, after_store, store_first, StoreLeaf}
 
 -- the numbers below one, descending
@@ -64,7 +64,7 @@ after_stores-is (suc n) st =
 
 module _ {Plan : Type 0} (set : Setting Plan) (e : Outset) (room : Push → Type 0) where
   -- a stage is one of its cell and parent alone
-  stage_of : (st after : Stage) → after.cell ≡ st.cell → after.parent ≡ st.parent → IsStage set.axes e.outlook st → IsStage set.axes e.outlook after
+  pub stage_of : (st after : Stage) → after.cell ≡ st.cell → after.parent ≡ st.parent → IsStage set.axes e.outlook st → IsStage set.axes e.outlook after
   stage_of st after same above is = record {
     cell = subst (IsCell set.axes e.outlook.way) (sym same) is.cell;
     above = ap parent_of same ∙ is.above ∙ sym above;
@@ -81,12 +81,12 @@ module _ {Plan : Type 0} (set : Setting Plan) (e : Outset) (room : Push → Type
   loads_sim leaf zero st is few from owed = sim-nothing room (Holds set e st) (in_hand set e st)
   loads_sim leaf (suc k) st is few from owed =
       let next : Stage = after_load k st in
-      sim-same room (Holds set e st) (in_hand set e st) (Holds set e (after_loads k next)) (in_hand set e (after_loads k next))
+      sim-alike room (Holds set e st) (in_hand set e st) (in_hand set e st) (Holds set e (after_loads k next)) (in_hand set e (after_loads k next))
       (each (model.load_corner set st.parent st.cell) (down_from (suc k)))
       (λ x. and_then (load_before set e room st.cell k x) (λ y. machine.load_all set (ports set e room) st.cell k y.0 y.1))
       (λ x. machine.load_all set (ports set e room) st.cell (suc k) x.0 x.1)
       (each_some (tokens.load e.outlook st.cell) (down_from (suc k)))
-      (λ x. turned-then (machine.load_corner set (ports set e room) st.cell k x.1) (λ it. (it.0 ∷ x.0, it.1)) (λ y. machine.load_all set (ports set e room) st.cell k y.0 y.1))
+      (λ w t h. let x = in_hand set e st w t in turned-then (machine.load_corner set (ports set e room) st.cell k x.1) (λ it. (it.0 ∷ x.0, it.1)) (λ y. machine.load_all set (ports set e room) st.cell k y.0 y.1))
       (sim-then room (Holds set e st) (in_hand set e st) (Holds set e next) (in_hand set e next) (Holds set e (after_loads k next)) (in_hand set e (after_loads k next))
       (model.load_corner set st.parent st.cell k) (load_before set e room st.cell k) (tokens.load e.outlook st.cell k)
       (each (model.load_corner set st.parent st.cell) (down_from k)) (λ x. machine.load_all set (ports set e room) st.cell k x.0 x.1) (each_some (tokens.load e.outlook st.cell) (down_from k))
@@ -111,12 +111,12 @@ module _ {Plan : Type 0} (set : Setting Plan) (e : Outset) (room : Push → Type
       (sym none) (sim-nothing room (Holds set e st) (image_of set e st.parent) w t t' h k)
   stores_sim leaf (suc n) st is all owed unstored =
       let next : Stage = after_store st.from st in
-      sim-same room (Holds set e st) (in_hand set e st) (Holds set e (after_stores n next)) (image_of set e st.parent)
+      sim-alike room (Holds set e st) (in_hand set e st) (in_hand set e st) (Holds set e (after_stores n next)) (image_of set e st.parent)
       (each (model.store_corner set st.parent st.cell) (range_with_len st.from (suc n)))
       (λ x. and_then (store_first set e room st.cell st.from x) (λ y. machine.store_all set (ports set e room) st.cell (st.from + 1) y.0 y.1))
       (λ x. machine.store_all set (ports set e room) st.cell st.from x.0 x.1)
       (each_some (tokens.store e.outlook st.cell) (range_with_len st.from (suc n)))
-      (λ x. store_all-first st.cell st.from x.0 x.1)
+      (λ w t h. let x = in_hand set e st w t in store_all-first st.cell st.from x.0 x.1)
       (sim-then room (Holds set e st) (in_hand set e st) (Holds set e next) (in_hand set e next) (Holds set e (after_stores n next)) (image_of set e st.parent)
       (model.store_corner set st.parent st.cell st.from) (store_first set e room st.cell st.from) (tokens.store e.outlook st.cell st.from)
       (each (model.store_corner set st.parent st.cell) (range_with_len (st.from + 1) n)) (λ x. machine.store_all set (ports set e room) st.cell (st.from + 1) x.0 x.1)

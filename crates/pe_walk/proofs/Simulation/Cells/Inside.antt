@@ -48,6 +48,19 @@ pub record IsOpen (st : Stage) : Type 0 where
   pub all : st.from ≡ 0
   pub entered : 1 ≤ times st.entered st.cell
 
+module _ (axes : ℕ) where
+  -- the corners of a cell above a level, where nothing changed
+  pub record_at-kept : (w w' : Working) (level : ℕ) → KeepsAbove level w w' → (x : Place) (k : ℕ) → x.level < level → record_at axes w' x k ≡ record_at axes w x k
+  record_at-kept w w' level keeps x k up =
+      ap₂ (λ (a b : Option VertexRecord). unwrap_or a (unwrap_or b no_vertex)) (keeps.hanging x k up) (keeps.vertices (corner axes x k) up)
+
+  pub records_of-kept : (w w' : Working) (level : ℕ) → KeepsAbove level w w' → (x : Place) → x.level < level → records_of axes w' x ≡ records_of axes w x
+  records_of-kept w w' level keeps x up =
+      map_same (record_at axes w' x) (record_at axes w x) (range_with_len 0 (2 ^ axes)) (Each-all (λ k. record_at axes w' x k ≡ record_at axes w x k) (λ k. record_at-kept w w' level keeps x k up) (range_with_len 0 (2 ^ axes)))
+
+  pub cell_at-kept : (w w' : Working) (level : ℕ) → KeepsAbove level w w' → (x : Place) → x.level < level → cell_at w' x ≡ cell_at w x
+  cell_at-kept w w' level keeps x up = ap (λ found. unwrap_or found []) (keeps.cells x up)
+
 -- What is owed depends on what the counted cells may add, on what is stored, and on the cells entered and ahead; less may
 -- be owed at any time.
 abbrev pub OwesAlike : Stage → Stage → Type 0
@@ -134,18 +147,6 @@ module _ (axes : ℕ) (o : Outlook) where
     ahead = inner.ahead;
   }
 
-  -- the corners of a cell above a level, where nothing changed
-  pub record_at-kept : (w w' : Working) (level : ℕ) → KeepsAbove level w w' → (x : Place) (k : ℕ) → x.level < level → record_at axes w' x k ≡ record_at axes w x k
-  record_at-kept w w' level keeps x k up =
-      ap₂ (λ (a b : Option VertexRecord). unwrap_or a (unwrap_or b no_vertex)) (keeps.hanging x k up) (keeps.vertices (corner axes x k) up)
-
-  pub records_of-kept : (w w' : Working) (level : ℕ) → KeepsAbove level w w' → (x : Place) → x.level < level → records_of axes w' x ≡ records_of axes w x
-  records_of-kept w w' level keeps x up =
-      map_same (record_at axes w' x) (record_at axes w x) (range_with_len 0 (2 ^ axes)) (Each-all (λ k. record_at axes w' x k ≡ record_at axes w x k) (λ k. record_at-kept w w' level keeps x k up) (range_with_len 0 (2 ^ axes)))
-
-  pub cell_at-kept : (w w' : Working) (level : ℕ) → KeepsAbove level w w' → (x : Place) → x.level < level → cell_at w' x ≡ cell_at w x
-  cell_at-kept w w' level keeps x up = ap (λ found. unwrap_or found []) (keeps.cells x up)
-
   module _ (greatest : ℕ) (f : Foresight) where
     -- which corners of the stage's cell have hanging vertices
     pub own_flag : (st : Stage) (w : Working) (t : Tokens) → IsOpen st → Fair axes greatest o f st w t → (k : ℕ) → k < 2 ^ axes → is_hung w st.cell k ≡ not (o.counts (corner axes st.cell k))
@@ -195,7 +196,7 @@ module _ (axes : ℕ) (o : Outlook) where
       gone = inner.gone;
       cells_there = inner.cells_there;
       parent_flags = λ k small. keeps.hung st.parent k (omega (arith, is.deeper)) ∙ fair.parent_flags k small;
-      parents = λ k small off. subst IsIdle (sym (record_at-kept w w' st.cell.level keeps st.parent k is.deeper)) (fair.parents k small off);
+      parents = λ k small off. subst IsIdle (sym (record_at-kept axes w w' st.cell.level keeps st.parent k is.deeper)) (fair.parents k small off);
       flags = λ x k deep. elim (cases_lt st.cell.level x.level) [
         | inl below ↦ inner.flags x k below
             ∙ none_between (2 ^ axes) k (is_same child x) (not (o.counts (corner axes child k)))
