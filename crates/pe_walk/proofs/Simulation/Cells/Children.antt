@@ -28,7 +28,7 @@ use Rattle.pe_walk.proofs.Unwalked.{in_contains, cell_four}
 use Rattle.pe_walk.proofs.Trees.{child_is_cell}
 use Rattle.pe_walk.proofs.Outlooks.{kids_parent}
 use Rattle.pe_walk.proofs.Tokens.Walks.{each_with}
-use Rattle.pe_walk.proofs.Simulation.Matching.{Matches, Steps, Sim, Along, sim-along, sim-weaker, mapped-matches}
+use Rattle.pe_walk.proofs.Simulation.Matching.{Matches, Steps, Sim, Along, some_same, done_same, sim-along, sim-weaker, mapped-matches}
 use Rattle.pe_walk.proofs.Simulation.Below.{below_by_marks, mine_marked}
 use Rattle.pe_walk.proofs.Simulation.Leaves.{image_of, own_in_hand, ports, WalkSim}
 use Rattle.pe_walk.proofs.Simulation.Cells.Corners.{stage_of}
@@ -117,3 +117,91 @@ module _ {Plan : Type 0} (set : Setting Plan) (e : Outset) (walked : Place → B
             let parents = sym (records_of-kept set.axes w v st.cell.level above st.parent full.deeper) in
             let parent = sym (cell_at-kept set.axes w v st.cell.level above st.parent full.deeper) in
             λ i. (own_of set.axes v st.cell, record (image_of set e st.parent v t') { family = record { parents = parents i; parent = parent i; list = v.list } })
+
+  -- # What is done below a cell
+  -- the kind of the children, as the model finds it
+  model_found : (st : Stage) (w : Working) (t : Tokens) → IsStage set.axes e.outlook st → IsOpen st → Holds set e st w t → model.kind_of_children set w st.cell ≡ e.foresight.below st.cell
+  model_found st w t stage full h =
+      ap (λ b. if b then (if set.traversal == 1 then Born else Kept) else kind_below (records_of set.axes w st.cell)) (ne_eqb st.cell.level 0 (λ q. absurd (omega (arith, stage.deep, q))))
+      ∙ below_found st w t stage full h
+
+  -- nothing is done where no children are walked
+  nothing_below : (st : Stage) (rest : List Place) (w : Working) (t t' : Tokens) → st.ahead ≡ rest → Holds set e st w t → Some t ≡ Some t'
+      → Steps room (own_in_hand set e (with_ahead rest st)) (Holds set e (with_ahead rest st)) (at_once w) (at_once (own_in_hand set e st w t)) t'
+  nothing_below st rest w t t' ahead h k =
+      subst (λ x. Steps room (own_in_hand set e (with_ahead rest st)) (Holds set e (with_ahead rest st)) (at_once w) (at_once (own_in_hand set e st w t)) x) (some_same t t' k)
+      (record { same = record { text = refl; ending = refl; log = tt }; holds = λ v q. subst (λ x. Holds set e (with_ahead rest st) x t) (done_same w v q) (subst (λ a. Holds set e (with_ahead a st) w t) ahead h) })
+
+  -- as the kinds are found, so it goes on
+  as_found : (st : Stage) (rest : List Place) (w : Working) (t t' : Tokens) → IsStage set.axes e.outlook st → IsOpen st → Holds set e st w t
+      → (walk : Working → Course Working) (walk_machine : Own × Machine → Course (Own × Machine))
+      → Steps room (own_in_hand set e (with_ahead rest st)) (Holds set e (with_ahead rest st)) (walks.if_walked set (e.foresight.below st.cell) walk w) (machine.if_walked set (ports set e room) (e.foresight.below st.cell) walk_machine (own_in_hand set e st w t)) t'
+      → Steps room (own_in_hand set e (with_ahead rest st)) (Holds set e (with_ahead rest st)) (walks.if_walked set (model.kind_of_children set w st.cell) walk w)
+      (machine.if_walked set (ports set e room) (kind_below (records_of set.axes w st.cell)) walk_machine (own_in_hand set e st w t)) t'
+  as_found st rest w t t' stage full h walk walk_machine steps =
+      subst (λ kind. Steps room (own_in_hand set e (with_ahead rest st)) (Holds set e (with_ahead rest st)) (walks.if_walked set kind walk w)
+      (machine.if_walked set (ports set e room) (kind_below (records_of set.axes w st.cell)) walk_machine (own_in_hand set e st w t)) t') (sym (model_found st w t stage full h))
+      (subst (λ kind. Steps room (own_in_hand set e (with_ahead rest st)) (Holds set e (with_ahead rest st)) (walks.if_walked set (e.foresight.below st.cell) walk w)
+      (machine.if_walked set (ports set e room) kind walk_machine (own_in_hand set e st w t)) t') (sym (below_found st w t stage full h)) steps)
+
+  -- the walks of the children, within the machine
+  abbrev pub within : ℕ → Place → Own × Machine → Course (Own × Machine)
+  within levels cell it =
+      course_map (machine.outside set (ports set e room) it.1) (each (machine.walk_cell set (ports set e room) levels) (children set.axes (way set) cell) (machine.inside set (ports set e room) it.0 it.1))
+
+  abbrev pub BelowSim : Stage → List Place → (Working → Course Working) → ℕ → (Tokens → Option Tokens) → Type 0
+  BelowSim st rest below levels below_tokens = Sim room (Holds set e st) (own_in_hand set e st) (Holds set e (with_ahead rest st)) (own_in_hand set e (with_ahead rest st))
+      below (λ it. machine.if_walked set (ports set e room) (kind_below it.0.corners) (within levels st.cell) it) below_tokens
+
+  -- on the last level there are no children
+  pub below_none : (st : Stage) (rest : List Place) → IsStage set.axes e.outlook st → IsOpen st → st.ahead ≡ rest
+      → BelowSim st rest at_once 0 (λ t. given (not (e.outlook.walks st.cell)) (Some t))
+  below_none st rest stage full ahead w t t' h k =
+      subst (λ kind. Steps room (own_in_hand set e (with_ahead rest st)) (Holds set e (with_ahead rest st)) (at_once w) (machine.if_walked set (ports set e room) kind (within 0 st.cell) (own_in_hand set e st w t)) t')
+      (sym (below_found st w t stage full h)) (go (e.foresight.below st.cell) (e.outlook.walks st.cell) (is.foresees.walks st.cell) k)
+    where
+      go : (kind : Kind) (b : Bool) → b ≡ not (is_hanging kind) → given (not b) (Some t) ≡ Some t'
+          → Steps room (own_in_hand set e (with_ahead rest st)) (Holds set e (with_ahead rest st)) (at_once w) (machine.if_walked set (ports set e room) kind (within 0 st.cell) (own_in_hand set e st w t)) t'
+      go Hanging false n k = nothing_below st rest w t t' ahead h k
+      go Hanging true n k = absurd cc
+      go Kept true n k = absurd cc
+      go Kept false n k = absurd cc
+      go Born true n k = absurd cc
+      go Born false n k = absurd cc
+      go Dying true n k = absurd cc
+      go Dying false n k = absurd cc
+
+  -- and above it the children are walked, if the cell has any
+  pub below_some : (levels : ℕ) → WalkSim set e room levels → (st : Stage) (rest : List Place) → IsStage set.axes e.outlook st → IsOpen st
+      → st.ahead ≡ flat_map (walked_cells e.outlook.axes e.outlook.way e.outlook.walks levels) (walked_children e.outlook.axes e.outlook.way e.outlook.walks st.cell) ++ rest
+      → BelowSim st rest (λ w. walks.if_walked set (model.kind_of_children set w st.cell) (each (walks.walk_cell set levels st.cell) (children set.axes (way set) st.cell)) w) (suc levels)
+      (λ t. if e.outlook.walks st.cell then each_some (tokens.walk e.outlook levels) (children e.outlook.axes e.outlook.way st.cell) t else (Some t))
+  below_some levels sim st rest stage full ahead w t t' h k =
+      as_found st rest w t t' stage full h walk (within (suc levels) st.cell) (go (e.foresight.below st.cell) (e.outlook.walks st.cell) refl (is.foresees.walks st.cell) ahead k)
+    where
+      walk : Working → Course Working
+      walk = each (walks.walk_cell set levels st.cell) (children set.axes (way set) st.cell)
+
+      after_children : e.outlook.walks st.cell ≡ true → st.ahead ≡ flat_map (walked_cells e.outlook.axes e.outlook.way e.outlook.walks levels) (children e.outlook.axes e.outlook.way st.cell) ++ rest
+          → each_some (tokens.walk e.outlook levels) (children e.outlook.axes e.outlook.way st.cell) t ≡ Some t'
+          → Steps room (own_in_hand set e (with_ahead rest st)) (Holds set e (with_ahead rest st)) (walk w) (within (suc levels) st.cell (own_in_hand set e st w t)) t'
+      after_children goes ahead k =
+          let same : children e.outlook.axes e.outlook.way st.cell ≡ kids st.cell = ap (λ axes. children axes e.outlook.way st.cell) is.foresees.axes in
+          subst (λ cells. Steps room (own_in_hand set e (with_ahead rest st)) (Holds set e (with_ahead rest st)) (each (walks.walk_cell set levels st.cell) cells w)
+          (course_map (machine.outside set (ports set e room) (image_of set e st.parent w t)) (each (machine.walk_cell set (ports set e room) (suc levels)) cells (image_of set e st.cell w t))) t')
+          (ap (λ way. children set.axes way st.cell) is.foresees.ways)
+          (walked_steps levels sim st rest (kids st.cell) (kids_stages st stage goes) full
+          (ahead ∙ ap (λ cells. cells_of levels sim cells ++ rest) same) w t t' h (subst (λ cells. each_some (tokens.walk e.outlook levels) cells t ≡ Some t') same k))
+
+      go : (kind : Kind) (b : Bool) → e.outlook.walks st.cell ≡ b → b ≡ not (is_hanging kind)
+          → st.ahead ≡ flat_map (walked_cells e.outlook.axes e.outlook.way e.outlook.walks levels) (if_walks e.outlook.axes e.outlook.way e.outlook.walks b (children e.outlook.axes e.outlook.way st.cell)) ++ rest
+          → (if b then each_some (tokens.walk e.outlook levels) (children e.outlook.axes e.outlook.way st.cell) t else (Some t)) ≡ Some t'
+          → Steps room (own_in_hand set e (with_ahead rest st)) (Holds set e (with_ahead rest st)) (walks.if_walked set kind walk w) (machine.if_walked set (ports set e room) kind (within (suc levels) st.cell) (own_in_hand set e st w t)) t'
+      go Kept true c n ahead k = after_children c ahead k
+      go Born true c n ahead k = after_children c ahead k
+      go Dying true c n ahead k = after_children c ahead k
+      go Hanging false c n ahead k = nothing_below st rest w t t' ahead h k
+      go Hanging true c n ahead k = absurd cc
+      go Kept false c n ahead k = absurd cc
+      go Born false c n ahead k = absurd cc
+      go Dying false c n ahead k = absurd cc
