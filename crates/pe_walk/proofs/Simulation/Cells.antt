@@ -8,3 +8,5 @@ pub mod Frames
 pub mod Inside
 -- the walks of children
 pub mod Children
+-- the walk of a cell
+pub mod Walks

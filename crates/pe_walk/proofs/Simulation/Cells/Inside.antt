@@ -228,3 +228,41 @@ module _ {Plan : Type 0} (set : Setting Plan) (e : Outset) where
     fair = back-fair set.axes e.outlook (set.rules.greatest set.plan) e.foresight st child w w' t t' is above h.fair rest inner.fair;
     owes = same-owes set.axes set.max_cells e (at_child set.axes (with_ahead rest st) child) (with_ahead rest st) w'.tally t' (omega arith, refl, refl, refl, refl) inner.owes;
   }
+
+  -- less may be owed
+  pub less-holds : (st : Stage) (n : ℕ) (w : Working) (t : Tokens) → n ≤ st.owed → Holds set e st w t → Holds set e (record st { owed = n }) w t
+  less-holds st n w t less h =
+      let s = h.stands in
+      let f = h.fair in
+      record {
+        stands = record {
+          apart = s.apart;
+          counting = s.counting;
+          unmet = s.unmet;
+          held_met = s.held_met;
+          stacks = s.stacks;
+          cell_stacks = s.cell_stacks;
+          parents = s.parents;
+          mine = s.mine;
+          out = s.out;
+          cells_out = s.cells_out;
+          parent_entered = s.parent_entered;
+          entered_off = s.entered_off;
+          entered_once = s.entered_once;
+          entered_distinct = s.entered_distinct;
+          ahead = s.ahead;
+        };
+        fair = record {
+          loads = f.loads;
+          unread = f.unread;
+          live = f.live;
+          written = f.written;
+          gone = f.gone;
+          cells_there = f.cells_there;
+          parent_flags = f.parent_flags;
+          parents = f.parents;
+          flags = f.flags;
+          mine = f.mine;
+        };
+        owes = same-owes set.axes set.max_cells e st (record st { owed = n }) w.tally t (less, refl, refl, refl, refl) h.owes;
+      }
