@@ -1,5 +1,5 @@
 -- The walks of the children of a cell, in model and machine alike.
-use Rattle.std.proofs.Common.{◌≡◌, ℕ, zero, suc, ◌+◌, ◌-◌, ◌^◌, ◌<◌, ◌≤◌, Bool, true, false, not, ◌==◌, List, [], ◌∷◌, ◌++◌, map, length, Option, Some, None, refl, sym, ap, ap₂, subst, ◌∙◌, append_assoc, arith}
+use Rattle.std.proofs.Common.{◌≡◌, ℕ, suc, ◌+◌, ◌-◌, ◌<◌, Bool, true, false, not, ◌==◌, List, [], ◌∷◌, ◌++◌, Option, Some, refl, sym, ap, subst, ◌∙◌, append_assoc, arith}
 use Rattle.std.specs.Prelude.{if◌then◌else◌}
 use Rattle.std.specs.List.{flat_map}
 use Rattle.std.proofs.lemmas.Bool.{ne_eqb}
@@ -18,7 +18,6 @@ use Rattle.pe_base.specs.Walk.Walk as walks
 use Rattle.pe_base.specs.Walk.Streams.{if_walks, walked_children, walked_cells}
 use Rattle.pe_base.proofs.Lists.{Each, Each-weaker}
 use Rattle.pe_base.proofs.Walk.Frames.{KeepsAbove, KeepsUp, up-each, walk_cell-keeps}
-use Rattle.pe_walk.specs.Laws.{IsCell}
 use Rattle.pe_walk.specs.Machine.{Machine}
 use Rattle.pe_walk.specs.Machine as machine
 use Rattle.pe_walk.specs.Tokens.{Tokens, given, each_some}
@@ -28,7 +27,7 @@ use Rattle.pe_walk.proofs.Unwalked.{in_contains, cell_four}
 use Rattle.pe_walk.proofs.Trees.{child_is_cell}
 use Rattle.pe_walk.proofs.Outlooks.{kids_parent}
 use Rattle.pe_walk.proofs.Tokens.Walks.{each_with}
-use Rattle.pe_walk.proofs.Simulation.Matching.{Matches, Steps, Sim, Along, some_same, done_same, sim-along, sim-weaker, mapped-matches}
+use Rattle.pe_walk.proofs.Simulation.Matching.{Steps, Sim, Along, some_same, done_same, sim-along, sim-weaker, mapped-matches}
 use Rattle.pe_walk.proofs.Simulation.Below.{below_by_marks, mine_marked}
 use Rattle.pe_walk.proofs.Simulation.Leaves.{image_of, own_in_hand, ports, WalkSim}
 use Rattle.pe_walk.proofs.Simulation.Cells.Corners.{stage_of}

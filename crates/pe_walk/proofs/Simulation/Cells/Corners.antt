@@ -1,13 +1,13 @@
 -- The corners of a cell one after another: all loads, and all stores.
-use Rattle.std.proofs.Common.{◌≡◌, ℕ, zero, suc, ◌+◌, ◌-◌, ◌^◌, ◌<◌, ◌≤◌, List, [], ◌∷◌, ◌++◌, map, reverse, refl, sym, ap, ap₂, subst, ◌∙◌, arith}
+use Rattle.std.proofs.Common.{◌≡◌, ℕ, zero, suc, ◌+◌, ◌-◌, ◌^◌, ◌≤◌, List, [], ◌∷◌, ◌++◌, map, reverse, refl, sym, ap, ap₂, subst, ◌∙◌, arith}
 use Rattle.std.specs.List.{range_with_len}
 use Rattle.std.proofs.lemmas.List.{reverse-append}
 use Rattle.pe_base.specs.declared.place.Place.{Place}
 use Rattle.pe_base.specs.Tree.Places.{parent_of}
 use Rattle.pe_base.specs.Acts.Effects.{VertexRecord}
-use Rattle.pe_base.specs.Walk.Course.{Push, Course, at_once, and_then, each}
+use Rattle.pe_base.specs.Walk.Course.{Push, at_once, and_then, each}
 use Rattle.pe_base.specs.Walk.Core.{Setting}
-use Rattle.pe_base.specs.Walk.Working.{Working, record_at}
+use Rattle.pe_base.specs.Walk.Working.{record_at}
 use Rattle.pe_base.specs.Walk.Touches as model
 use Rattle.pe_walk.specs.Laws.{IsCell}
 use Rattle.pe_walk.specs.Machine.{Machine}

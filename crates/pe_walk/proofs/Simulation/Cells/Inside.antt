@@ -1,6 +1,6 @@
 -- Going down to the children of a cell, from one to the next, and coming back.
-use Rattle.std.proofs.Common.{◌≡◌, ℕ, ◌+◌, ◌-◌, ◌*◌, ◌^◌, ◌<◌, ◌≤◌, Bool, true, false, not, ◌&&◌, ◌==◌, List, [], ◌∷◌, map, length, Option, Some, None, refl, sym, ap, ap₂, subst, ◌∙◌, inl, inr, arith}
-use Rattle.std.specs.Prelude.{nat_le, nat_lt, is_some}
+use Rattle.std.proofs.Common.{◌≡◌, ℕ, ◌+◌, ◌*◌, ◌^◌, ◌<◌, ◌≤◌, Bool, true, false, not, ◌&&◌, List, [], length, Option, refl, sym, ap, ap₂, subst, ◌∙◌, inl, inr, arith}
+use Rattle.std.specs.Prelude.{nat_le, nat_lt}
 use Rattle.std.specs.Option.{unwrap_or}
 use Rattle.std.specs.List.{range_with_len}
 use Rattle.std.proofs.lemmas.Bool.{lt-ltb, le-leb, le-ltb, leb-true, cases_lt}
@@ -8,7 +8,6 @@ use Rattle.pe_base.specs.declared.place.Place.{Place}
 use Rattle.pe_base.specs.declared.tally.Tally.{Tally}
 use Rattle.pe_base.specs.Tree.Places.{corner, is_same}
 use Rattle.pe_base.specs.Acts.Effects.{VertexRecord}
-use Rattle.pe_base.specs.Walk.Maps.{at, at_corner}
 use Rattle.pe_base.specs.Walk.Core.{Setting}
 use Rattle.pe_base.specs.Walk.Working.{Working, no_vertex, cell_at, record_at, records_of}
 use Rattle.pe_base.proofs.Lists.{Each-all, map_same}
@@ -17,7 +16,7 @@ use Rattle.pe_base.proofs.Walk.Frames.{levels_differ, KeepsAbove}
 use Rattle.pe_base.proofs.Walk.Slots.{is_hung}
 use Rattle.pe_stacks.specs.Holdings.{len_at}
 use Rattle.pe_walk.specs.Tokens.{Outlook, Tokens}
-use Rattle.pe_walk.specs.Standing.{Foresight, Outset, Stage, IsStage, times, Stands, Fair, IsIdle, Owes, Holds}
+use Rattle.pe_walk.specs.Standing.{Foresight, Outset, Stage, times, Stands, Fair, IsIdle, Owes, Holds}
 use Rattle.pe_walk.proofs.Simulation.Cells.Frames.{KeepsPlaces}
 
 -- four tests

@@ -1,5 +1,5 @@
 -- The walk of a cell with all below it, in model and machine alike, from its steps.
-use Rattle.std.proofs.Common.{◌≡◌, ℕ, zero, suc, ◌+◌, ◌-◌, ◌^◌, ◌<◌, ◌≤◌, Bool, true, false, cond, not, List, [], ◌∷◌, ◌++◌, map, reverse, Option, Some, refl, sym, ap, subst, ◌∙◌, arith}
+use Rattle.std.proofs.Common.{◌≡◌, ℕ, zero, suc, ◌+◌, ◌-◌, ◌^◌, ◌≤◌, Bool, cond, not, List, [], ◌∷◌, ◌++◌, map, reverse, Option, Some, refl, sym, ap, subst, ◌∙◌, arith}
 use Rattle.std.specs.Option.{option_and_then}
 use Rattle.std.specs.List.{range_with_len, flat_map}
 use Rattle.std.proofs.lemmas.List.Sums.{sum_by-cons}
@@ -19,10 +19,10 @@ use Rattle.pe_walk.specs.Machine.{Machine}
 use Rattle.pe_walk.specs.Machine as machine
 use Rattle.pe_walk.specs.Tokens.{Tokens, given, each_some}
 use Rattle.pe_walk.specs.Tokens as tokens
-use Rattle.pe_walk.specs.Standing.{Outset, Stage, IsStage, times, Holds, IsOutset}
+use Rattle.pe_walk.specs.Standing.{Outset, Stage, IsStage, Holds, IsOutset}
 use Rattle.pe_walk.proofs.Simulation.Matching.{Sim, sim-then, sim-alike, sim-weaker}
 use Rattle.pe_walk.proofs.Simulation.Leaves.{image_of, in_hand, own_in_hand, ports, after_count, after_enter, after_leave, CountLeaf, LoadLeaf, EnterLeaf, LeaveLeaf, StoreLeaf, WalkSim}
-use Rattle.pe_walk.proofs.Simulation.Cells.Corners.{down_from, reverse-range, after_loads, after_loads-is, after_stores, after_stores-is, stage_of, loads_sim, stores_sim}
+use Rattle.pe_walk.proofs.Simulation.Cells.Corners.{down_from, reverse-range, after_loads-is, after_stores-is, stage_of, loads_sim, stores_sim}
 use Rattle.pe_walk.proofs.Simulation.Cells.Inside.{with_ahead, IsOpen, less-holds}
 use Rattle.pe_walk.proofs.Simulation.Cells.Children.{within, BelowSim, below_none, below_some}
 
