@@ -1,23 +1,27 @@
 -- The visit of a cell on stacks: its record comes to hand and leaves it, and in between the core.
-use Rattle.std.proofs.Common.{◌≡◌, ℕ, ℤ, ◌+◌, ◌^◌, ◌<◌, length, arith, Bool, true, false, List, [], ◌∷◌, Some, Result, Ok, Err, refl, sym, ap, subst, ◌∙◌}
-use Rattle.std.specs.Prelude.{OnOk, OnErr, IfErr, slice_get}
+use Rattle.std.proofs.Common.{◌≡◌, ℕ, ℤ, ◌+◌, ◌^◌, ◌<◌, ◌≤◌, length, arith, Bool, true, false, ◌&&◌, List, [], ◌∷◌, Some, Result, Ok, Err, refl, sym, ap, subst, ◌∙◌}
+use Rattle.std.specs.Prelude.{nat_lt, OnOk, OnErr, IfErr, slice_get}
+use Rattle.std.proofs.lemmas.Bool.{lt-ltb, ltb-true}
+use Rattle.std.proofs.lemmas.Bool.Decides.{nat_tests}
 use Rattle.pe_base.specs.declared.place.Place.{Place}
 use Rattle.pe_base.specs.declared.kind.Kind.{Kind}
 use Rattle.pe_base.specs.declared.kind.Kind.TheVariants.{Kept, Born, Dying, Hanging}
-use Rattle.pe_base.specs.declared.event.Event.TheVariants.{EnterCell, LeaveCell}
+use Rattle.pe_base.specs.declared.event.Event.TheVariants.{EnterCell, LeaveCell, DestroyCell}
 use Rattle.pe_base.specs.declared.tally.Tally.{Tally}
-use Rattle.pe_base.specs.Acts.Effects.{VertexRecord}
-use Rattle.pe_base.specs.Walk.Course.{Course, Push, at_once, course_map, and_then, done}
+use Rattle.pe_base.specs.Acts.Effects.{VertexRecord, Fresh}
+use Rattle.pe_base.specs.Walk.Course.{Course, Push, limit_at, at_once, course_map, and_then, done}
 use Rattle.pe_base.specs.Walk.Core.{Setting, Family, Own, cell_event, enter_touch, leave_touch}
+use Rattle.pe_stacks.specs.declared.record.CellRec.{CellRec}
 use Rattle.pe_stacks.specs.Holdings.{Holdings, items_at, len_at, lent, given_up, popped, pushed}
 use Rattle.pe_mapping.specs.Held.{Told, Adds}
 use Rattle.pe_mapping.proofs.Texts.{adds-nothing, part-nothing}
 use Rattle.pe_hang.specs.InHand.{map_holdings}
-use Rattle.pe_hang.specs.Moves.{lend, give_up, pop, push, MayPop, MayPush}
-use Rattle.pe_hang.specs.Follows.{Follows, Fits, Failure, wanting, Found, IsRoomier, HasOverfull, held_by, read_by}
+use Rattle.pe_hang.specs.Moves.{allowed, may_rise, lend, give_up, pop, push}
+use Rattle.pe_hang.specs.Follows.{Follows, Fits, is_fit, Failure, halted, unwritten, wanting, unheard_of, Found, IsRoomier, HasOverfull, held_by, read_by}
 use Rattle.pe_hang.proofs.Leading.{and_then-fits, follows-map, follows-behind, leads_start, leads_next, leads_rest, leads_err, leads_last}
-use Rattle.pe_hang.proofs.Moving.{lend-may, lend-is, pop-may, pop-is, give_up-may, give_up-is, push-may, push-is}
-use Rattle.pe_walk.specs.Machine.{Machine, Ports, cell_output, kind_of_cell, cell_comes, cell_goes, enter_cell, leave_cell}
+use Rattle.pe_hang.proofs.Moving.{allowed-fits, allowed-is, lend-is, pop-is, give_up-is, push-is}
+use Rattle.pe_base.specs.Walk.Touches.{tally_cell}
+use Rattle.pe_walk.specs.Machine.{Machine, Ports, tally_may_rise, within_limit, count_cell, cell_output, kind_of_cell, cell_comes, cell_goes, enter_cell, leave_cell}
 
 module _ {Plan X : Type 0} (f : X → List ℤ) (set : Setting Plan) (ports : Ports) (cell : Place) (vertices : Holdings VertexRecord) (tally : Tally) where
   -- what is in hand and on stacks, with cells of some type on theirs
@@ -60,15 +64,13 @@ module _ {Plan X : Type 0} (f : X → List ℤ) (set : Setting Plan) (ports : Po
           with_held (Err e) same is = is
 
     -- a record that is made
-    pub made-may : kind ≡ Born → Fits (cell_comes set ports kind (on_cells held family)) → held.fresh < 2 ^ 63
-    made-may born fits =
-        lend-may f held (and_then-fits (lend (map_holdings f held)) _ (subst (λ k. Fits (cell_comes set ports k (on_cells held family))) born fits))
+    pub made-fits : kind ≡ Born → Fits (cell_comes set ports kind (on_cells held family)) → Fits (lend (map_holdings f held))
+    made-fits born fits = and_then-fits (lend (map_holdings f held)) _ (subst (λ k. Fits (cell_comes set ports k (on_cells held family))) born fits)
 
-    pub made-is : kind ≡ Born → Fits (cell_comes set ports kind (on_cells held family)) → cell_comes set ports kind (on_cells held family) ≡ at_once ([], on_cells (lent held) family)
+    pub made-is : kind ≡ Born → Fits (lend (map_holdings f held)) → cell_comes set ports kind (on_cells held family) ≡ at_once ([], on_cells (lent held) family)
     made-is born fits =
         ap (λ k. cell_comes set ports k (on_cells held family)) born
-        ∙ ap (λ course. course_map (λ cells. ([], record (on_cells held family) { cells = cells })) course)
-        (lend-is f held (and_then-fits (lend (map_holdings f held)) _ (subst (λ k. Fits (cell_comes set ports k (on_cells held family))) born fits)))
+        ∙ ap (λ course. course_map (λ cells. ([], record (on_cells held family) { cells = cells })) course) (lend-is f held fits)
 
     -- a record that was stored
     stored-comes : (k : Kind) → (k ≡ Born → ⊥)
@@ -78,17 +80,14 @@ module _ {Plan X : Type 0} (f : X → List ℤ) (set : Setting Plan) (ports : Po
     stored-comes Dying born = refl
     stored-comes Hanging born = refl
 
-    stored-fits : (kind ≡ Born → ⊥) → Fits (cell_comes set ports kind (on_cells held family)) → Fits (pop ports.cell_input (map_holdings f held))
+    pub stored-fits : (kind ≡ Born → ⊥) → Fits (cell_comes set ports kind (on_cells held family)) → Fits (pop ports.cell_input (map_holdings f held))
     stored-fits born fits = and_then-fits (pop ports.cell_input (map_holdings f held)) _ (subst Fits (stored-comes kind born) fits)
 
-    pub stored-may : (kind ≡ Born → ⊥) → Fits (cell_comes set ports kind (on_cells held family)) → MayPop held ports.cell_input
-    stored-may born fits = pop-may f held ports.cell_input (stored-fits born fits)
-
-    pub stored-is : (x : X) → (kind ≡ Born → ⊥) → Fits (cell_comes set ports kind (on_cells held family)) → slice_get (items_at held ports.cell_input) 0 ≡ Some x
+    pub stored-is : (x : X) → (kind ≡ Born → ⊥) → Fits (pop ports.cell_input (map_holdings f held)) → slice_get (items_at held ports.cell_input) 0 ≡ Some x
         → cell_comes set ports kind (on_cells held family) ≡ at_once (f x, on_cells (popped held ports.cell_input) family)
     stored-is x born fits top =
         stored-comes kind born
-        ∙ ap (λ course. course_map (λ it. (it.0, record (on_cells held family) { cells = it.1 })) course) (pop-is f held ports.cell_input x (stored-fits born fits) top)
+        ∙ ap (λ course. course_map (λ it. (it.0, record (on_cells held family) { cells = it.1 })) course) (pop-is f held ports.cell_input x fits top)
 
     enters-stored : (k : Kind) (x : List ℤ) (corners : List VertexRecord) → (k ≡ Born → ⊥)
         → enter_touch set k x cell corners family ≡ cell_event set EnterCell cell (record { cell = x; corners = corners }, family)
@@ -154,24 +153,19 @@ module _ {Plan X : Type 0} (f : X → List ℤ) (set : Setting Plan) (ports : Po
         gives_up : (a : A) → kind ≡ Dying → going (after a) ≡ course_map (λ m. ((after a).0.corners, m)) (course_map (λ cells. record (on_cells held (after a).1) { cells = cells }) (give_up (map_holdings f held)))
         gives_up a dies = ap (λ k. course_map (λ m. ((after a).0.corners, m)) (cell_goes set ports k (after a).0.cell (on_cells held (after a).1))) dies
 
-        pub ended-may : (a : A) → kind ≡ Dying → Follows (leave_touch set kind cell own family) after (Ok a) found new → Fits leaves → 0 < held.out
-        ended-may a dies is fits =
-            give_up-may f held
-            (and_then-fits (give_up (map_holdings f held)) _
+        pub ended-fits : (a : A) → kind ≡ Dying → Follows (leave_touch set kind cell own family) after (Ok a) found new → Fits leaves → Fits (give_up (map_holdings f held))
+        ended-fits a dies is fits =
+            and_then-fits (give_up (map_holdings f held)) _
             (and_then-fits (course_map (λ cells. record (on_cells held (after a).1) { cells = cells }) (give_up (map_holdings f held))) _
-            (subst Fits (gives_up a dies) (lead-going a is fits))))
+            (subst Fits (gives_up a dies) (lead-going a is fits)))
 
-        pub ended : (a : A) (held' : Holdings X) → kind ≡ Dying → held' ≡ given_up held
-            → Follows (leave_touch set kind cell own family) after (Ok a) found new → Fits leaves
+        pub ended : (a : A) (held' : Holdings X) → kind ≡ Dying → held' ≡ given_up held → Fits (give_up (map_holdings f held))
+            → Follows (leave_touch set kind cell own family) after (Ok a) found new
             → Follows leaves (λ (u : Unit {0}). ((after a).0.corners, on_cells held' (after a).1)) (Ok tt) found new
-        ended a held' dies same is fits =
-            let going-fits = subst Fits (gives_up a dies) (lead-going a is fits) in
-            let gives = give_up-is f held
-            (and_then-fits (give_up (map_holdings f held)) _
-            (and_then-fits (course_map (λ cells. record (on_cells held (after a).1) { cells = cells }) (give_up (map_holdings f held))) _ going-fits)) in
+        ended a held' dies same fits is =
             left-then a (λ (u : Unit {0}). ((after a).0.corners, on_cells held' (after a).1)) (Ok tt) new is
             (let course = gives_up a dies
-            ∙ ap (λ c. course_map (λ m. ((after a).0.corners, m)) (course_map (λ cells. record (on_cells held (after a).1) { cells = cells }) c)) gives in
+            ∙ ap (λ c. course_map (λ m. ((after a).0.corners, m)) (course_map (λ cells. record (on_cells held (after a).1) { cells = cells }) c)) (give_up-is f held fits) in
             record {
               ends = ap (λ c. c.ending) course ∙ ap (λ h. done ((after a).0.corners, on_cells h (after a).1)) (sym same);
               told = subst (λ text. Adds new text new) (sym (ap (λ c. c.text) course)) (adds-nothing new);
@@ -186,24 +180,20 @@ module _ {Plan X : Type 0} (f : X → List ℤ) (set : Setting Plan) (ports : Po
         puts Dying stays a = absurd (stays refl)
         puts Hanging stays a = refl
 
-        put-fits : (a : A) → (kind ≡ Dying → ⊥) → Follows (leave_touch set kind cell own family) after (Ok a) found new → Fits leaves
+        pub put-fits : (a : A) → (kind ≡ Dying → ⊥) → Follows (leave_touch set kind cell own family) after (Ok a) found new → Fits leaves
             → Fits (push true (cell_output ports) (after a).0.cell (map_holdings f held))
         put-fits a stays is fits =
             and_then-fits (push true (cell_output ports) (after a).0.cell (map_holdings f held)) _
             (and_then-fits (course_map (λ cells. record (on_cells held (after a).1) { cells = cells }) (push true (cell_output ports) (after a).0.cell (map_holdings f held))) _
             (subst Fits (puts kind stays a) (lead-going a is fits)))
 
-        pub put-may : (a : A) (x : X) → (kind ≡ Dying → ⊥) → (after a).0.cell ≡ f x → Follows (leave_touch set kind cell own family) after (Ok a) found new → Fits leaves → MayPush held (cell_output ports)
-        put-may a x stays same is fits =
-            push-may f true (cell_output ports) x held (subst (λ y. Fits (push true (cell_output ports) y (map_holdings f held))) same (put-fits a stays is fits))
-
         pub put : {E : Type 0} (a : A) (x : X) (held' : Holdings X) (room vertices' : ℕ → ℕ) (means : E → Failure) (result : Result (Unit {0}) E)
             → found ≡ (record { told = found.told; sure = found.sure; vertices = vertices'; cells = held_by held room })
-            → (kind ≡ Dying → ⊥) → (after a).0.cell ≡ f x
+            → (kind ≡ Dying → ⊥) → (after a).0.cell ≡ f x → Fits (push true (cell_output ports) (f x) (map_holdings f held))
             → OnOk result (held' ≡ pushed held (cell_output ports) x) → IfErr result (λ e. means e ≡ wanting) → OnErr result (room (cell_output ports) ≡ 0)
-            → Follows (leave_touch set kind cell own family) after (Ok a) found new → Fits leaves
+            → Follows (leave_touch set kind cell own family) after (Ok a) found new
             → Follows leaves (λ (u : Unit {0}). ((after a).0.corners, on_cells held' (after a).1)) (read_by means result) found new
-        put {E = E} a x held' room vertices' means result known stays same moved memory full is fits =
+        put {E = E} a x held' room vertices' means result known stays same fits moved memory full is =
             left-then a (λ (u : Unit {0}). ((after a).0.corners, on_cells held' (after a).1)) (read_by means result) new is
             (subst (λ course. Follows course (λ (u : Unit {0}). ((after a).0.corners, on_cells held' (after a).1)) (read_by means result) now new)
             (sym (puts kind stays a ∙ ap (λ y. course_map (λ m. ((after a).0.corners, m)) (course_map (λ cells. record (on_cells held (after a).1) { cells = cells }) (push true (cell_output ports) y (map_holdings f held)))) same))
@@ -216,14 +206,14 @@ module _ {Plan X : Type 0} (f : X → List ℤ) (set : Setting Plan) (ports : Po
             put-follows : (r : Result (Unit {0}) E) → OnOk r (held' ≡ pushed held (cell_output ports) x) → IfErr r (λ e. means e ≡ wanting) → OnErr r (room (cell_output ports) ≡ 0)
                 → Follows (push true (cell_output ports) (f x) (map_holdings f held)) (λ (u : Unit {0}). map_holdings f held') (read_by means r) now new
             put-follows (Ok u) moved memory full =
-                let push_is = push-is f true (cell_output ports) x held (subst (λ y. Fits (push true (cell_output ports) y (map_holdings f held))) same (put-fits a stays is fits)) in
+                let push_is = push-is f true (cell_output ports) x held fits in
                 record {
                   ends = ap (λ course. course.ending) push_is ∙ ap (λ h. done (map_holdings f h)) (sym moved);
                   told = subst (λ text. Adds new text new) (sym (ap (λ course. course.text) push_is)) (adds-nothing new);
                 }
             put-follows (Err e) moved memory full =
                 let s = cell_output ports in
-                let push_is = push-is f true s x held (subst (λ y. Fits (push true s y (map_holdings f held))) same (put-fits a stays is fits)) in
+                let push_is = push-is f true s x held fits in
                 let pushing : Push = record { of_cell = true; stack = s; length = len_at held s + 1 } in
                 subst (λ failure. Follows (push true s (f x) (map_holdings f held)) (λ (u : Unit {0}). map_holdings f held') (Err failure) now new) (sym memory)
                 (record {
@@ -231,3 +221,93 @@ module _ {Plan X : Type 0} (f : X → List ℤ) (set : Setting Plan) (ports : Po
                   room = λ certain. subst (λ log. HasOverfull now log) (sym (ap (λ course. course.log) push_is))
                       (pushing, (0, omega arith, refl), (let cells : held_by held room s < len_at held s + 1 = omega (arith, full) in subst (λ fnd. fnd.cells s < len_at held s + 1) (sym known) cells));
                 })
+
+-- the events of a cell that is left
+module _ {Plan : Type 0} (set : Setting Plan) (cell : Place) (own : Own) (family : Family) where
+  leaving : (k : Kind) → (k ≡ Dying → ⊥) → leave_touch set k cell own family ≡ cell_event set LeaveCell cell (own, family)
+  leaving Kept stays = refl
+  leaving Born stays = refl
+  leaving Dying stays = absurd (stays refl)
+  leaving Hanging stays = refl
+
+  pub leave-stays : {A : Type 0} (kind : Kind) (after : A → Own × Family) (answer : Result A Failure) (found : Found) (new : Told) → (kind ≡ Dying → ⊥)
+      → Follows (cell_event set LeaveCell cell (own, family)) after answer found new → Follows (leave_touch set kind cell own family) after answer found new
+  leave-stays kind after answer found new stays is = subst (λ course. Follows course after answer found new) (sym (leaving kind stays)) is
+
+  pub leave-dies : {A : Type 0} (kind : Kind) (after : A → Own × Family) (answer : Result A Failure) (found : Found) (new : Told) → kind ≡ Dying
+      → Follows (and_then (cell_event set LeaveCell cell (own, family)) (cell_event set DestroyCell cell)) after answer found new → Follows (leave_touch set kind cell own family) after answer found new
+  leave-dies kind after answer found new dies is = subst (λ k. Follows (leave_touch set k cell own family) after answer found new) (sym dies) is
+
+  pub leave-fails : {A B : Type 0} (kind : Kind) (after : A → Own × Family) (after' : B → Own × Family) (failure : Failure) (found : Found) (new : Told)
+      → Follows (cell_event set LeaveCell cell (own, family)) after (Err failure) found new → Follows (leave_touch set kind cell own family) after' (Err failure) found new
+  leave-fails kind after after' failure found new is = at kind
+    where
+      same : (e : Failure) → Follows (cell_event set LeaveCell cell (own, family)) after (Err e) found new → Follows (cell_event set LeaveCell cell (own, family)) after' (Err e) found new
+      same (halted cause) it = it
+      same unwritten it = it
+      same wanting it = it
+      same unheard_of it = it
+
+      at : (k : Kind) → Follows (leave_touch set k cell own family) after' (Err failure) found new
+      at Kept = same failure is
+      at Born = same failure is
+      at Hanging = same failure is
+      at Dying =
+          leads_err (cell_event set LeaveCell cell (own, family)) (cell_event set DestroyCell cell) after after' failure new
+          (leads_start (and_then (cell_event set LeaveCell cell (own, family)) (cell_event set DestroyCell cell)) found) is
+
+-- a record that is out may be given up
+pub give_up-fits : {X Y : Type 0} (f : X → Y) (held : Holdings X) → 0 < held.out → Fits (give_up (map_holdings f held))
+give_up-fits f held some = ap (λ t. is_fit (allowed t (at_once (given_up (map_holdings f held)))).ending) (lt-ltb 0 held.out some)
+
+-- a record that is made fresh
+pub fresh-is : {C : Type 0} (f : C → List ℤ) (corners parents : List VertexRecord) (parent list : List ℤ) (fresh : Fresh) (payload : C) (made handed : CellRec C)
+    → f payload ≡ fresh.numbers → list ≡ fresh.list → made ≡ (record { payload = payload }) → handed ≡ made
+    → (let it : Own × Family = (record { cell = fresh.numbers; corners = corners }, record { parents = parents; parent = parent; list = fresh.list }) in it)
+    ≡ (record { cell = f handed.payload; corners = corners }, record { parents = parents; parent = parent; list = list })
+fresh-is f corners parents parent list fresh payload made handed numbers after is same =
+    ap (λ ns. (let it : Own × Family = (record { cell = ns; corners = corners }, record { parents = parents; parent = parent; list = fresh.list }) in it))
+    (sym numbers ∙ ap (λ (r : CellRec _). f r.payload) (sym is ∙ sym same))
+    ∙ ap (λ l. (let it : Own × Family = (record { cell = f handed.payload; corners = corners }, record { parents = parents; parent = parent; list = l }) in it)) (sym after)
+
+-- a cell is counted
+module _ {Plan : Type 0} (set : Setting Plan) (ports : Ports) (cell : Place) (m : Machine) where
+  abbrev counted : Machine
+  counted = record m { tally = tally_cell cell m.tally }
+
+  abbrev counts : Course Machine
+  counts = count_cell set ports cell m
+
+  first-of : (a b c d e h : Bool) → (a && b && c && d && e && h) ≡ true → a ≡ true
+  first-of true b c d e h is = refl
+  first-of false b c d e h is = is
+
+  pub count-may : Fits counts → m.tally.cells < 2 ^ 63
+  count-may fits =
+      ltb-true m.tally.cells (2 ^ 63)
+      (first-of (may_rise m.tally.cells) (may_rise m.tally.read) (may_rise m.tally.written) (may_rise m.tally.created) (may_rise m.tally.destroyed) (may_rise m.tally.hanging)
+      (allowed-fits (tally_may_rise m.tally) (within_limit set ports cell counted (nat_lt set.max_cells counted.tally.cells)) fits))
+
+  counts-is : Fits counts → (t : Bool) → nat_lt set.max_cells counted.tally.cells ≡ t → counts ≡ within_limit set ports cell counted t
+  counts-is fits t is =
+      allowed-is (tally_may_rise m.tally) (within_limit set ports cell counted (nat_lt set.max_cells counted.tally.cells)) fits
+      ∙ ap (within_limit set ports cell counted) is
+
+  not-above : (a b : ℕ) → a ≤ b → nat_lt b a ≡ false
+  not-above a b few = grind (arith, nat_tests)
+
+  pub counts-on : (found : Found) → Fits counts → counted.tally.cells ≤ set.max_cells → Follows counts (λ (u : Unit {0}). counted) (Ok tt) found found.told
+  counts-on found fits few =
+      let is = counts-is fits false (not-above counted.tally.cells set.max_cells few) in
+      record {
+        ends = ap (λ c. c.ending) is;
+        told = subst (λ text. Adds found.told text found.told) (sym (ap (λ c. c.text) is)) (adds-nothing found.told);
+      }
+
+  pub counts-past : {A : Type 0} (after : A → Machine) (found : Found) → Fits counts → set.max_cells < counted.tally.cells → Follows counts after (Err (halted (limit_at cell))) found found.told
+  counts-past after found fits past =
+      let is = counts-is fits true (lt-ltb set.max_cells counted.tally.cells past) in
+      record {
+        ends = ap (λ c. c.ending) is;
+        told = subst (λ text. Adds found.told text found.told) (sym (ap (λ c. c.text) is)) (adds-nothing found.told);
+      }

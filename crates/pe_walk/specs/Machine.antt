@@ -57,6 +57,10 @@ with_desk desk m = record m { vertices = desk.vertices; family = desk.family }
 abbrev pub with_parents : List VertexRecord → Machine → Machine
 with_parents its m = record m { family = record m.family { parents = its } }
 
+-- the kind of a cell, by the corners of its parent
+abbrev pub kind_among : ℕ → Place → List VertexRecord → Kind
+kind_among traversal cell parents = if cell.level == 1 then (if traversal == 1 then Born else Kept) else kind_below parents
+
 module _ {Plan : Type 0} (set : Setting Plan) (ports : Ports) where
   -- a cell is counted
   abbrev pub within_limit : Place → Machine → Bool → Course Machine
@@ -98,7 +102,7 @@ module _ {Plan : Type 0} (set : Setting Plan) (ports : Ports) where
 
   -- the kind of a cell, by the corners of its parent in hand
   abbrev pub kind_of_cell : Place → Machine → Kind
-  kind_of_cell cell m = if cell.level == 1 then (if set.traversal == 1 then Born else Kept) else kind_below m.family.parents
+  kind_of_cell cell m = kind_among set.traversal cell m.family.parents
 
   -- a cell's numbers come to hand: fresh, or from the input
   abbrev pub cell_comes : Kind → Machine → Course (List ℤ × Machine)

@@ -1,6 +1,7 @@
 //! The walk of the cells of a grid.
 #![tactic(auto)]
 
+mod count;
 pub mod laws;
 #[cfg(test)]
 mod machine_rows;
@@ -10,4 +11,5 @@ mod progress;
 #[cfg(test)]
 mod rows;
 mod settings;
+mod visit;
 mod walked;
