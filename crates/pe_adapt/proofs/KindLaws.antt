@@ -208,4 +208,6 @@ module _ {V : Type 0} where
         let v = full-at (vertex_at corners k) (full.full k below) in
         are.new k below v.0 v.1
         ∙ sym (ap (λ o. passes is_new (option_map (λ it. it.state) o)) (slice_get-map (seen_vertex numbers) (vertices_of corners) k ∙ ap (option_map (seen_vertex numbers)) (vertices_of-full axes corners k v.0 full v.1)));
+    old_rest = are.old_rest;
+    new_rest = are.new_rest;
   }

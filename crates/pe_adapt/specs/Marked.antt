@@ -1,5 +1,5 @@
 -- Which corners of a cell are old and new, in one number.
-use Rattle.std.specs.Prelude.{◌≡◌, ℕ, false, ◌<◌, ◌^◌, List, slice_get}
+use Rattle.std.specs.Prelude.{◌≡◌, ℕ, false, ◌<◌, ◌≤◌, ◌^◌, List, slice_get}
 use Rattle.std.specs.Option.{option_map}
 use Rattle.pe_base.specs.declared.place.Place.{Place}
 use Rattle.pe_base.specs.Tree.Places.{corner, parent_of, IsInside}
@@ -12,10 +12,12 @@ use Rattle.pe_base.specs.Acts.Effects.{VertexRecord}
 use Rattle.pe_states.specs.Marks.{is_old_at, is_new_at}
 use Rattle.pe_adapt.specs.Touches.{state_in_hand}
 
--- the marks of corners in hand
+-- the marks of corners in hand, and no others
 pub record AreMarksOf (axes : ℕ) (its : List VertexRecord) (marks : ℕ) : Type 0 where
   pub old : (k : ℕ) → k < 2 ^ axes → is_old_at marks k ≡ passes is_old (option_map (λ it. it.state) (slice_get its k))
   pub new : (k : ℕ) → k < 2 ^ axes → is_new_at marks k ≡ passes is_new (option_map (λ it. it.state) (slice_get its k))
+  pub old_rest : (k : ℕ) → 2 ^ axes ≤ k → k < 16 → is_old_at marks k ≡ false
+  pub new_rest : (k : ℕ) → 2 ^ axes ≤ k → k < 16 → is_new_at marks k ≡ false
 
 -- marks that give the kinds of a cell's corners, by its parent's corners in hand
 abbrev pub GiveKinds : ℕ → ℕ → Place → List VertexRecord → ℕ → Type 0
