@@ -46,7 +46,7 @@ module _ {Plan : Type 0} (set : Setting Plan) where
   walk_cell (suc levels) parent cell =
       around_below (λ w. if_walked (kind_of_children set w cell) (each (walk_cell levels cell) (children set.axes (way set) cell)) w) parent cell
 
-  -- the root's corners are made, hanging, as a traversal begins
+  -- the root's corners are made, hanging, in descending number, as a traversal begins
   abbrev pub root_corner : ℕ → Working → Working
   root_corner k w =
       let made = fresh_vertex set Hanging root (family_of set.axes w root) in
@@ -62,7 +62,7 @@ module _ {Plan : Type 0} (set : Setting Plan) where
   -- a traversal of the children of the root, and all below them
   abbrev pub walk_root : ℕ → Working → Course Working
   walk_root greatest w =
-      and_then (plain BeginIteration (root_corners corner_numbers w)) (λ w.
+      and_then (plain BeginIteration (root_corners (reverse corner_numbers) w)) (λ w.
       and_then (each (walk_cell (greatest - 1) root) (children set.axes (way set) root) w)
       (plain EndIteration))
 
