@@ -44,3 +44,5 @@ pub mod CellsAhead
 pub mod WalkFrames
 -- a traversal walks no more cells than its vertices allow
 pub mod FewCells
+-- each walked cell is among the cells of the walk
+pub mod WalkedHere

@@ -147,4 +147,3 @@ module _ {Plan : Type 0} (set : Setting Plan) (e : Outset) where
         (λ w. and_then (walks.plain set BeginIteration w) (λ w. and_then (each (walks.walk_cell set levels root) (children set.axes (way set) root) w) (walks.plain set EndIteration)))
         (λ m. and_then (machine.plain set ports BeginIteration m) (λ m. and_then (each (machine.walk_cell set ports (suc levels)) (children set.axes (way set) root) m) (machine.plain set ports EndIteration)))
         (each_some (tokens.walk e.outlook levels) (children e.outlook.axes e.outlook.way root))
-
