@@ -28,6 +28,8 @@ pub mod Leaves
 pub mod Counts
 -- what loads and stores share
 pub mod Shared
+-- a corner is loaded
+pub mod Loads
 -- a corner is stored
 pub mod Stores
 -- the walk of a cell, from its steps
