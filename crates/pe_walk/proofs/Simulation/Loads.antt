@@ -2,3 +2,7 @@
 
 -- what a load does to places
 pub mod Places
+-- what it puts under a place, or under a cell
+pub mod Records
+-- how the record comes to hand
+pub mod Comes
