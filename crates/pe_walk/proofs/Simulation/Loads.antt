@@ -6,3 +6,5 @@ pub mod Places
 pub mod Records
 -- how the record comes to hand
 pub mod Comes
+-- one core, put back in two ways
+pub mod Cores
