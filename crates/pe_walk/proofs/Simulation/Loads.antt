@@ -8,3 +8,5 @@ pub mod Records
 pub mod Comes
 -- one core, put back in two ways
 pub mod Cores
+-- what is found afterwards
+pub mod Afters
