@@ -10,3 +10,5 @@ pub mod Comes
 pub mod Cores
 -- what is found afterwards
 pub mod Afters
+-- what holds afterwards
+pub mod Stages

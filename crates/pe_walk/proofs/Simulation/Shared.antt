@@ -31,7 +31,7 @@ use Rattle.pe_walk.specs.Standing.{Foresight, Outset, Stage, IsFair, IsIdle, Owe
 use Rattle.pe_walk.proofs.Tokens.Apart.{one_if}
 use Rattle.pe_walk.proofs.Simulation.CoreLaws.{length-alike}
 use Rattle.pe_walk.proofs.Simulation.LoadedKinds.{found_stored}
-use Rattle.pe_walk.proofs.Simulation.Levels.{record_at-put_family}
+use Rattle.pe_walk.proofs.Simulation.Levels.{record_at-put_family, at-put_family}
 use Rattle.pe_walk.proofs.Simulation.Leaves.{record_of}
 use Rattle.pe_walk.proofs.Simulation.Putting.{IsOff, AfterFamily, after_family, on_stacks, map_holdings-same}
 
@@ -221,11 +221,12 @@ pub record PutsBack (axes greatest : ℕ) (o : Outlook) (parent : Place) (family
   pub hung : (k : ℕ) → is_hung before parent k ≡ is_hung w parent k
   pub vertices : (k : ℕ) → at before.vertices (corner axes parent k) ≡ at w.vertices (corner axes parent k)
 
--- Then vertices that are not held, cells of other levels, other cells' numbers, loads and the tally are as in that state;
--- and what is as foreseen stays so.
+-- Then vertices that are not held, or of other levels, corners of cells of other levels, other cells' numbers, loads and the
+-- tally are as in that state; and what is as foreseen stays so.
 pub record HasPut (axes greatest : ℕ) (o : Outlook) (parent : Place) (it : Family) (w before after : Working) (t : Tokens) : Type 0 where
   pub family : family_of axes after parent ≡ it
   pub vertices : (q : Place) → t.held q ≡ 0 → at after.vertices q ≡ at before.vertices q
+  pub levels : (q : Place) → parent.level ≢ q.level → at after.vertices q ≡ at before.vertices q
   pub hung : (x : Place) (k : ℕ) → is_hung after x k ≡ is_hung before x k
   pub records : (x : Place) (k : ℕ) → parent.level ≢ x.level → record_at axes after x k ≡ record_at axes before x k
   pub cells : (x : Place) → at after.cells x ≡ (if is_same parent x then Some it.parent else at before.cells x)
@@ -284,6 +285,7 @@ module _ (axes greatest : ℕ) (o : Outlook) (parent : Place) (family : Family) 
   has_put = record {
     family = put_is.family;
     vertices = λ q none. put_is.vertices q (off_parent axes o t before parent puts.held flags_before q none);
+    levels = at-put_family axes parent family before put_count;
     hung = put_is.hung;
     records = λ x k other. record_at-put_family axes parent family before put_count x k other;
     cells = cells-put_family axes parent family before;
