@@ -31,7 +31,7 @@ use Rattle.pe_walk.proofs.Simulation.Loads.Places.{LoadsPlace}
 use Rattle.pe_walk.proofs.Simulation.Loads.Records.{LoadsRecord}
 
 -- a corner was loaded: from places and records as they stood, to those after it
-pub record AfterLoad (axes greatest : ℕ) (o : Outlook) (f : Foresight) (st : Stage) (k : ℕ) (it : VertexRecord × Family) (tally : Tally) (w before after : Working) (t t' : Tokens) : Type 0 where
+pub record HasLoaded (axes greatest : ℕ) (o : Outlook) (f : Foresight) (st : Stage) (k : ℕ) (it : VertexRecord × Family) (tally : Tally) (w before after : Working) (t t' : Tokens) : Type 0 where
   pub small : k < 2 ^ axes
   pub from : st.from ≡ suc k
   pub four : axes ≤ length st.cell.pos
@@ -68,7 +68,7 @@ other_key : (k j : ℕ) (xs ys : List ℕ) → k ≢ j → is_key k xs j ys ≡ 
 other_key k j xs ys other = ap (λ b. b && pointwise nat_eq xs ys) (ne_eqb k j other)
 
 module _ (axes greatest : ℕ) (o : Outlook) (f : Foresight) (st : Stage) (k : ℕ) (it : VertexRecord × Family) (tally : Tally) (w before after : Working) (t t' : Tokens)
-    (a : AfterLoad axes greatest o f st k it tally w before after t t') where
+    (a : HasLoaded axes greatest o f st k it tally w before after t t') where
   -- what is not held is another vertex, or one that hangs
   pub elsewhere : (q : Place) → t'.held q ≡ 0 → (o.counts (corner axes st.cell k) && is_same (corner axes st.cell k) q) ≡ false
   elsewhere q none = no_more (t.held q) (t'.held q) (o.counts (corner axes st.cell k) && is_same (corner axes st.cell k) q) (a.loads.held q) none

@@ -32,7 +32,7 @@ use Rattle.pe_walk.proofs.Tokens.Stacks.{same_or_other}
 use Rattle.pe_walk.proofs.Simulation.Leaves.{after_load}
 use Rattle.pe_walk.proofs.Simulation.Shared.{on_one, lies_unheld, OneMore, owes-more}
 use Rattle.pe_walk.proofs.Simulation.Loads.Places.{HasTaken}
-use Rattle.pe_walk.proofs.Simulation.Loads.Afters.{AfterLoad, elsewhere, vertex_elsewhere, met_elsewhere, cell_elsewhere, record_here, record_later}
+use Rattle.pe_walk.proofs.Simulation.Loads.Afters.{HasLoaded, elsewhere, vertex_elsewhere, met_elsewhere, cell_elsewhere, record_here, record_later}
 
 last_or_later : (k j : ℕ) → k ≤ j → (k ≡ j) ⊎ (suc k ≤ j)
 last_or_later k j from = grind arith
@@ -80,7 +80,7 @@ flag_turns hangs same k j n small = elim (same_or_other k j) [
         ∙ ap₂ (λ l m. same && l && m && hangs k) (sym reached) (sym below)
 
 module _ (axes greatest : ℕ) (o : Outlook) (f : Foresight) (st : Stage) (k : ℕ) (it : VertexRecord × Family) (tally : Tally) (w before after : Working) (t t' : Tokens)
-    (a : AfterLoad axes greatest o f st k it tally w before after t t') where
+    (a : HasLoaded axes greatest o f st k it tally w before after t t') where
   -- # The places
   still_unmet : (q : Place) → o.counts q ≡ false → t'.met q ≡ 0
   still_unmet q off = omega (arith, a.loads.met q, a.stood.unmet q off, ap one_if (apart (o.counts (corner axes st.cell k)) (is_same (corner axes st.cell k) q) refl refl))
