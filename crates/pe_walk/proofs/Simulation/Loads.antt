@@ -12,3 +12,5 @@ pub mod Cores
 pub mod Afters
 -- what holds afterwards
 pub mod Stages
+-- what is loaded is as foreseen
+pub mod Foreseen

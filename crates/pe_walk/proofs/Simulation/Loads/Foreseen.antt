@@ -1,0 +1,101 @@
+-- What is loaded is as foreseen: fresh, by the state table at its first touch, or as it waited.
+use Rattle.std.proofs.Common.{◌≡◌, ◌⊎◌, ◌≢◌, ℕ, ◌+◌, ◌^◌, ◌<◌, ◌≤◌, Bool, true, false, not, ◌&&◌, ◌==◌, List, [], ◌∷◌, Option, Some, None, refl, sym, ap, ap₂, subst, ◌∙◌, inl, inr, arith}
+use Rattle.std.specs.Prelude.{is_none, nat_lt, if◌then◌else◌, count_by}
+use Rattle.std.specs.Option.{unwrap_or}
+use Rattle.std.proofs.lemmas.Bool.{le-ltb}
+use Rattle.std.proofs.lemmas.List.Sums.{sum_by-cons}
+use Rattle.pe_base.specs.declared.place.Place.{Place}
+use Rattle.pe_base.specs.declared.way.Way.{Way}
+use Rattle.pe_base.specs.declared.kind.Kind.{Kind}
+use Rattle.pe_base.specs.declared.kind.Kind.TheVariants.{Kept, Born, Dying, Hanging}
+use Rattle.pe_base.specs.declared.state.State.{State}
+use Rattle.pe_base.specs.declared.state.State.TheVariants.{Unrefined, Refining}
+use Rattle.pe_base.specs.Tree.Dim.{IsDim}
+use Rattle.pe_base.specs.Tree.Places.{corner, is_same}
+use Rattle.pe_base.specs.Life.Kinds.{is_hanging}
+use Rattle.pe_base.specs.Life.Table.{first_touch, start_state}
+use Rattle.pe_base.specs.Steps.Routes.{stack_in}
+use Rattle.pe_base.specs.Steps.Faces.{stack_of}
+use Rattle.pe_base.specs.Acts.Effects.{VertexRecord}
+use Rattle.pe_base.specs.Walk.Maps.{at}
+use Rattle.pe_base.specs.Walk.Core.{Setting, Family, fresh_vertex, read_vertex}
+use Rattle.pe_base.specs.Walk.Working.{Working, no_vertex, vertex_at}
+use Rattle.pe_stacks.specs.Holdings.{Holdings, items_at, popped}
+use Rattle.pe_stacks.specs.Grid.{output_stack}
+use Rattle.pe_walk.specs.Laws.{IsCell}
+use Rattle.pe_walk.specs.Tokens.{Outlook, Tokens, is_top, given, taken}
+use Rattle.pe_walk.specs.CoreKeeps.{IsFinest, loaded}
+use Rattle.pe_walk.specs.Standing.{Foresight, Foresees, IsForeseen, StartsFinest, IsFair, IsIdle, IsLive, times}
+use Rattle.pe_walk.proofs.Derived.{corners_cross_once}
+use Rattle.pe_walk.proofs.Tokens.Keeping.{given_some}
+use Rattle.pe_walk.proofs.Tokens.Apart.{one_if}
+
+-- a corner that hangs
+pub loads_idle : {Plan : Type 0} (set : Setting Plan) (first : Bool) (found : VertexRecord) (place : Place) (family : Family) → IsIdle (loaded set Hanging first found place family)
+loads_idle set first found place family = record { kind = refl; old = refl; new = refl }
+
+starts_unrefined : (traversal level start greatest : ℕ) → start ≤ greatest → greatest ≤ level → start_state traversal level start ≡ Unrefined
+starts_unrefined traversal level start greatest within past =
+    ap (λ b. if traversal == 1 && b then Refining else Unrefined) (le-ltb level start (omega (arith, within, past))) ∙ go (traversal == 1)
+  where
+    go : (b : Bool) → (if b && false then Refining else Unrefined) ≡ Unrefined
+    go true = refl
+    go false = refl
+
+-- one that counts, at its first touch
+pub loads_first : {Plan : Type 0} (set : Setting Plan) (f : Foresight) (place : Place) (family : Family) (kind : Kind) (found : Option VertexRecord)
+    → set.start_level ≤ set.rules.greatest set.plan → f.kind place ≡ kind → is_hanging kind ≡ false → IsForeseen set f place kind found → StartsFinest (set.rules.greatest set.plan) place found
+    → IsFair f (set.rules.greatest set.plan) place (Some (loaded set kind true (unwrap_or found no_vertex) place family))
+loads_first set f place family Kept None start same counts seen finest = absurd seen
+loads_first set f place family Kept (Some it) start same counts seen finest =
+    record { it = read_vertex set Kept it; there = refl; kind = sym same; old = seen.0; new = seen.1; finest = λ past. ap (λ state. first_touch state Kept) (finest past) }
+loads_first set f place family Dying None start same counts seen finest = absurd seen
+loads_first set f place family Dying (Some it) start same counts seen finest =
+    record { it = read_vertex set Dying it; there = refl; kind = sym same; old = seen.0; new = seen.1; finest = λ past. ap (λ state. first_touch state Dying) (finest past) }
+loads_first set f place family Born found start same counts seen finest =
+    record { it = (fresh_vertex set Born place family).0; there = refl; kind = sym same; old = seen.1; new = seen.2; finest = λ past. starts_unrefined set.traversal place.level set.start_level (set.rules.greatest set.plan) start past }
+loads_first set f place family Hanging found start same counts seen finest = absurd cc
+
+-- and later
+pub loads_later : {Plan : Type 0} (set : Setting Plan) (f : Foresight) (place : Place) (family : Family) (kind : Kind) (found : Option VertexRecord)
+    → is_hanging kind ≡ false → IsFair f (set.rules.greatest set.plan) place found
+    → IsFair f (set.rules.greatest set.plan) place (Some (loaded set kind false (unwrap_or found no_vertex) place family))
+loads_later set f place family kind found counts it =
+    subst (λ v. IsFair f (set.rules.greatest set.plan) place (Some v)) (ap (λ o. unwrap_or o no_vertex) (sym it.there) ∙ as_found kind counts)
+    (record { it = it.it; there = refl; kind = it.kind; old = it.old; new = it.new; finest = it.finest })
+  where
+    as_found : (kind : Kind) → is_hanging kind ≡ false → unwrap_or found no_vertex ≡ loaded set kind false (unwrap_or found no_vertex) place family
+    as_found Kept h = refl
+    as_found Born h = refl
+    as_found Dying h = refl
+    as_found Hanging h = absurd cc
+
+-- a vertex that comes from another cell lay on a stack that is not the output
+pub waited : (o : Outlook) (t : Tokens) (after : Holdings Place) (axes : ℕ) (way : Way) (cell : Place) (k : ℕ) (s : ℕ) → IsDim axes → IsCell axes way cell → k < 2 ^ axes
+    → stack_in axes way (corner axes cell k) cell ≡ Some s → taken (Some s) (corner axes cell k) t.vertices ≡ Some after → 1 ≤ t.met (corner axes cell k) → IsLive o t (corner axes cell k)
+waited o t after axes way cell k s dim is_cell small from took met = inr (s, apart, lay (items_at t.vertices s) refl took, met)
+  where
+    vertex : Place
+    vertex = corner axes cell k
+
+    far : (b : Bool) → 8 ≤ output_stack b
+    far true = omega arith
+    far false = omega arith
+
+    apart : s ≢ output_stack o.swapped
+    apart out = elim (corners_cross_once axes way cell k dim is_cell small).comes [
+      | inl none ↦ absurd (let no = none.no_stack in cc)
+      | inr one ↦
+          let at : Some (stack_of one.face cell) ≡ Some s = sym one.its_stack ∙ from in
+          let is : stack_of one.face cell ≡ s = cc in
+          let few = one.is_face.0 in
+          let four = dim.1 in
+          let high = far o.swapped in
+          omega (arith, is, few, four, high, out)
+    ]
+
+    lay : (xs : List Place) → items_at t.vertices s ≡ xs → given (is_top vertex xs) (Some (popped t.vertices s)) ≡ Some after → 1 ≤ times (items_at t.vertices s) vertex
+    lay [] e run = absurd cc
+    lay (x ∷ xs) e run =
+        let top = (given_some (is_top vertex (x ∷ xs)) (Some (popped t.vertices s)) after run).0 in
+        omega (arith, ap (λ ys. times ys vertex) e, sum_by-cons (λ other. one_if (is_same other vertex)) x xs, ap one_if top)
