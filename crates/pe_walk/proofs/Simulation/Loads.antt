@@ -14,3 +14,5 @@ pub mod Afters
 pub mod Stages
 -- what is loaded is as foreseen
 pub mod Foreseen
+-- the step
+pub mod Leaf

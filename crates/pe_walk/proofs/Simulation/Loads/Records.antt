@@ -1,7 +1,10 @@
 -- What the load of a corner puts under its place, or under its cell where it hangs.
-use Rattle.std.proofs.Common.{◌≡◌, ℕ, ◌+◌, Bool, true, false, not, ◌&&◌, List, ◌∷◌, Option, Some, refl, sym, ap, ◌∙◌, arith}
-use Rattle.std.specs.Prelude.{is_some, if◌then◌else◌}
+use Rattle.std.proofs.Common.{◌≡◌, ◌≢◌, ℕ, ◌+◌, Bool, true, false, not, ◌&&◌, ◌==◌, List, ◌∷◌, Option, Some, refl, sym, ap, ◌∙◌, arith}
+use Rattle.std.specs.Prelude.{nat_eq, is_some, if◌then◌else◌}
 use Rattle.std.specs.Option.{unwrap_or}
+use Rattle.std.specs.Cmp.Lexicographic.{pointwise}
+use Rattle.std.proofs.Math.Bool.{and-false}
+use Rattle.std.proofs.lemmas.Bool.{ne_eqb}
 use Rattle.pe_base.specs.declared.place.Place.{Place}
 use Rattle.pe_base.specs.declared.kind.Kind.{Kind}
 use Rattle.pe_base.specs.declared.kind.Kind.TheVariants.{Kept, Born, Dying, Hanging}
@@ -54,3 +57,10 @@ loads_record set Hanging cell k it w = record {
   cells = refl;
   tally = refl;
 }
+
+-- corners of cells of another level hang as before
+pub hung_elsewhere : (counts : Bool) (cell vertex : Place) (k : ℕ) (it : VertexRecord) (w after : Working) → LoadsRecord counts cell vertex k it w after
+    → (x : Place) (j : ℕ) → cell.level ≢ x.level → is_hung after x j ≡ is_hung w x j
+hung_elsewhere counts cell vertex k it w after puts x j other =
+    let key : is_key k (cell.level ∷ cell.pos) j (x.level ∷ x.pos) ≡ false = ap (λ c. k == j && (c && pointwise nat_eq cell.pos x.pos)) (ne_eqb cell.level x.level other) ∙ and-false (k == j) in
+    ap is_some (puts.hanging x j ∙ ap (λ b. if b then Some it else at_corner w.hanging x j) (ap (λ c. not counts && c) key ∙ and-false (not counts)))

@@ -32,6 +32,7 @@ use Rattle.pe_walk.proofs.Tokens.Stacks.{same_or_other}
 use Rattle.pe_walk.proofs.Simulation.Leaves.{after_load}
 use Rattle.pe_walk.proofs.Simulation.Shared.{on_one, lies_unheld, OneMore, owes-more}
 use Rattle.pe_walk.proofs.Simulation.Loads.Places.{HasTaken}
+use Rattle.pe_walk.proofs.Simulation.Loads.Records.{hung_elsewhere}
 use Rattle.pe_walk.proofs.Simulation.Loads.Afters.{HasLoaded, elsewhere, vertex_elsewhere, met_elsewhere, cell_elsewhere, record_here, record_later}
 
 last_or_later : (k j : ℕ) → k ≤ j → (k ≡ j) ⊎ (suc k ≤ j)
@@ -207,8 +208,7 @@ module _ (axes greatest : ℕ) (o : Outlook) (f : Foresight) (st : Stage) (k : �
   parent_flags_after : (j : ℕ) → j < 2 ^ axes → is_hung after st.parent j ≡ not (o.counts (corner axes st.parent j))
   parent_flags_after j small =
       a.has.hung st.parent j
-      ∙ ap is_some (a.puts.hanging st.parent j
-      ∙ ap (λ b. if b then Some it.0 else at_corner w.hanging st.parent j) (ap (λ c. not (o.counts (corner axes st.cell k)) && (k == j && (c && pointwise nat_eq st.cell.pos st.parent.pos))) (ne_eqb st.cell.level st.parent.level (λ e. absurd (omega (arith, e, a.deep)))) ∙ ap (λ c. not (o.counts (corner axes st.cell k)) && c) (and-false (k == j)) ∙ and-false (not (o.counts (corner axes st.cell k)))))
+      ∙ hung_elsewhere (o.counts (corner axes st.cell k)) st.cell (corner axes st.cell k) k it.0 (record w { tally = tally }) before a.puts st.parent j (λ e. absurd (omega (arith, e, a.deep)))
       ∙ a.was_fair.parent_flags j small
 
   -- and of the cell
