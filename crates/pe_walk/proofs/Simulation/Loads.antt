@@ -8,11 +8,11 @@ pub mod Records
 pub mod Comes
 -- one core, put back in two ways
 pub mod Cores
+-- what is loaded is as foreseen
+pub mod Foreseen
 -- what is found afterwards
 pub mod Afters
 -- what holds afterwards
 pub mod Stages
--- what is loaded is as foreseen
-pub mod Foreseen
 -- the step
 pub mod Leaf

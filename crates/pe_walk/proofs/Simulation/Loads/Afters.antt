@@ -1,5 +1,5 @@
 -- What is found after the load of a corner: its record in hand, all others as they were.
-use Rattle.std.proofs.Common.{◌≡◌, ℕ, ℤ, zero, suc, ◌+◌, ◌-◌, ◌^◌, ◌<◌, ◌≤◌, ◌≢◌, Bool, true, false, not, ◌&&◌, ◌||◌, ◌==◌, List, [], ◌∷◌, map, length, Option, Some, None, refl, sym, ap, ap₂, subst, ◌∙◌, true≢false, arith}
+use Rattle.std.proofs.Common.{◌≡◌, ℕ, suc, ◌+◌, ◌-◌, ◌^◌, ◌<◌, ◌≤◌, ◌≢◌, Bool, true, false, not, ◌&&◌, List, ◌∷◌, map, length, Option, Some, None, refl, ap, ap₂, ◌∙◌, arith}
 use Rattle.std.specs.Prelude.{nat_eq, nat_le, nat_lt, is_some, if◌then◌else◌}
 use Rattle.std.specs.Option.{unwrap_or}
 use Rattle.std.specs.List.{range_with_len}
@@ -25,7 +25,7 @@ use Rattle.pe_walk.specs.Apart.{IsApart, lies}
 use Rattle.pe_walk.specs.Traffic.{OnlyCounting}
 use Rattle.pe_walk.specs.Standing.{Foresight, Outset, Stage, Stands, Fair, IsFair, IsIdle}
 use Rattle.pe_walk.proofs.Tokens.Apart.{one_if}
-use Rattle.pe_walk.proofs.Simulation.Leaves.{record_of, records_from}
+use Rattle.pe_walk.proofs.Simulation.Leaves.{record_of}
 use Rattle.pe_walk.proofs.Simulation.Shared.{HasPut, lies_unheld, cells-image, vertices-image}
 use Rattle.pe_walk.proofs.Simulation.Loads.Places.{LoadsPlace}
 use Rattle.pe_walk.proofs.Simulation.Loads.Records.{LoadsRecord}

@@ -1,6 +1,6 @@
 -- How the record of a corner comes to hand: lent where it hangs or is born, and else from the top of a stack. So a load by the
 -- machine is one by the core, of the record that lies under the place.
-use Rattle.std.proofs.Common.{◌≡◌, ℕ, ◌+◌, ◌^◌, ◌<◌, Bool, true, false, ◌&&◌, List, [], ◌∷◌, length, Option, Some, None, refl, sym, ap, ap₂, subst, ◌∙◌, arith}
+use Rattle.std.proofs.Common.{◌≡◌, ℕ, ◌^◌, ◌<◌, Bool, true, false, List, [], ◌∷◌, Option, Some, None, refl, sym, ap, ap₂, ◌∙◌}
 use Rattle.std.specs.Prelude.{is_none}
 use Rattle.pe_base.specs.declared.place.Place.{Place}
 use Rattle.pe_base.specs.declared.kind.Kind.{Kind}
@@ -8,11 +8,11 @@ use Rattle.pe_base.specs.declared.kind.Kind.TheVariants.{Kept, Born, Dying, Hang
 use Rattle.pe_base.specs.declared.event.Event.TheVariants.{TouchVertexFirstTime}
 use Rattle.pe_base.specs.Life.Kinds.{is_hanging}
 use Rattle.pe_base.specs.Acts.Effects.{VertexRecord}
-use Rattle.pe_base.specs.Walk.Course.{Course, at_once, and_then, course_map}
+use Rattle.pe_base.specs.Walk.Course.{at_once, and_then, course_map}
 use Rattle.pe_base.specs.Walk.Core.{Setting, Family, read_vertex, vertex_event, load_touch}
 use Rattle.pe_base.specs.Walk.Working.{no_vertex}
 use Rattle.pe_base.proofs.Faces.Bridge.{same_places}
-use Rattle.pe_stacks.specs.Holdings.{Holdings, stack_count, stack_at, items_at, lent, popped}
+use Rattle.pe_stacks.specs.Holdings.{Holdings, stack_at, items_at, lent, popped}
 use Rattle.pe_hang.specs.InHand.{map_holdings}
 use Rattle.pe_adapt.specs.Touches.{Desk, lent_vertex, popped_vertex, comes, load_as}
 use Rattle.pe_walk.specs.Outlooks.{was_stored}

@@ -1,6 +1,6 @@
 -- The load of a corner, by model and by machine: one core, of the record that is found under the place, whose result is put
 -- back in two ways.
-use Rattle.std.proofs.Common.{◌≡◌, ℕ, suc, ◌+◌, ◌-◌, ◌^◌, ◌<◌, ◌≤◌, Bool, true, false, not, ◌&&◌, ◌||◌, ◌==◌, List, ◌∷◌, Option, Some, refl, sym, ap, ap₂, subst, ◌∙◌, arith}
+use Rattle.std.proofs.Common.{◌≡◌, ℕ, suc, ◌-◌, ◌^◌, ◌<◌, Bool, true, false, not, ◌&&◌, ◌||◌, ◌==◌, List, ◌∷◌, Option, Some, refl, sym, ap, ap₂, subst, ◌∙◌}
 use Rattle.std.specs.Prelude.{is_none, if◌then◌else◌}
 use Rattle.std.proofs.lemmas.Bool.{ltb-true}
 use Rattle.pe_base.specs.declared.place.Place.{Place}
@@ -16,20 +16,20 @@ use Rattle.pe_base.specs.Walk.Core.{Setting, way, Family, read_vertex, load_touc
 use Rattle.pe_base.specs.Walk.Working.{Working, vertex_at, cell_at, loads_of, family_of}
 use Rattle.pe_base.specs.Walk.Touches.{tally_load, kind_of_vertex, after_load}
 use Rattle.pe_base.specs.Walk.Touches as model
-use Rattle.pe_stacks.specs.Holdings.{Holdings, stack_at}
+use Rattle.pe_stacks.specs.Holdings.{stack_at}
 use Rattle.pe_stacks.specs.Grid.{input_stack}
 use Rattle.pe_hang.specs.InHand.{map_holdings}
 use Rattle.pe_hang.specs.Moves.{allowed}
-use Rattle.pe_adapt.specs.Touches.{Desk, kind_in_hand, load_as}
+use Rattle.pe_adapt.specs.Touches.{Desk, load_as}
 use Rattle.pe_walk.specs.Laws.{IsCell}
 use Rattle.pe_walk.specs.Machine.{Machine, tally_may_rise, is_placed}
-use Rattle.pe_walk.specs.Tokens.{Tokens, before, first_of, given, taken, load}
+use Rattle.pe_walk.specs.Tokens.{Tokens, before, first_of, given, taken}
 use Rattle.pe_walk.specs.Standing.{Outset, Stage, Holds, IsOutset, IsStage}
 use Rattle.pe_walk.proofs.Tokens.Counting.{corners_by_counting}
 use Rattle.pe_walk.proofs.Simulation.Matching.{turned-then}
 use Rattle.pe_walk.proofs.Simulation.LoadedKinds.{kinds_are_found, hangs_if}
 use Rattle.pe_walk.proofs.Simulation.Counts.{small_rises, tally_rises}
-use Rattle.pe_walk.proofs.Simulation.Leaves.{record_of, image_of, records_from, in_hand, load_before}
+use Rattle.pe_walk.proofs.Simulation.Leaves.{record_of, records_from, in_hand, load_before}
 use Rattle.pe_walk.proofs.Simulation.Loads.Places.{LoadsPlace}
 use Rattle.pe_walk.proofs.Simulation.Loads.Comes.{MayTake, Comes, comes-hanging, comes-counting, load_as-is}
 
@@ -51,12 +51,15 @@ abbrev pub working_after : {Plan : Type 0} → Setting Plan → Outset → Stage
 working_after set e st k w it = after_load set (e.foresight.kind (vertex_of set st k)) (is_none (source_of set st k)) st.parent st.cell k it w
 
 abbrev pub hand_after : {Plan : Type 0} → Setting Plan → Outset → Stage → ℕ → Working → Tokens → Tokens → VertexRecord × Family → List VertexRecord × Machine
-hand_after set e st k w t t' it = (it.0 ∷ records_from set e w st.cell (suc k) (2 ^ set.axes - suc k), record {
-  vertices = map_holdings (record_of set e w t) t'.vertices;
-  cells = map_holdings (cell_at w) t.cells;
-  family = it.1;
-  tally = tally_load (e.foresight.kind (vertex_of set st k)) (is_none (source_of set st k)) w.tally;
-})
+hand_after set e st k w t t' it = (
+  it.0 ∷ records_from set e w st.cell (suc k) (2 ^ set.axes - suc k),
+  record {
+    vertices = map_holdings (record_of set e w t) t'.vertices;
+    cells = map_holdings (cell_at w) t.cells;
+    family = it.1;
+    tally = tally_load (e.foresight.kind (vertex_of set st k)) (is_none (source_of set st k)) w.tally;
+  },
+)
 
 -- whether a hanging vertex is loaded for the first time means nothing
 same_first : {Plan : Type 0} (set : Setting Plan) (kind : Kind) (a b : Bool) (parent cell : Place) (k : ℕ) (w : Working) (found : VertexRecord) (vertex : Place) (family : Family) → (is_hanging kind ≡ false → a ≡ b)
@@ -142,12 +145,15 @@ module _ {Plan : Type 0} (set : Setting Plan) (e : Outset) (walked : Place → B
       let input = input_stack e.outlook.swapped in
       let rest : ℕ → List VertexRecord = λ n. records_from set e w st.cell n (2 ^ set.axes - n) in
       let front : ℕ → VertexRecord × Machine → List VertexRecord × Machine = λ n it. (it.0 ∷ rest n, it.1) in
-      let whole : Kind → VertexRecord × Desk → VertexRecord × Machine = λ kind it. (it.0, record {
-        vertices = it.1.vertices;
-        cells = map_holdings (cell_at w) t.cells;
-        family = it.1.family;
-        tally = tally_load kind (is_none (source_of set st k)) w.tally;
-      }) in
+      let whole : Kind → VertexRecord × Desk → VertexRecord × Machine = λ kind it. (
+        it.0,
+        record {
+          vertices = it.1.vertices;
+          cells = map_holdings (cell_at w) t.cells;
+          family = it.1.family;
+          tally = tally_load kind (is_none (source_of set st k)) w.tally;
+        },
+      ) in
       let kind = e.foresight.kind vertex in
       let core = core_of set e st k w in
       let come : VertexRecord × Family → VertexRecord × Desk = λ it. (it.0, record { vertices = map_holdings (record_of set e w t) t'.vertices; family = it.1 }) in

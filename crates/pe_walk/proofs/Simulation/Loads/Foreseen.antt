@@ -1,6 +1,6 @@
 -- What is loaded is as foreseen: fresh, by the state table at its first touch, or as it waited.
-use Rattle.std.proofs.Common.{◌≡◌, ◌⊎◌, ◌≢◌, ℕ, ◌+◌, ◌^◌, ◌<◌, ◌≤◌, Bool, true, false, not, ◌&&◌, ◌==◌, List, [], ◌∷◌, Option, Some, None, refl, sym, ap, ap₂, subst, ◌∙◌, inl, inr, arith}
-use Rattle.std.specs.Prelude.{is_none, nat_lt, if◌then◌else◌, count_by}
+use Rattle.std.proofs.Common.{◌≡◌, ◌≢◌, ℕ, ◌^◌, ◌<◌, ◌≤◌, Bool, true, false, ◌&&◌, ◌==◌, List, [], ◌∷◌, Option, Some, None, refl, sym, ap, subst, ◌∙◌, inl, inr, arith}
+use Rattle.std.specs.Prelude.{if◌then◌else◌}
 use Rattle.std.specs.Option.{unwrap_or}
 use Rattle.std.proofs.lemmas.Bool.{le-ltb}
 use Rattle.std.proofs.lemmas.List.Sums.{sum_by-cons}
@@ -8,7 +8,6 @@ use Rattle.pe_base.specs.declared.place.Place.{Place}
 use Rattle.pe_base.specs.declared.way.Way.{Way}
 use Rattle.pe_base.specs.declared.kind.Kind.{Kind}
 use Rattle.pe_base.specs.declared.kind.Kind.TheVariants.{Kept, Born, Dying, Hanging}
-use Rattle.pe_base.specs.declared.state.State.{State}
 use Rattle.pe_base.specs.declared.state.State.TheVariants.{Unrefined, Refining}
 use Rattle.pe_base.specs.Tree.Dim.{IsDim}
 use Rattle.pe_base.specs.Tree.Places.{corner, is_same}
@@ -17,15 +16,14 @@ use Rattle.pe_base.specs.Life.Table.{first_touch, start_state}
 use Rattle.pe_base.specs.Steps.Routes.{stack_in}
 use Rattle.pe_base.specs.Steps.Faces.{stack_of}
 use Rattle.pe_base.specs.Acts.Effects.{VertexRecord}
-use Rattle.pe_base.specs.Walk.Maps.{at}
 use Rattle.pe_base.specs.Walk.Core.{Setting, Family, fresh_vertex, read_vertex}
-use Rattle.pe_base.specs.Walk.Working.{Working, no_vertex, vertex_at}
+use Rattle.pe_base.specs.Walk.Working.{no_vertex}
 use Rattle.pe_stacks.specs.Holdings.{Holdings, items_at, popped}
 use Rattle.pe_stacks.specs.Grid.{output_stack}
 use Rattle.pe_walk.specs.Laws.{IsCell}
 use Rattle.pe_walk.specs.Tokens.{Outlook, Tokens, is_top, given, taken}
-use Rattle.pe_walk.specs.CoreKeeps.{IsFinest, loaded}
-use Rattle.pe_walk.specs.Standing.{Foresight, Foresees, IsForeseen, StartsFinest, IsFair, IsIdle, IsLive, times}
+use Rattle.pe_walk.specs.CoreKeeps.{loaded}
+use Rattle.pe_walk.specs.Standing.{Foresight, IsForeseen, StartsFinest, IsFair, IsIdle, IsLive, times}
 use Rattle.pe_walk.proofs.Derived.{corners_cross_once}
 use Rattle.pe_walk.proofs.Tokens.Keeping.{given_some}
 use Rattle.pe_walk.proofs.Tokens.Apart.{one_if}

@@ -1,12 +1,12 @@
 -- A corner is loaded, in model and machine alike.
-use Rattle.std.proofs.Common.{◌≡◌, ◌≢◌, ℕ, zero, suc, ◌+◌, ◌-◌, ◌^◌, ◌<◌, ◌≤◌, Bool, true, false, not, ◌&&◌, ◌==◌, List, ◌∷◌, length, Option, Some, None, refl, sym, ap, ap₂, subst, ◌∙◌, arith}
+use Rattle.std.proofs.Common.{◌≡◌, ◌≢◌, ℕ, zero, suc, ◌-◌, ◌^◌, ◌<◌, ◌≤◌, Bool, true, false, not, ◌&&◌, ◌==◌, List, Option, Some, None, refl, sym, ap, ap₂, subst, ◌∙◌, arith}
 use Rattle.std.specs.Prelude.{is_none, if◌then◌else◌}
 use Rattle.std.proofs.Math.Bool.{and-false}
 use Rattle.std.proofs.lemmas.Bool.{eqb-true, eqb-false}
 use Rattle.pe_base.specs.declared.place.Place.{Place}
 use Rattle.pe_base.specs.declared.tally.Tally.{Tally}
 use Rattle.pe_base.specs.Tree.Dim.{IsDim}
-use Rattle.pe_base.specs.Tree.Places.{corner, parent_of, is_same}
+use Rattle.pe_base.specs.Tree.Places.{corner}
 use Rattle.pe_base.specs.Life.Kinds.{is_hanging}
 use Rattle.pe_base.specs.Steps.Routes.{stack_in}
 use Rattle.pe_base.specs.Acts.Effects.{VertexRecord}
@@ -25,7 +25,7 @@ use Rattle.pe_walk.specs.Standing.{Outset, Stage, Holds, Owes, IsForeseen, Start
 use Rattle.pe_walk.proofs.Unwalked.{cell_four}
 use Rattle.pe_walk.proofs.Tokens.Apart.{steps_keep_apart}
 use Rattle.pe_walk.proofs.Tokens.Short.{steps_keep_counting}
-use Rattle.pe_walk.proofs.Simulation.Matching.{Matches, Steps, some_same, core-matches, matches-same, mapped-done}
+use Rattle.pe_walk.proofs.Simulation.Matching.{Matches, some_same, core-matches, matches-same, mapped-done}
 use Rattle.pe_walk.proofs.Simulation.CoreLaws.{core_keeps}
 use Rattle.pe_walk.proofs.Simulation.LoadedKinds.{hangs_if, parent_long}
 use Rattle.pe_walk.proofs.Simulation.Levels.{levels_differ}

@@ -1,5 +1,5 @@
 -- What the load of a corner puts under its place, or under its cell where it hangs.
-use Rattle.std.proofs.Common.{◌≡◌, ◌≢◌, ℕ, ◌+◌, Bool, true, false, not, ◌&&◌, ◌==◌, List, ◌∷◌, Option, Some, refl, sym, ap, ◌∙◌, arith}
+use Rattle.std.proofs.Common.{◌≡◌, ◌≢◌, ℕ, ◌+◌, Bool, true, false, not, ◌&&◌, ◌==◌, ◌∷◌, Some, refl, ap, ◌∙◌, arith}
 use Rattle.std.specs.Prelude.{nat_eq, is_some, if◌then◌else◌}
 use Rattle.std.specs.Option.{unwrap_or}
 use Rattle.std.specs.Cmp.Lexicographic.{pointwise}
@@ -8,13 +8,12 @@ use Rattle.std.proofs.lemmas.Bool.{ne_eqb}
 use Rattle.pe_base.specs.declared.place.Place.{Place}
 use Rattle.pe_base.specs.declared.kind.Kind.{Kind}
 use Rattle.pe_base.specs.declared.kind.Kind.TheVariants.{Kept, Born, Dying, Hanging}
-use Rattle.pe_base.specs.declared.tally.Tally.{Tally}
 use Rattle.pe_base.specs.Tree.Places.{corner, is_same}
 use Rattle.pe_base.specs.Life.Kinds.{is_hanging}
 use Rattle.pe_base.specs.Acts.Effects.{VertexRecord}
-use Rattle.pe_base.specs.Walk.Maps.{at, at_corner, put}
+use Rattle.pe_base.specs.Walk.Maps.{at, at_corner}
 use Rattle.pe_base.specs.Walk.Core.{Setting}
-use Rattle.pe_base.specs.Walk.Working.{Working, loads_of, record_at, put_vertex, loaded_again, put_hanging}
+use Rattle.pe_base.specs.Walk.Working.{Working, loads_of, put_vertex, loaded_again}
 use Rattle.pe_base.specs.Walk.Touches.{put_loaded}
 use Rattle.pe_base.proofs.Walk.MapLaws.{is_key, at-put, found-changed}
 use Rattle.pe_base.proofs.Walk.Slots.{is_hung}

@@ -1,8 +1,7 @@
 -- What holds at the stage after the load of a corner: of the places, of the records, and of counts.
-use Rattle.std.proofs.Common.{◌≡◌, ◌⊎◌, ℕ, zero, suc, ◌+◌, ◌-◌, ◌^◌, ◌<◌, ◌≤◌, ◌≢◌, Bool, true, false, not, ◌&&◌, ◌||◌, ◌==◌, List, ◌∷◌, length, Option, Some, None, refl, sym, ap, ap₂, subst, ◌∙◌, inl, inr, true≢false, arith}
-use Rattle.std.specs.Prelude.{nat_eq, nat_le, nat_lt, is_some, if◌then◌else◌}
+use Rattle.std.proofs.Common.{◌≡◌, ◌⊎◌, ℕ, zero, suc, ◌+◌, ◌^◌, ◌<◌, ◌≤◌, ◌≢◌, Bool, true, false, not, ◌&&◌, ◌||◌, ◌==◌, ◌∷◌, Option, Some, None, refl, sym, ap, ap₂, subst, ◌∙◌, inl, inr, true≢false, arith}
+use Rattle.std.specs.Prelude.{nat_le, nat_lt, is_some, if◌then◌else◌}
 use Rattle.std.specs.Option.{unwrap_or}
-use Rattle.std.specs.Cmp.Lexicographic.{pointwise}
 use Rattle.std.proofs.Math.Bool.{and-false}
 use Rattle.std.proofs.lemmas.Bool.{lt-ltb, ne_eqb}
 use Rattle.std.proofs.lemmas.Bool.Decides.{nat_tests}
@@ -25,7 +24,7 @@ use Rattle.pe_stacks.specs.Holdings.{Holdings, stack_count, stack_at, items_at, 
 use Rattle.pe_stacks.specs.Grid.{output_stack}
 use Rattle.pe_walk.specs.Tokens.{Outlook, Tokens, cells_before}
 use Rattle.pe_walk.specs.Apart.{lies, occurs}
-use Rattle.pe_walk.specs.Standing.{Foresight, Outset, Stage, CellsAhead, Stands, Fair, Owes, IsLive, IsFair, IsIdle, IsWritten, times}
+use Rattle.pe_walk.specs.Standing.{Foresight, Outset, Stage, Stands, Fair, Owes, IsLive, IsFair, IsIdle, IsWritten, times}
 use Rattle.pe_walk.proofs.Tests.{or_right_true}
 use Rattle.pe_walk.proofs.Tokens.Apart.{one_if}
 use Rattle.pe_walk.proofs.Tokens.Stacks.{same_or_other}
