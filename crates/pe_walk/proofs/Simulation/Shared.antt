@@ -19,6 +19,9 @@ use Rattle.pe_base.proofs.Faces.Bridge.{same_places}
 use Rattle.pe_base.proofs.Walk.MapLaws.{at-put}
 use Rattle.pe_base.proofs.Walk.Slots.{Slot, stored, hangs, write, is_hung, write_all}
 use Rattle.pe_base.proofs.Walk.Families.{slots_from, put_records-is, beside-put_records}
+use Rattle.pe_base.specs.Steps.Faces.{stack_of}
+use Rattle.pe_base.specs.Steps.Stacks.{AcrossNone, AcrossOne}
+use Rattle.pe_stacks.specs.Grid.{output_stack}
 use Rattle.pe_stacks.specs.Holdings.{Holdings, Stack, new_stack, stack_count, stack_at, items_at, len_at, lent, given_up, pushed, popped}
 use Rattle.pe_hang.specs.InHand.{map_holdings}
 use Rattle.pe_hang.specs.Moves.{allowed, may_rise, lend, give_up, top_of, pop, push}
@@ -123,6 +126,19 @@ vertices-image set e w w' t t' held same =
     map_holdings-same (record_of set e w' t') (record_of set e w t) held
     (on_stacks (λ x. record_of set e w' t' x ≡ record_of set e w t x) held
     (λ x some. let k = same x some in ap₂ (λ (n : ℕ) (found : Option VertexRecord). let it : VertexRecord = unwrap_or found no_vertex in if n == 0 then (record it { kind = e.stale x }) else it) k.1 k.0))
+
+-- the stack on which a corner waits between two cells is not the output
+pub across_apart : (axes : ℕ) (vertex cell : Place) (stack : Option ℕ) (follows : Place → Bool) (swapped : Bool) → axes ≤ 4 → AcrossNone stack follows ⊎ AcrossOne axes vertex cell stack follows
+    → (s : ℕ) → stack ≡ Some s → s ≢ output_stack swapped
+across_apart axes vertex cell stack follows swapped four (inl none) s e out = absurd (let no = none.no_stack in cc)
+across_apart axes vertex cell stack follows swapped four (inr one) s e out =
+    let at : Some (stack_of one.face cell) ≡ Some s = sym one.its_stack ∙ e in
+    let is : stack_of one.face cell ≡ s = cc in
+    omega (arith, is, one.is_face.0, four, far swapped, out)
+  where
+    far : (b : Bool) → 8 ≤ output_stack b
+    far true = omega arith
+    far false = omega arith
 
 -- # After the family of the parent was put back
 -- a place that is not held is no corner of the parent that is stored

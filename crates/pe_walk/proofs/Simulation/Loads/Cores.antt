@@ -83,6 +83,13 @@ module _ {Plan : Type 0} (set : Setting Plan) (e : Outset) (walked : Place → B
   pub counts_if : is_hanging (e.foresight.kind (vertex_of set st k)) ≡ false → e.outlook.counts (vertex_of set st k) ≡ true
   counts_if stays = is.foresees.counts (vertex_of set st k) ∙ ap not stays
 
+  pub stays_if : e.outlook.counts (vertex_of set st k) ≡ true → is_hanging (e.foresight.kind (vertex_of set st k)) ≡ false
+  stays_if on = stays (is_hanging (e.foresight.kind (vertex_of set st k))) (sym (is.foresees.counts (vertex_of set st k)) ∙ on)
+    where
+      stays : (b : Bool) → not b ≡ true → b ≡ false
+      stays true h = absurd cc
+      stays false h = refl
+
   -- the model
   pub model_is : model.load_corner set st.parent st.cell k w ≡ course_map (working_after set e st k w) (core_of set e st k w)
   model_is =
@@ -114,14 +121,10 @@ module _ {Plan : Type 0} (set : Setting Plan) (e : Outset) (walked : Place → B
       let vertex = vertex_of set st k in
       let see = is.foresees in
       comes-counting set (record_of set e w t) t.vertices t'.vertices vertex (vertex_at w vertex) (family_of set.axes w st.parent) may_take (input_stack e.outlook.swapped) (e.foresight.kind vertex) (source_of set st k) (e.outlook.reads vertex)
-      (stays (is_hanging (e.foresight.kind vertex)) (sym (see.counts vertex) ∙ on)) (sym (see.reads vertex))
+      (stays_if on) (sym (see.reads vertex))
       (ap₂ (λ n u. taken (first_of (stack_in n u vertex st.cell) (given (e.outlook.reads vertex) (Some (input_stack e.outlook.swapped)))) vertex t.vertices) (sym see.axes) (sym see.ways) ∙ loads.took on)
       (λ first. read_alike (e.foresight.kind vertex) (met_first on ∙ first))
       (λ later. ap (λ b. let it : VertexRecord = if b then (record (vertex_at w vertex) { kind = e.stale vertex }) else vertex_at w vertex in it) (met_first on ∙ later))
-    where
-      stays : (b : Bool) → not b ≡ true → b ≡ false
-      stays true h = absurd cc
-      stays false h = refl
   comes_by false off =
       let vertex = vertex_of set st k in
       subst (λ kind. Comes set (record_of set e w t) t.vertices t'.vertices vertex (vertex_at w vertex) (family_of set.axes w st.parent) may_take (input_stack e.outlook.swapped) kind (source_of set st k))

@@ -25,6 +25,7 @@ use Rattle.pe_walk.specs.Tokens.{Outlook, Tokens, is_top, given, taken}
 use Rattle.pe_walk.specs.CoreKeeps.{loaded}
 use Rattle.pe_walk.specs.Standing.{Foresight, IsForeseen, StartsFinest, IsFair, IsIdle, IsLive, times}
 use Rattle.pe_walk.proofs.Derived.{corners_cross_once}
+use Rattle.pe_walk.proofs.Simulation.Shared.{across_apart}
 use Rattle.pe_walk.proofs.Tokens.Keeping.{given_some}
 use Rattle.pe_walk.proofs.Tokens.Apart.{one_if}
 
@@ -76,21 +77,8 @@ waited o t after axes way cell k s dim is_cell small from took met = inr (s, apa
     vertex : Place
     vertex = corner axes cell k
 
-    far : (b : Bool) → 8 ≤ output_stack b
-    far true = omega arith
-    far false = omega arith
-
     apart : s ≢ output_stack o.swapped
-    apart out = elim (corners_cross_once axes way cell k dim is_cell small).comes [
-      | inl none ↦ absurd (let no = none.no_stack in cc)
-      | inr one ↦
-          let at : Some (stack_of one.face cell) ≡ Some s = sym one.its_stack ∙ from in
-          let is : stack_of one.face cell ≡ s = cc in
-          let few = one.is_face.0 in
-          let four = dim.1 in
-          let high = far o.swapped in
-          omega (arith, is, few, four, high, out)
-    ]
+    apart = across_apart axes vertex cell (stack_in axes way vertex cell) _ o.swapped dim.1 (corners_cross_once axes way cell k dim is_cell small).comes s from
 
     lay : (xs : List Place) → items_at t.vertices s ≡ xs → given (is_top vertex xs) (Some (popped t.vertices s)) ≡ Some after → 1 ≤ times (items_at t.vertices s) vertex
     lay [] e run = absurd cc

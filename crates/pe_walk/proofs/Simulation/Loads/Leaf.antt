@@ -34,7 +34,7 @@ use Rattle.pe_walk.proofs.Simulation.Leaves.{in_hand, after_load, load_before, L
 use Rattle.pe_walk.proofs.Simulation.Shared.{idle-alike, fair-alike, PutsBack, has_put}
 use Rattle.pe_walk.proofs.Simulation.Loads.Places.{LoadsPlace, loads_place}
 use Rattle.pe_walk.proofs.Simulation.Loads.Records.{LoadsRecord, loads_record, hung_elsewhere}
-use Rattle.pe_walk.proofs.Simulation.Loads.Cores.{vertex_of, source_of, core_of, working_after, hand_after, met_first, model_is, machine_is}
+use Rattle.pe_walk.proofs.Simulation.Loads.Cores.{vertex_of, source_of, core_of, working_after, hand_after, met_first, stays_if, model_is, machine_is}
 use Rattle.pe_walk.proofs.Simulation.Loads.Foreseen.{loads_idle, loads_first, loads_later, waited}
 use Rattle.pe_walk.proofs.Simulation.Loads.Afters.{HasLoaded, vertices_seen, cells_seen, records_seen}
 use Rattle.pe_walk.proofs.Simulation.Loads.Stages.{stands_after, fair_after, owes_after}
@@ -53,12 +53,8 @@ module _ {Plan : Type 0} (set : Setting Plan) (e : Outset) (walked : Place → B
       family : Family
       family = family_of set.axes w st.parent
 
-      stays : (b : Bool) → not b ≡ true → b ≡ false
-      stays true h = absurd cc
-      stays false h = refl
-
       counts : is_hanging (e.foresight.kind vertex) ≡ false
-      counts = stays (is_hanging (e.foresight.kind vertex)) (sym (is.foresees.counts vertex) ∙ on)
+      counts = stays_if set e walked is st stage k small w t t' holds loads on
 
       go : (from : Option ℕ) → source_of set st k ≡ from
           → IsFair e.foresight (set.rules.greatest set.plan) vertex (Some (loaded set (e.foresight.kind vertex) (is_none (source_of set st k)) (vertex_at w vertex) vertex family))

@@ -6,7 +6,6 @@ use Rattle.pe_base.specs.declared.way.Way.{Way}
 use Rattle.pe_base.specs.Tree.Dim.{IsDim}
 use Rattle.pe_base.specs.Tree.Places.{corner}
 use Rattle.pe_base.specs.Steps.Routes.{stack_out}
-use Rattle.pe_base.specs.Steps.Faces.{stack_of}
 use Rattle.pe_stacks.specs.Grid.{output_stack}
 use Rattle.pe_walk.specs.Laws.{IsCell}
 use Rattle.pe_walk.specs.Tokens.{Outlook, Tokens, given, first_of, touch_of, target, store_it, store}
@@ -17,6 +16,7 @@ use Rattle.pe_walk.proofs.Tokens.Keeping.{given_some}
 use Rattle.pe_walk.proofs.Tokens.Walks.{goes_within}
 use Rattle.pe_walk.proofs.Tokens.Apart.{steps_keep_apart}
 use Rattle.pe_walk.proofs.Tokens.Short.{steps_keep_counting}
+use Rattle.pe_walk.proofs.Simulation.Shared.{across_apart}
 use Rattle.pe_walk.proofs.Simulation.Stores.Places.{stored}
 
 -- to the next cell around it, or to the output if it is written; and nowhere if it does not count
@@ -59,17 +59,5 @@ goes_by o axes way cell k t after same turn dim is_cell below run =
 -- the stack of the next cell is not the output
 pub waits_apart : (axes : ℕ) (way : Way) (cell : Place) (k : ℕ) (swapped : Bool) → IsDim axes → IsCell axes way cell → k < 2 ^ axes
     → (s : ℕ) → stack_out axes way (corner axes cell k) cell ≡ Some s → s ≢ output_stack swapped
-waits_apart axes way cell k swapped dim is_cell below s e out = elim (corners_cross_once axes way cell k dim is_cell below).goes [
-  | inl none ↦ absurd (let no = none.no_stack in cc)
-  | inr one ↦
-      let at : Some (stack_of one.face cell) ≡ Some s = sym one.its_stack ∙ e in
-      let is : stack_of one.face cell ≡ s = cc in
-      let few = one.is_face.0 in
-      let four = dim.1 in
-      let high = far swapped in
-      omega (arith, is, few, four, high, out)
-]
-  where
-    far : (b : Bool) → 8 ≤ output_stack b
-    far true = omega arith
-    far false = omega arith
+waits_apart axes way cell k swapped dim is_cell below s e =
+    across_apart axes (corner axes cell k) cell (stack_out axes way (corner axes cell k) cell) _ swapped dim.1 (corners_cross_once axes way cell k dim is_cell below).goes s e
