@@ -2,8 +2,6 @@
 
 -- all corners of a cell
 pub mod Corners
--- what it leaves of the places
-pub mod Frames
 -- going down to children, and coming back
 pub mod Inside
 -- the walks of children

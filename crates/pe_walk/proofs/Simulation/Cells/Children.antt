@@ -6,6 +6,7 @@ use Rattle.std.proofs.lemmas.Bool.{ne_eqb}
 use Rattle.pe_base.specs.declared.place.Place.{Place}
 use Rattle.pe_base.specs.declared.kind.Kind.{Kind}
 use Rattle.pe_base.specs.declared.kind.Kind.TheVariants.{Kept, Born, Dying, Hanging}
+use Rattle.pe_base.specs.Tree.Dim.{IsDim}
 use Rattle.pe_base.specs.Tree.Places.{parent_of}
 use Rattle.pe_base.specs.Tree.Curve.{children}
 use Rattle.pe_base.specs.Life.Kinds.{is_hanging}
@@ -19,19 +20,21 @@ use Rattle.pe_base.specs.Walk.Streams.{if_walks, walked_children, walked_cells}
 use Rattle.pe_base.proofs.Lists.{Each, Each-weaker}
 use Rattle.pe_base.proofs.Walk.Frames.{KeepsAbove, KeepsUp, up-each, walk_cell-keeps}
 use Rattle.pe_walk.specs.Machine.{Machine}
+use Rattle.pe_walk.specs.Laws.{IsCell}
 use Rattle.pe_walk.specs.Machine as machine
 use Rattle.pe_walk.specs.Tokens.{Tokens, given, each_some}
 use Rattle.pe_walk.specs.Tokens as tokens
+use Rattle.pe_walk.specs.Frames.{LeavesAbove}
 use Rattle.pe_walk.specs.Standing.{Outset, Stage, IsStage, Holds, IsOutset}
 use Rattle.pe_walk.proofs.Unwalked.{in_contains, cell_four}
 use Rattle.pe_walk.proofs.Trees.{child_is_cell}
 use Rattle.pe_walk.proofs.Outlooks.{kids_parent}
 use Rattle.pe_walk.proofs.Tokens.Walks.{each_with}
+use Rattle.pe_walk.proofs.Tokens.WalkFrames.{what_walks_leave}
 use Rattle.pe_walk.proofs.Simulation.Matching.{Steps, Sim, Along, some_same, done_same, sim-along, sim-weaker, mapped-matches}
 use Rattle.pe_walk.proofs.Simulation.Below.{below_by_marks, mine_marked}
 use Rattle.pe_walk.proofs.Simulation.Leaves.{image_of, own_in_hand, ports, WalkSim}
 use Rattle.pe_walk.proofs.Simulation.Cells.Corners.{stage_of}
-use Rattle.pe_walk.proofs.Simulation.Cells.Frames.{KeepsPlaces, KeepsAll, each-places, walk-places}
 use Rattle.pe_walk.proofs.Simulation.Cells.Inside.{at_child, with_ahead, IsOpen, own_flag, records_of-kept, cell_at-kept, down-holds, next-holds, back-holds}
 
 module _ {Plan : Type 0} (set : Setting Plan) (e : Outset) (walked : Place → Bool) (room : Push → Type 0) (is : IsOutset set e walked) where
@@ -46,17 +49,17 @@ module _ {Plan : Type 0} (set : Setting Plan) (e : Outset) (walked : Place → B
   kids cell = children set.axes e.outlook.way cell
 
   -- each has a stage
-  kids_stages : (st : Stage) → IsStage set.axes e.outlook st → e.outlook.walks st.cell ≡ true → Each (λ c. IsStage set.axes e.outlook (at_child set.axes st c)) (kids st.cell)
-  kids_stages st stage goes =
+  pub kids_stages : (st : Stage) → IsCell set.axes e.outlook.way st.cell → e.outlook.walks st.cell ≡ true → Each (λ c. IsStage set.axes e.outlook (at_child set.axes st c)) (kids st.cell)
+  kids_stages st is_cell goes =
       let four = is.foresees.dim.1 in
       Each-weaker _ (λ c. IsStage set.axes e.outlook (at_child set.axes st c))
       (λ c i. record {
-        cell = child_is_cell set.axes e.outlook.way st.cell c four stage.cell (in_contains (kids st.cell) c i.0);
+        cell = child_is_cell set.axes e.outlook.way st.cell c four is_cell (in_contains (kids st.cell) c i.0);
         above = i.1.1;
         deep = omega (arith, i.1.0);
         walked = goes;
       })
-      (kids st.cell) (each_with (λ c. (c.level ≡ st.cell.level + 1) × (parent_of c ≡ st.cell)) (kids st.cell) (kids_parent set.axes e.outlook.way st.cell four (cell_four set.axes e.outlook.way st.cell four stage.cell)))
+      (kids st.cell) (each_with (λ c. (c.level ≡ st.cell.level + 1) × (parent_of c ≡ st.cell)) (kids st.cell) (kids_parent set.axes e.outlook.way st.cell four (cell_four set.axes e.outlook.way st.cell four is_cell)))
 
   module _ (levels : ℕ) (sim : WalkSim set e room levels) where
     -- the cells of the walks of some children
@@ -87,10 +90,10 @@ module _ {Plan : Type 0} (set : Setting Plan) (e : Outset) (walked : Place → B
 
     -- the children are walked, and the machine comes back from them
     walked_steps : (st : Stage) (rest cells : List Place) → Each (λ c. IsStage set.axes e.outlook (at_child set.axes st c)) cells → IsOpen st → st.ahead ≡ cells_of cells ++ rest
-        → (w : Working) (t t' : Tokens) → Holds set e st w t → each_some (tokens.walk e.outlook levels) cells t ≡ Some t'
+        → (w : Working) (t t' : Tokens) → Holds set e st w t → each_some (tokens.walk e.outlook levels) cells t ≡ Some t' → LeavesAbove e.outlook (suc st.cell.level) t t'
         → Steps room (own_in_hand set e (with_ahead rest st)) (Holds set e (with_ahead rest st)) (each (walks.walk_cell set levels st.cell) cells w)
         (course_map (machine.outside set (ports set e room) (image_of set e st.parent w t)) (each (machine.walk_cell set (ports set e room) (suc levels)) cells (image_of set e st.cell w t))) t'
-    walked_steps st rest cells stages full ahead w t t' h k =
+    walked_steps st rest cells stages full ahead w t t' h k places =
         let inside = subst (λ a. Holds set e (at_child set.axes (with_ahead a st) st.cell) w t) ahead (down-holds set e st st.cell w t full h) in
         let steps = sim-along room (λ left. Holds set e (between st rest left)) (image_of set e st.cell) (walks.walk_cell set levels st.cell) (machine.walk_cell set (ports set e room) (suc levels)) (tokens.walk e.outlook levels) cells
             (children_along st rest cells stages) w t t' inside k in
@@ -105,11 +108,6 @@ module _ {Plan : Type 0} (set : Setting Plan) (e : Outset) (walked : Place → B
         keeps v q = up-each st.cell.level set (walks.walk_cell set levels st.cell) cells
             (Each-weaker (λ c. IsStage set.axes e.outlook (at_child set.axes st c)) (λ c. (u : Working) → KeepsUp st.cell.level set u (walks.walk_cell set levels st.cell c u))
             (λ c stage u. walk_cell-keeps st.cell.level set levels st.cell c (omega arith) (below_it st c stage) u) cells stages) w v q
-
-        places : KeepsPlaces (st.cell.level + 1) t t'
-        places = each-places (st.cell.level + 1) (tokens.walk e.outlook levels) cells
-            (Each-weaker (λ c. IsStage set.axes e.outlook (at_child set.axes st c)) (λ c. KeepsAll (st.cell.level + 1) (tokens.walk e.outlook levels c))
-            (λ c stage. walk-places (st.cell.level + 1) e.outlook levels c (omega (arith, below_it st c stage))) cells stages) t t' k
 
         comes_back : (v : Working) → KeepsAbove st.cell.level w v → machine.outside set (ports set e room) (image_of set e st.parent w t) (image_of set e st.cell v t') ≡ own_in_hand set e (with_ahead rest st) v t'
         comes_back v above =
@@ -186,11 +184,14 @@ module _ {Plan : Type 0} (set : Setting Plan) (e : Outset) (walked : Place → B
           → Steps room (own_in_hand set e (with_ahead rest st)) (Holds set e (with_ahead rest st)) (walk w) (within (suc levels) st.cell (own_in_hand set e st w t)) t'
       after_children goes ahead k =
           let same : children e.outlook.axes e.outlook.way st.cell ≡ kids st.cell = ap (λ axes. children axes e.outlook.way st.cell) is.foresees.axes in
+          let dim = subst IsDim (sym is.foresees.axes) is.foresees.dim in
+          let cell = subst (λ axes. IsCell axes e.outlook.way st.cell) (sym is.foresees.axes) stage.cell in
           subst (λ cells. Steps room (own_in_hand set e (with_ahead rest st)) (Holds set e (with_ahead rest st)) (each (walks.walk_cell set levels st.cell) cells w)
           (course_map (machine.outside set (ports set e room) (image_of set e st.parent w t)) (each (machine.walk_cell set (ports set e room) (suc levels)) cells (image_of set e st.cell w t))) t')
           (ap (λ way. children set.axes way st.cell) is.foresees.ways)
-          (walked_steps levels sim st rest (kids st.cell) (kids_stages st stage goes) full
-          (ahead ∙ ap (λ cells. cells_of levels sim cells ++ rest) same) w t t' h (subst (λ cells. each_some (tokens.walk e.outlook levels) cells t ≡ Some t') same k))
+          (walked_steps levels sim st rest (kids st.cell) (kids_stages st stage.cell goes) full
+          (ahead ∙ ap (λ cells. cells_of levels sim cells ++ rest) same) w t t' h (subst (λ cells. each_some (tokens.walk e.outlook levels) cells t ≡ Some t') same k)
+          ((what_walks_leave e.outlook dim).children_walked levels st.cell t t' cell (record { vertices = h.stands.stacks; cells = h.stands.cell_stacks }) k))
 
       go : (kind : Kind) (b : Bool) → e.outlook.walks st.cell ≡ b → b ≡ not (is_hanging kind)
           → st.ahead ≡ flat_map (walked_cells e.outlook.axes e.outlook.way e.outlook.walks levels) (if_walks e.outlook.axes e.outlook.way e.outlook.walks b (children e.outlook.axes e.outlook.way st.cell)) ++ rest

@@ -1,5 +1,5 @@
 -- Going down to the children of a cell, from one to the next, and coming back.
-use Rattle.std.proofs.Common.{◌≡◌, ℕ, ◌+◌, ◌*◌, ◌^◌, ◌<◌, ◌≤◌, Bool, true, false, not, ◌&&◌, List, [], length, Option, refl, sym, ap, ap₂, subst, ◌∙◌, inl, inr, arith}
+use Rattle.std.proofs.Common.{◌≡◌, ℕ, suc, ◌+◌, ◌*◌, ◌^◌, ◌<◌, ◌≤◌, Bool, true, false, not, ◌&&◌, List, [], length, Option, refl, sym, ap, ap₂, subst, ◌∙◌, inl, inr, arith}
 use Rattle.std.specs.Prelude.{nat_le, nat_lt}
 use Rattle.std.specs.Option.{unwrap_or}
 use Rattle.std.specs.List.{range_with_len}
@@ -16,8 +16,8 @@ use Rattle.pe_base.proofs.Walk.Frames.{levels_differ, KeepsAbove}
 use Rattle.pe_base.proofs.Walk.Slots.{is_hung}
 use Rattle.pe_stacks.specs.Holdings.{len_at}
 use Rattle.pe_walk.specs.Tokens.{Outlook, Tokens}
+use Rattle.pe_walk.specs.Frames.{LeavesAbove}
 use Rattle.pe_walk.specs.Standing.{Foresight, Outset, Stage, times, Stands, Fair, IsIdle, Owes, Holds}
-use Rattle.pe_walk.proofs.Simulation.Cells.Frames.{KeepsPlaces}
 
 -- four tests
 all_pass : (a b c d : Bool) → a ≡ true → b ≡ true → c ≡ true → (a && b && c && d) ≡ d
@@ -126,7 +126,7 @@ module _ (axes : ℕ) (o : Outlook) where
     ahead = s.ahead;
   }
 
-  back-stands : (st : Stage) (child : Place) (t t' : Tokens) → IsOpen st → KeepsPlaces (st.cell.level + 1) t t' → Stands axes o st t → (rest : List Place) → Stands axes o (at_child axes (with_ahead rest st) child) t'
+  back-stands : (st : Stage) (child : Place) (t t' : Tokens) → IsOpen st → LeavesAbove o (suc st.cell.level) t t' → Stands axes o st t → (rest : List Place) → Stands axes o (at_child axes (with_ahead rest st) child) t'
       → Stands axes o (with_ahead rest st) t'
   back-stands st child t t' is keeps s rest inner = record {
     apart = inner.apart;
@@ -220,7 +220,7 @@ module _ {Plan : Type 0} (set : Setting Plan) (e : Outset) where
     owes = same-owes set.axes set.max_cells e st (record st { cell = other }) w.tally t (omega arith, refl, refl, refl, refl) h.owes;
   }
 
-  pub back-holds : (st : Stage) (child : Place) (w w' : Working) (t t' : Tokens) → IsOpen st → KeepsAbove st.cell.level w w' → KeepsPlaces (st.cell.level + 1) t t' → Holds set e st w t → (rest : List Place)
+  pub back-holds : (st : Stage) (child : Place) (w w' : Working) (t t' : Tokens) → IsOpen st → KeepsAbove st.cell.level w w' → LeavesAbove e.outlook (suc st.cell.level) t t' → Holds set e st w t → (rest : List Place)
       → Holds set e (at_child set.axes (with_ahead rest st) child) w' t' → Holds set e (with_ahead rest st) w' t'
   back-holds st child w w' t t' is above places h rest inner = record {
     stands = back-stands set.axes e.outlook st child t t' is places h.stands rest inner.stands;
