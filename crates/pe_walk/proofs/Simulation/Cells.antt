@@ -8,3 +8,5 @@ pub mod Inside
 pub mod Children
 -- the walk of a cell
 pub mod Walks
+-- from the first event of a traversal to the last
+pub mod Roots

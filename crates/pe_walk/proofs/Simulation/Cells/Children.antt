@@ -45,7 +45,7 @@ module _ {Plan : Type 0} (set : Setting Plan) (e : Outset) (walked : Place → B
       (λ k small. mine_marked set e walked is st w t h stage k (omega (arith, full.all)) small (own_flag set.axes e.outlook (set.rules.greatest set.plan) e.foresight st w t full h.fair k small))
 
   -- the children of a cell
-  abbrev kids : Place → List Place
+  abbrev pub kids : Place → List Place
   kids cell = children set.axes e.outlook.way cell
 
   -- each has a stage
@@ -63,14 +63,14 @@ module _ {Plan : Type 0} (set : Setting Plan) (e : Outset) (walked : Place → B
 
   module _ (levels : ℕ) (sim : WalkSim set e room levels) where
     -- the cells of the walks of some children
-    abbrev cells_of : List Place → List Place
+    abbrev pub cells_of : List Place → List Place
     cells_of cells = flat_map (walked_cells e.outlook.axes e.outlook.way e.outlook.walks levels) cells
 
     -- the stage between the children, of which some are ahead
-    abbrev between : Stage → List Place → List Place → Stage
+    abbrev pub between : Stage → List Place → List Place → Stage
     between st rest cells = at_child set.axes (with_ahead (cells_of cells ++ rest) st) st.cell
 
-    children_along : (st : Stage) (rest cells : List Place) → Each (λ c. IsStage set.axes e.outlook (at_child set.axes st c)) cells
+    pub children_along : (st : Stage) (rest cells : List Place) → Each (λ c. IsStage set.axes e.outlook (at_child set.axes st c)) cells
         → Along room (λ left. Holds set e (between st rest left)) (image_of set e st.cell) (walks.walk_cell set levels st.cell) (machine.walk_cell set (ports set e room) (suc levels)) (tokens.walk e.outlook levels) cells
     children_along st rest [] stages = tt
     children_along st rest (c ∷ cells) stages =
