@@ -10,3 +10,5 @@ pub mod Children
 pub mod Walks
 -- from the first event of a traversal to the last
 pub mod Roots
+-- both, by the proofs of the steps
+pub mod Simulated
