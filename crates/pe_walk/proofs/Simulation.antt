@@ -34,3 +34,5 @@ pub mod Loads
 pub mod Stores
 -- the walk of a cell, from its steps
 pub mod Cells
+-- a grid on stacks is an image
+pub mod Begins

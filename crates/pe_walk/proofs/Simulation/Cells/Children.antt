@@ -96,7 +96,7 @@ module _ {Plan : Type 0} (set : Setting Plan) (e : Outset) (walked : Place → B
     walked_steps st rest cells stages full ahead w t t' h k places =
         let inside = subst (λ a. Holds set e (at_child set.axes (with_ahead a st) st.cell) w t) ahead (down-holds set e st st.cell w t full h) in
         let steps = sim-along room (λ left. Holds set e (between st rest left)) (image_of set e st.cell) (walks.walk_cell set levels st.cell) (machine.walk_cell set (ports set e room) (suc levels)) (tokens.walk e.outlook levels) cells
-            (children_along st rest cells stages) w t t' inside k in
+        (children_along st rest cells stages) w t t' inside k in
         record {
           same = mapped-matches room (λ v. image_of set e st.cell v t') (λ v. own_in_hand set e (with_ahead rest st) v t') (machine.outside set (ports set e room) (image_of set e st.parent w t))
               (each (walks.walk_cell set levels st.cell) cells w) (each (machine.walk_cell set (ports set e room) (suc levels)) cells (image_of set e st.cell w t)) steps.same
