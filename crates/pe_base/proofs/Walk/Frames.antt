@@ -114,7 +114,7 @@ module _ (level : ℕ) where
   above-changed_corner : (cell : Place) (k : ℕ) (v : Option VertexRecord) (w : Working) → level < cell.level → KeepsAbove level w (record w { hanging = changed w.hanging k (cell.level ∷ cell.pos) v })
   above-changed_corner cell k v w low =
       let other : (x : Place) (j : ℕ) → x.level ≤ level → at_corner (changed w.hanging k (cell.level ∷ cell.pos) v) x j ≡ at_corner w.hanging x j = λ x j up.
-          found-changed w.hanging k (cell.level ∷ cell.pos) v j (x.level ∷ x.pos) ∙ ap (λ t. if t then v else at_corner w.hanging x j) (key_apart k cell j x (λ e. absurd (omega arith))) in
+      found-changed w.hanging k (cell.level ∷ cell.pos) v j (x.level ∷ x.pos) ∙ ap (λ t. if t then v else at_corner w.hanging x j) (key_apart k cell j x (λ e. absurd (omega arith))) in
       record { vertices = λ q up. refl; cells = λ x up. refl; hanging = λ x j up. other x j (omega (arith, up)); hung = λ x j up. ap is_some (other x j up) }
 
   module _ {Plan : Type 0} (set : Setting Plan) where
