@@ -34,5 +34,7 @@ pub mod Loads
 pub mod Stores
 -- the walk of a cell, from its steps
 pub mod Cells
+-- the corners of the root
+pub mod RootCorners
 -- a grid on stacks is an image
 pub mod Begins
