@@ -38,3 +38,5 @@ pub mod Cells
 pub mod RootCorners
 -- a grid on stacks is an image
 pub mod Begins
+-- a traversal of a grid as it begins
+pub mod Starts
