@@ -2,6 +2,8 @@
 
 -- places of corners, and their numbers
 pub mod CornerPlaces
+-- an error that is passed on
+pub mod Errors
 -- records as they come to hand
 pub mod Records
 -- the load of a corner of a kind that is known, and its store

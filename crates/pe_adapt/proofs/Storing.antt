@@ -16,9 +16,9 @@ use Rattle.pe_hang.specs.Moves.{give_up, push, MayPush}
 use Rattle.pe_hang.specs.Follows.{Follows, Fits, Failure, Found, IsRoomier, HasOverfull, held_by, read_by}
 use Rattle.pe_hang.proofs.Leading.{and_then-fits, follows-map, leads_start, leads_rest, leads_next, leads_err, leads_last}
 use Rattle.pe_hang.proofs.Moving.{give_up-is, push-may, push-is}
-use Rattle.pe_adapt.specs.declared.stop.WalkStop.{WalkStop}
-use Rattle.pe_adapt.specs.declared.stop.WalkStop.TheVariants.{Memory as OutOfMemory}
-use Rattle.pe_adapt.specs.Stops.{failure_of}
+use Rattle.pe_adapt.specs.declared.stop.Halt.{Halt}
+use Rattle.pe_adapt.specs.declared.stop.Halt.TheVariants.{Memory as ForMemory}
+use Rattle.pe_adapt.specs.Stops.{failure_of_halt}
 use Rattle.pe_adapt.specs.Touches.{Desk, goes, stack_or, store_as}
 use Rattle.pe_adapt.proofs.Loading.{desk}
 
@@ -35,19 +35,19 @@ room-kept held held' room room' s (Err e) keeps same none =
     omega (arith, keeps s, len, none)
 
 -- a record is put on a stack, or there is no room
-pub put-follows : {X : Type 0} (f : X → VertexRecord) (s : ℕ) (x : X) (held held' : Holdings X) (room cells : ℕ → ℕ) (told : Told) (sure : Bool) (result : Result (Unit {0}) WalkStop)
-    → Fits (push false s (f x) (map_holdings f held)) → OnOk result (held' ≡ pushed held s x) → IfErr result (λ stop. stop ≡ OutOfMemory) → OnErr result (room s ≡ 0)
-    → Follows (push false s (f x) (map_holdings f held)) (λ (u : Unit {0}). map_holdings f held') (read_by failure_of result) (seen_by told sure held room cells) told
-put-follows f s x held held' room cells told sure (Ok u) fits same memory full =
+pub put-follows : {X : Type 0} (f : X → VertexRecord) (s : ℕ) (x : X) (held held' : Holdings X) (room cells : ℕ → ℕ) (told : Told) (sure : Bool) (at : Place) (result : Result (Unit {0}) Halt)
+    → Fits (push false s (f x) (map_holdings f held)) → OnOk result (held' ≡ pushed held s x) → IfErr result (λ halt. halt ≡ ForMemory) → OnErr result (room s ≡ 0)
+    → Follows (push false s (f x) (map_holdings f held)) (λ (u : Unit {0}). map_holdings f held') (read_by (failure_of_halt at) result) (seen_by told sure held room cells) told
+put-follows f s x held held' room cells told sure at (Ok u) fits same memory full =
     let is = push-is f false s x held fits in
     record {
       ends = ap (λ course. course.ending) is ∙ ap (λ h. done (map_holdings f h)) (sym same);
       told = subst (λ text. Adds told text told) (sym (ap (λ course. course.text) is)) (adds-nothing told);
     }
-put-follows f s x held held' room cells told sure (Err stop) fits same memory full =
+put-follows f s x held held' room cells told sure at (Err halt) fits same memory full =
     let is = push-is f false s x held fits in
     let pushing : Push = record { of_cell = false; stack = s; length = len_at held s + 1 } in
-    subst (λ st. Follows (push false s (f x) (map_holdings f held)) (λ (u : Unit {0}). map_holdings f held') (Err (failure_of st)) (seen_by told sure held room cells) told) (sym memory)
+    subst (λ h. Follows (push false s (f x) (map_holdings f held)) (λ (u : Unit {0}). map_holdings f held') (Err (failure_of_halt at h)) (seen_by told sure held room cells) told) (sym memory)
     (record {
       told = part-nothing told (push false s (f x) (map_holdings f held)).text;
       room = λ certain. subst (λ log. HasOverfull (seen_by told sure held room cells) log) (sym (ap (λ course. course.log) is))
@@ -95,18 +95,18 @@ module _ {Plan X : Type 0} (f : X → VertexRecord) (set : Setting Plan) (output
       (and_then-fits (push false (stack_or set output to) (f x) (map_holdings f held)) _ (leads_rest (leave (Some (f x), family')) lead fits))
 
   -- and it is, or there is no room
-  pub stored-put : (x : X) (held' : Holdings X) (family' : Family) (told new : Told) (sure : Bool) (room cells : ℕ → ℕ) (result : Result (Unit {0}) WalkStop)
+  pub stored-put : (x : X) (held' : Holdings X) (family' : Family) (told new : Told) (sure : Bool) (room cells : ℕ → ℕ) (at : Place) (result : Result (Unit {0}) Halt)
       → Fits stores → Follows touch (λ (u : Unit {0}). (Some (f x), family')) (Ok tt) (seen_by told sure held room cells) new
-      → OnOk result (held' ≡ pushed held (stack_or set output to) x) → IfErr result (λ stop. stop ≡ OutOfMemory) → OnErr result (room (stack_or set output to) ≡ 0)
-      → Follows stores (λ (u : Unit {0}). desk f held' family') (read_by failure_of result) (seen_by told sure held room cells) new
-  stored-put x held' family' told new sure room cells result fits is same memory full =
+      → OnOk result (held' ≡ pushed held (stack_or set output to) x) → IfErr result (λ halt. halt ≡ ForMemory) → OnErr result (room (stack_or set output to) ≡ 0)
+      → Follows stores (λ (u : Unit {0}). desk f held' family') (read_by (failure_of_halt at) result) (seen_by told sure held room cells) new
+  stored-put x held' family' told new sure room cells at result fits is same memory full =
       let now = seen_by new sure held room cells in
       let lead = leads_next touch leave (λ (u : Unit {0}). (Some (f x), family')) tt now (leads_start stores (seen_by told sure held room cells)) is
       (record { sure = refl; vertices = λ s. omega arith; cells = λ s. omega arith }) in
       let s = stack_or set output to in
-      leads_last (leave (Some (f x), family')) (λ (u : Unit {0}). desk f held' family') (read_by failure_of result) new lead
-      (follows-map (λ vertices. record { vertices = vertices; family = family' }) (push false s (f x) (map_holdings f held)) (λ (u : Unit {0}). map_holdings f held') (read_by failure_of result) now new
-      (put-follows f s x held held' room cells new sure result
+      leads_last (leave (Some (f x), family')) (λ (u : Unit {0}). desk f held' family') (read_by (failure_of_halt at) result) new lead
+      (follows-map (λ vertices. record { vertices = vertices; family = family' }) (push false s (f x) (map_holdings f held)) (λ (u : Unit {0}). map_holdings f held') (read_by (failure_of_halt at) result) now new
+      (put-follows f s x held held' room cells new sure at result
       (and_then-fits (push false s (f x) (map_holdings f held)) _ (leads_rest (leave (Some (f x), family')) lead fits)) same memory full))
 
   -- a vertex that goes on

@@ -6,5 +6,7 @@ pub mod Touches
 pub mod Spots
 -- what a stop means
 pub mod Stops
+-- a vertex in the slot of its corner
+pub mod Slots
 -- which corners are old and new
 pub mod Marked

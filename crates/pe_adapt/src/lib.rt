@@ -12,8 +12,8 @@ mod touch;
 
 pub use corner::{load_corner, store_corner};
 pub use kinds::{corner_marks, marks_of};
-pub use load::load_as;
+pub use load::{load_as, load_first, load_hanging};
 pub use spot::{Spot, corner_place};
 pub use stop::{Halt, WalkStop};
-pub use store::store_as;
+pub use store::{put_down, store_as, store_hanging, store_last};
 pub use touch::{load_marked, store_placed};

@@ -1,6 +1,6 @@
 // The load of a corner of which the kind and the route are known.
-ghost use Rattle.std.specs.Prelude.{◌≡◌, ℕ, true, ◌≤◌, ◌<◌, ◌^◌, is_err, slice_get, Some, OnOk};
-ghost use Rattle.pe_base.specs.declared.kind.Kind.TheVariants.{Born};
+ghost use Rattle.std.specs.Prelude.{◌≡◌, ℕ, true, ◌≤◌, ◌<◌, ◌^◌, is_err, slice_get, Some, None, IsSome, OnOk, OnErr};
+ghost use Rattle.pe_base.specs.declared.kind.Kind.TheVariants.{Born, Hanging};
 ghost use Rattle.pe_base.specs.declared.event.Event.TheVariants.{TouchVertexFirstTime};
 ghost use Rattle.pe_base.specs.Tree.Places.{corner};
 ghost use Rattle.pe_base.specs.Walk.Core.{load_touch, read_vertex, vertex_event};
@@ -14,70 +14,109 @@ ghost use Rattle.pe_mapping.specs.Moments.{IsTraversal, IsBelowRoot};
 ghost use Rattle.pe_hang.specs.InHand.{setting_of, setting_of_events, family_in_hand, KeepsMarks};
 ghost use Rattle.pe_hang.specs.Moves.{MayPop};
 ghost use Rattle.pe_hang.specs.Follows.{Follows, Fits, Left, read_by, found_of, held_by};
-ghost use Rattle.pe_adapt.specs.Stops.{failure_of};
+ghost use Rattle.pe_adapt.specs.Stops.{failure_of, failure_of_halt};
+ghost use Rattle.pe_adapt.specs.Slots.{seen_slot};
 ghost use Rattle.pe_adapt.specs.Spots.{IsSpot, stack_of, desk_in_hand};
 ghost use Rattle.pe_adapt.specs.Touches.{load_as};
 
-use crate::WalkStop;
 use crate::fire::fire;
+use crate::{Halt, WalkStop};
 use pe_access::Route;
 use pe_base::{Event, Kind, Place};
 use pe_hang::make_hanging;
 use pe_mapping::Mapping;
-use pe_stacks::{CellRec, Corners, Depot, Vertex};
+use pe_stacks::{CellRec, Corners, Depot, Vertex, close_slot, fill_slot, filled_mut};
 use pe_states::{first_touch, start_state};
 
-// Makes a vertex that is born: a fresh record is lent, and its two events are fired. On an error it is given up.
-#[tactic(auto, using(pe_hang::proofs::Marked::marks_triggered))]
-fn load_born<M: Mapping, DV: Depot<Vertex<M::V>>>(
-    start_level: u8,
+/// Loads a corner that hangs, in its slot. On an error its record is given up, and the slot is empty.
+#[inline]
+pub fn load_hanging<M: Mapping, DV: Depot<Vertex<M::V>>>(
     traversal: u64,
     at: &Place,
+    slot: &mut Option<Vertex<M::V>>,
     m: &mut M,
     dv: &mut DV,
     parents: &mut Corners<M::V>,
     parent: &mut CellRec<M::C>,
-) -> Result<Vertex<M::V>, WalkStop>
+) -> Result<(), Halt>
     requires traversal { IsTraversal traversal }
     requires place { IsBelowRoot at.now }
+    requires empty { slot.old ≡ None }
+    requires full { IsFull (M.held m.old).dim parents.old }
+    requires fits { Fits (load_as (setting_of M.rules (M.held m.old) 0 0 traversal) 0 Hanging None at.now
+        (desk_in_hand M.numbers (DV.holds dv.old) parents.old parent.old (M.held m.old).list)) }
+    ensures follows { (input : ℕ) (cells : ℕ → ℕ) → Follows
+        (load_as (setting_of M.rules (M.held m.old) 0 0 traversal) input Hanging None at.now
+        (desk_in_hand M.numbers (DV.holds dv.old) parents.old parent.old (M.held m.old).list))
+        (λ done. (seen_slot M.numbers.vertex slot.new, desk_in_hand M.numbers (DV.holds dv.new) parents.new parent.new (M.held m.new).list))
+        (read_by (failure_of_halt at.now) result) (found_of (M.held m.old) (held_by (DV.holds dv.old) (DV.room dv.old)) cells) (M.held m.new).told }
+    ensures left { Left 0 1 (DV.holds dv.old) (DV.room dv.old) (DV.holds dv.new) (DV.room dv.new) (is_err result) }
+    ensures keeps { Keeps (M.held m.old) (M.held m.new) }
+    ensures full { IsFull (M.held m.old).dim parents.new }
+    ensures marks { KeepsMarks M.numbers.vertex parents.old parents.new }
+    ensures filled { OnOk result (IsSome slot.new) }
+    ensures emptied { OnErr result (slot.new ≡ None) }
+{
+    match make_hanging(m, dv, traversal, at, parents, parent) {
+        Ok(v) => {
+            fill_slot(slot, v);
+            Ok(())
+        }
+        Err(stop) => Err(Halt::of_event(stop, Event::CreateHangingVertex)),
+    }
+}
+
+// Makes a vertex that is born: a fresh record is lent, and its two events are fired. On an error it is given up.
+#[inline]
+fn load_born<M: Mapping, DV: Depot<Vertex<M::V>>>(
+    start_level: u8,
+    traversal: u64,
+    at: &Place,
+    slot: &mut Option<Vertex<M::V>>,
+    m: &mut M,
+    dv: &mut DV,
+    parents: &mut Corners<M::V>,
+    parent: &mut CellRec<M::C>,
+) -> Result<(), Halt>
+    requires traversal { IsTraversal traversal }
+    requires place { IsBelowRoot at.now }
+    requires empty { slot.old ≡ None }
     requires full { IsFull (M.held m.old).dim parents.old }
     requires count { (DV.holds dv.old).fresh < 2 ^ 63 }
     ensures follows { (vertices cells : ℕ → ℕ) → Follows
         (load_touch (setting_of M.rules (M.held m.old) start_level 0 traversal) Born true no_vertex at.now
         (family_in_hand M.numbers parents.old parent.old (M.held m.old).list))
-        (λ v. (seen_vertex M.numbers.vertex v, family_in_hand M.numbers parents.new parent.new (M.held m.new).list))
-        (read_by failure_of result) (found_of (M.held m.old) vertices cells) (M.held m.new).told }
+        (λ done. (seen_slot M.numbers.vertex slot.new, family_in_hand M.numbers parents.new parent.new (M.held m.new).list))
+        (read_by (failure_of_halt at.now) result) (found_of (M.held m.old) vertices cells) (M.held m.new).told }
     ensures lent { OnOk result (DV.holds dv.new ≡ lent (DV.holds dv.old)) }
     ensures left { Left 0 1 (DV.holds dv.old) (DV.room dv.old) (DV.holds dv.new) (DV.room dv.new) (is_err result) }
     ensures keeps { Keeps (M.held m.old) (M.held m.new) }
     ensures full { IsFull (M.held m.old).dim parents.new }
     ensures marks { KeepsMarks M.numbers.vertex parents.old parents.new }
+    ensures filled { OnOk result (IsSome slot.new) }
+    ensures emptied { OnErr result (slot.new ≡ None) }
 {
     let payload = match m.fresh_v() {
         Ok(payload) => payload,
-        Err(_) => return Err(WalkStop::Memory),
+        Err(_) => return Err(Halt::Memory),
     };
     let state = start_state(traversal, at.level, start_level);
-    let mut v = dv.lend(Vertex::new(state, Kind::Born, payload));
-    match m.vertex_event(
+    fill_slot(slot, dv.lend(Vertex::new(state, Kind::Born, payload)));
+    fire(
         Event::CreateInnerVertex,
         traversal,
         at,
-        &mut v,
+        slot,
+        m,
+        dv,
         parents,
         parent,
-    ) {
-        Ok(()) => {}
-        Err(stop) => {
-            dv.give_up(v);
-            return Err(WalkStop::of_event(stop, Event::CreateInnerVertex, *at));
-        }
-    }
+    )?;
     fire(
         Event::TouchVertexFirstTime,
         traversal,
         at,
-        v,
+        slot,
         m,
         dv,
         parents,
@@ -86,18 +125,21 @@ fn load_born<M: Mapping, DV: Depot<Vertex<M::V>>>(
 }
 
 // Reads a vertex that was stored: its record is popped from the input, and its event is fired. On an error it is given up.
+#[inline]
 fn load_stored<M: Mapping, DV: Depot<Vertex<M::V>>>(
     kind: Kind,
     input: u8,
     traversal: u64,
     at: &Place,
+    slot: &mut Option<Vertex<M::V>>,
     m: &mut M,
     dv: &mut DV,
     parents: &mut Corners<M::V>,
     parent: &mut CellRec<M::C>,
-) -> Result<Vertex<M::V>, WalkStop>
+) -> Result<(), Halt>
     requires traversal { IsTraversal traversal }
     requires place { IsBelowRoot at.now }
+    requires empty { slot.old ≡ None }
     requires full { IsFull (M.held m.old).dim parents.old }
     requires may { MayPop (DV.holds dv.old) input }
     ensures follows { (vertices cells : ℕ → ℕ) (found : AVertex M.V) → slice_get (items_at (DV.holds dv.old) input) 0 ≡ Some found → Follows
@@ -105,27 +147,125 @@ fn load_stored<M: Mapping, DV: Depot<Vertex<M::V>>>(
           read_vertex (setting_of_events M.rules (M.held m.old) traversal) kind (seen_vertex M.numbers.vertex found),
           family_in_hand M.numbers parents.old parent.old (M.held m.old).list,
         ))
-        (λ v. (seen_vertex M.numbers.vertex v, family_in_hand M.numbers parents.new parent.new (M.held m.new).list))
-        (read_by failure_of result) (found_of (M.held m.old) vertices cells) (M.held m.new).told }
+        (λ done. (seen_slot M.numbers.vertex slot.new, family_in_hand M.numbers parents.new parent.new (M.held m.new).list))
+        (read_by (failure_of_halt at.now) result) (found_of (M.held m.old) vertices cells) (M.held m.new).told }
     ensures popped { OnOk result (DV.holds dv.new ≡ popped (DV.holds dv.old) input) }
     ensures left { Left 0 1 (DV.holds dv.old) (DV.room dv.old) (DV.holds dv.new) (DV.room dv.new) (is_err result) }
     ensures keeps { Keeps (M.held m.old) (M.held m.new) }
     ensures full { IsFull (M.held m.old).dim parents.new }
     ensures marks { KeepsMarks M.numbers.vertex parents.old parents.new }
+    ensures filled { OnOk result (IsSome slot.new) }
+    ensures emptied { OnErr result (slot.new ≡ None) }
 {
-    let mut v = dv.pop(input);
+    fill_slot(slot, dv.pop(input));
+    let v = filled_mut(slot);
     let state = first_touch(v.state(), kind);
     v.arrive(kind, state);
     fire(
         Event::TouchVertexFirstTime,
         traversal,
         at,
-        v,
+        slot,
         m,
         dv,
         parents,
         parent,
     )
+}
+
+/// Loads a corner for the first time, in its slot: it is born, or was stored. On an error its record is given up, and the
+/// slot is empty.
+#[inline]
+pub fn load_first<M: Mapping, DV: Depot<Vertex<M::V>>>(
+    start_level: u8,
+    kind: Kind,
+    input: u8,
+    traversal: u64,
+    at: &Place,
+    slot: &mut Option<Vertex<M::V>>,
+    m: &mut M,
+    dv: &mut DV,
+    parents: &mut Corners<M::V>,
+    parent: &mut CellRec<M::C>,
+) -> Result<(), Halt>
+    requires traversal { IsTraversal traversal }
+    requires place { IsBelowRoot at.now }
+    requires counts { kind ≡ Hanging → ⊥ }
+    requires empty { slot.old ≡ None }
+    requires full { IsFull (M.held m.old).dim parents.old }
+    requires fits { Fits (load_as (setting_of M.rules (M.held m.old) start_level 0 traversal) input kind None at.now
+        (desk_in_hand M.numbers (DV.holds dv.old) parents.old parent.old (M.held m.old).list)) }
+    ensures follows { (cells : ℕ → ℕ) → Follows
+        (load_as (setting_of M.rules (M.held m.old) start_level 0 traversal) input kind None at.now
+        (desk_in_hand M.numbers (DV.holds dv.old) parents.old parent.old (M.held m.old).list))
+        (λ done. (seen_slot M.numbers.vertex slot.new, desk_in_hand M.numbers (DV.holds dv.new) parents.new parent.new (M.held m.new).list))
+        (read_by (failure_of_halt at.now) result) (found_of (M.held m.old) (held_by (DV.holds dv.old) (DV.room dv.old)) cells) (M.held m.new).told }
+    ensures left { Left 0 1 (DV.holds dv.old) (DV.room dv.old) (DV.holds dv.new) (DV.room dv.new) (is_err result) }
+    ensures keeps { Keeps (M.held m.old) (M.held m.new) }
+    ensures full { IsFull (M.held m.old).dim parents.new }
+    ensures marks { KeepsMarks M.numbers.vertex parents.old parents.new }
+    ensures filled { OnOk result (IsSome slot.new) }
+    ensures emptied { OnErr result (slot.new ≡ None) }
+{
+    match kind {
+        Kind::Born => load_born(start_level, traversal, at, slot, m, dv, parents, parent),
+        _ => load_stored(kind, input, traversal, at, slot, m, dv, parents, parent),
+    }
+}
+
+// Loads a corner in its slot, by a route that is known. On an error its record is given up, and the slot is empty.
+fn load_slot<M: Mapping, DV: Depot<Vertex<M::V>>>(
+    start_level: u8,
+    kind: Kind,
+    from: Route,
+    input: u8,
+    traversal: u64,
+    at: &Place,
+    slot: &mut Option<Vertex<M::V>>,
+    m: &mut M,
+    dv: &mut DV,
+    parents: &mut Corners<M::V>,
+    parent: &mut CellRec<M::C>,
+) -> Result<(), Halt>
+    requires traversal { IsTraversal traversal }
+    requires place { IsBelowRoot at.now }
+    requires empty { slot.old ≡ None }
+    requires full { IsFull (M.held m.old).dim parents.old }
+    requires fits { Fits (load_as (setting_of M.rules (M.held m.old) start_level 0 traversal) input kind (stack_of from) at.now
+        (desk_in_hand M.numbers (DV.holds dv.old) parents.old parent.old (M.held m.old).list)) }
+    ensures follows { (cells : ℕ → ℕ) → Follows
+        (load_as (setting_of M.rules (M.held m.old) start_level 0 traversal) input kind (stack_of from) at.now
+        (desk_in_hand M.numbers (DV.holds dv.old) parents.old parent.old (M.held m.old).list))
+        (λ done. (seen_slot M.numbers.vertex slot.new, desk_in_hand M.numbers (DV.holds dv.new) parents.new parent.new (M.held m.new).list))
+        (read_by (failure_of_halt at.now) result) (found_of (M.held m.old) (held_by (DV.holds dv.old) (DV.room dv.old)) cells) (M.held m.new).told }
+    ensures left { Left 0 1 (DV.holds dv.old) (DV.room dv.old) (DV.holds dv.new) (DV.room dv.new) (is_err result) }
+    ensures keeps { Keeps (M.held m.old) (M.held m.new) }
+    ensures full { IsFull (M.held m.old).dim parents.new }
+    ensures marks { KeepsMarks M.numbers.vertex parents.old parents.new }
+    ensures filled { OnOk result (IsSome slot.new) }
+    ensures emptied { OnErr result (slot.new ≡ None) }
+{
+    match kind {
+        Kind::Hanging => load_hanging(traversal, at, slot, m, dv, parents, parent),
+        _ => match from {
+            Route::Stream => load_first(
+                start_level,
+                kind,
+                input,
+                traversal,
+                at,
+                slot,
+                m,
+                dv,
+                parents,
+                parent,
+            ),
+            Route::Temp(s) => {
+                fill_slot(slot, dv.pop(s));
+                Ok(())
+            }
+        },
+    }
 }
 
 /// Loads a corner of a kind that is known, by a route that is known. On an error its record is given up.
@@ -156,18 +296,24 @@ pub fn load_as<M: Mapping, DV: Depot<Vertex<M::V>>>(
     ensures full { IsFull (M.held m.old).dim parents.new }
     ensures marks { KeepsMarks M.numbers.vertex parents.old parents.new }
 {
-    match kind {
-        Kind::Hanging => match make_hanging(m, dv, traversal, at, parents, parent) {
-            Ok(v) => Ok(v),
-            Err(stop) => Err(WalkStop::of_event(stop, Event::CreateHangingVertex, *at)),
-        },
-        Kind::Born => match from {
-            Route::Stream => load_born(start_level, traversal, at, m, dv, parents, parent),
-            Route::Temp(s) => Ok(dv.pop(s)),
-        },
-        _ => match from {
-            Route::Stream => load_stored(kind, input, traversal, at, m, dv, parents, parent),
-            Route::Temp(s) => Ok(dv.pop(s)),
-        },
+    let mut slot = None;
+    match load_slot(
+        start_level,
+        kind,
+        from,
+        input,
+        traversal,
+        at,
+        &mut slot,
+        m,
+        dv,
+        parents,
+        parent,
+    ) {
+        Ok(()) => Ok(slot.unwrap()),
+        Err(halt) => {
+            close_slot(slot);
+            Err(WalkStop::of_halt(halt, *at))
+        }
     }
 }

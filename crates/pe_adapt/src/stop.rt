@@ -26,7 +26,7 @@ pub enum WalkStop {
     Memory,
 }
 
-/// Why a walk halts. The place is known apart from it.
+/// Why a walk halts, apart from the place.
 #[derive(Clone, Copy, Debug, PartialEq, Eq)]
 pub enum Halt {
     /// An event stopped it.
@@ -50,16 +50,6 @@ impl Halt {
 }
 
 impl WalkStop {
-    /// The stop of an event at a place.
-    pub fn of_event(stop: Stop, event: Event, at: Place) -> WalkStop
-        ensures { failure_of result ≡ failure_at event at stop }
-    {
-        match stop {
-            Stop::Memory => WalkStop::Memory,
-            Stop::Overflow | Stop::Division | Stop::Sink => WalkStop::Event { stop, event, at },
-        }
-    }
-
     /// A halt at a place.
     pub fn of_halt(halt: Halt, at: Place) -> WalkStop
         ensures { failure_of result ≡ failure_of_halt at halt }

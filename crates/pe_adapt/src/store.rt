@@ -1,7 +1,7 @@
 // The store of a corner of which the route is known.
-ghost use Rattle.std.specs.Prelude.{◌≡◌, ℕ, true, ◌<◌, Err, is_err, OnOk, OnErr, IfErr};
+ghost use Rattle.std.specs.Prelude.{◌≡◌, ℕ, true, ◌<◌, None, IsSome, IsSomeAnd, Err, is_err, OnOk, OnErr, IfErr, Option};
 ghost use Rattle.pe_stacks.specs.Corners.{IsFull};
-ghost use Rattle.pe_base.specs.declared.kind.Kind.TheVariants.{Dying};
+ghost use Rattle.pe_base.specs.declared.kind.Kind.TheVariants.{Dying, Hanging};
 ghost use Rattle.pe_base.specs.Walk.Core.{store_of};
 ghost use Rattle.pe_stacks.specs.Holdings.{pushed, given_up};
 ghost use Rattle.pe_mapping.specs.Held.{Keeps};
@@ -10,25 +10,27 @@ ghost use Rattle.pe_mapping.specs.Moments.{IsTraversal, IsBelowRoot};
 ghost use Rattle.pe_hang.specs.InHand.{setting_of_events, family_in_hand, nothing_of, KeepsMarks};
 ghost use Rattle.pe_hang.specs.Moves.{MayPush};
 ghost use Rattle.pe_hang.specs.Follows.{Follows, Fits, Left, read_by, found_of, held_by};
-ghost use Rattle.pe_adapt.specs.declared.stop.WalkStop.TheVariants.{Memory as OutOfMemory};
-ghost use Rattle.pe_adapt.specs.Stops.{failure_of};
+ghost use Rattle.pe_adapt.specs.declared.stop.Halt.TheVariants.{Memory as ForMemory};
+ghost use Rattle.pe_adapt.specs.Stops.{failure_of, failure_of_halt};
+ghost use Rattle.pe_adapt.specs.Slots.{seen_slot};
 ghost use Rattle.pe_adapt.specs.Spots.{stack_of, desk_in_hand};
 ghost use Rattle.pe_adapt.specs.Touches.{store_as};
 
-use crate::WalkStop;
 use crate::fire::fire;
+use crate::{Halt, WalkStop};
 use pe_access::Route;
 use pe_base::{Event, Kind, Place};
 use pe_hang::end_hanging;
 use pe_mapping::Mapping;
-use pe_stacks::{CellRec, Corners, Depot, Vertex};
+use pe_stacks::{CellRec, Corners, Depot, Vertex, close_slot, filled_mut};
 use pe_states::last_touch;
 
-// Puts a record on a stack. Where there is no memory it is given up.
-fn put_down<X, D: Depot<X>>(d: &mut D, s: u8, r: X) -> Result<(), WalkStop>
+/// Puts a record on a stack. Where there is no memory it is given up.
+#[inline]
+pub fn put_down<X, D: Depot<X>>(d: &mut D, s: u8, r: X) -> Result<(), Halt>
     requires may { MayPush (D.holds d.old) s }
     ensures pushed { OnOk result (D.holds d.new ≡ pushed (D.holds d.old) s r) }
-    ensures memory { IfErr result (λ stop. stop ≡ OutOfMemory) }
+    ensures memory { IfErr result (λ halt. halt ≡ ForMemory) }
     ensures overfull { OnErr result (D.room d.old s ≡ 0) }
     ensures left { Left 1 0 (D.holds d.old) (D.room d.old) (D.holds d.new) (D.room d.new) (is_err result) }
 {
@@ -36,8 +38,224 @@ fn put_down<X, D: Depot<X>>(d: &mut D, s: u8, r: X) -> Result<(), WalkStop>
         Ok(()) => Ok(()),
         Err(back) => {
             d.give_up(back);
-            Err(WalkStop::Memory)
+            Err(Halt::Memory)
         }
+    }
+}
+
+/// Stores a corner that hangs, in its slot: it ends. Whatever the answer, its record is given up, and the slot is empty.
+#[inline]
+pub fn store_hanging<M: Mapping, DV: Depot<Vertex<M::V>>>(
+    traversal: u64,
+    at: &Place,
+    slot: &mut Option<Vertex<M::V>>,
+    m: &mut M,
+    dv: &mut DV,
+    parents: &mut Corners<M::V>,
+    parent: &mut CellRec<M::C>,
+) -> Result<(), Halt>
+    requires traversal { IsTraversal traversal }
+    requires place { IsBelowRoot at.now }
+    requires hanging { IsSomeAnd slot.old (λ v. v.kind ≡ Hanging) }
+    requires full { IsFull (M.held m.old).dim parents.old }
+    requires out { 0 < (DV.holds dv.old).out }
+    ensures follows { (output : ℕ) (to : Option ℕ) (cells : ℕ → ℕ)
+        → let course = store_as (setting_of_events M.rules (M.held m.old) traversal) output to at.now (seen_slot M.numbers.vertex slot.old)
+        (desk_in_hand M.numbers (DV.holds dv.old) parents.old parent.old (M.held m.old).list) in Fits course → Follows course
+        (λ done. desk_in_hand M.numbers (DV.holds dv.new) parents.new parent.new (M.held m.new).list)
+        (read_by (failure_of_halt at.now) result) (found_of (M.held m.old) (held_by (DV.holds dv.old) (DV.room dv.old)) cells) (M.held m.new).told }
+    ensures left { Left 1 0 (DV.holds dv.old) (DV.room dv.old) (DV.holds dv.new) (DV.room dv.new) (is_err result) }
+    ensures keeps { Keeps (M.held m.old) (M.held m.new) }
+    ensures full { IsFull (M.held m.old).dim parents.new }
+    ensures marks { KeepsMarks M.numbers.vertex parents.old parents.new }
+    ensures emptied { slot.new ≡ None }
+{
+    match end_hanging(m, dv, traversal, at, slot.take().unwrap(), parents, parent) {
+        Ok(()) => Ok(()),
+        Err(stop) => Err(Halt::of_event(stop, Event::DestroyHangingVertex)),
+    }
+}
+
+// Ends a vertex that dies: its two events are fired, and its record is given up in any case.
+#[inline]
+fn store_dying<M: Mapping, DV: Depot<Vertex<M::V>>>(
+    traversal: u64,
+    at: &Place,
+    slot: &mut Option<Vertex<M::V>>,
+    m: &mut M,
+    dv: &mut DV,
+    parents: &mut Corners<M::V>,
+    parent: &mut CellRec<M::C>,
+) -> Result<(), Halt>
+    requires traversal { IsTraversal traversal }
+    requires place { IsBelowRoot at.now }
+    requires filled { IsSome slot.old }
+    requires full { IsFull (M.held m.old).dim parents.old }
+    requires out { 0 < (DV.holds dv.old).out }
+    ensures follows { (vertices cells : ℕ → ℕ) → Follows
+        (store_of (setting_of_events M.rules (M.held m.old) traversal) Dying true at.now (seen_slot M.numbers.vertex slot.old)
+        (family_in_hand M.numbers parents.old parent.old (M.held m.old).list))
+        (λ done. nothing_of (family_in_hand M.numbers parents.new parent.new (M.held m.new).list))
+        (read_by (failure_of_halt at.now) result) (found_of (M.held m.old) vertices cells) (M.held m.new).told }
+    ensures given_up { OnOk result (DV.holds dv.new ≡ given_up (DV.holds dv.old)) }
+    ensures left { Left 1 0 (DV.holds dv.old) (DV.room dv.old) (DV.holds dv.new) (DV.room dv.new) (is_err result) }
+    ensures keeps { Keeps (M.held m.old) (M.held m.new) }
+    ensures full { IsFull (M.held m.old).dim parents.new }
+    ensures marks { KeepsMarks M.numbers.vertex parents.old parents.new }
+    ensures emptied { slot.new ≡ None }
+{
+    fire(
+        Event::TouchVertexLastTime,
+        traversal,
+        at,
+        slot,
+        m,
+        dv,
+        parents,
+        parent,
+    )?;
+    fire(
+        Event::DestroyVertex,
+        traversal,
+        at,
+        slot,
+        m,
+        dv,
+        parents,
+        parent,
+    )?;
+    dv.give_up(slot.take().unwrap());
+    Ok(())
+}
+
+// Stores a vertex that stays, for the last time: its event is fired, and it goes to the output. On an error its record is
+// given up.
+#[inline]
+fn store_staying<M: Mapping, DV: Depot<Vertex<M::V>>>(
+    kind: Kind,
+    output: u8,
+    traversal: u64,
+    at: &Place,
+    slot: &mut Option<Vertex<M::V>>,
+    m: &mut M,
+    dv: &mut DV,
+    parents: &mut Corners<M::V>,
+    parent: &mut CellRec<M::C>,
+) -> Result<(), Halt>
+    requires traversal { IsTraversal traversal }
+    requires place { IsBelowRoot at.now }
+    requires filled { IsSome slot.old }
+    requires counts { kind ≡ Hanging → ⊥ }
+    requires stays { kind ≡ Dying → ⊥ }
+    requires kind { (seen_slot M.numbers.vertex slot.old).kind ≡ kind }
+    requires full { IsFull (M.held m.old).dim parents.old }
+    requires out { 0 < (DV.holds dv.old).out }
+    requires fits { Fits (store_as (setting_of_events M.rules (M.held m.old) traversal) output None at.now (seen_slot M.numbers.vertex slot.old)
+        (desk_in_hand M.numbers (DV.holds dv.old) parents.old parent.old (M.held m.old).list)) }
+    ensures follows { (cells : ℕ → ℕ) → Follows
+        (store_as (setting_of_events M.rules (M.held m.old) traversal) output None at.now (seen_slot M.numbers.vertex slot.old)
+        (desk_in_hand M.numbers (DV.holds dv.old) parents.old parent.old (M.held m.old).list))
+        (λ done. desk_in_hand M.numbers (DV.holds dv.new) parents.new parent.new (M.held m.new).list)
+        (read_by (failure_of_halt at.now) result) (found_of (M.held m.old) (held_by (DV.holds dv.old) (DV.room dv.old)) cells) (M.held m.new).told }
+    ensures left { Left 1 0 (DV.holds dv.old) (DV.room dv.old) (DV.holds dv.new) (DV.room dv.new) (is_err result) }
+    ensures keeps { Keeps (M.held m.old) (M.held m.new) }
+    ensures full { IsFull (M.held m.old).dim parents.new }
+    ensures marks { KeepsMarks M.numbers.vertex parents.old parents.new }
+    ensures emptied { slot.new ≡ None }
+{
+    fire(
+        Event::TouchVertexLastTime,
+        traversal,
+        at,
+        slot,
+        m,
+        dv,
+        parents,
+        parent,
+    )?;
+    let v = filled_mut(slot);
+    let state = last_touch(v.state(), kind);
+    v.depart(state);
+    put_down(dv, output, slot.take().unwrap())
+}
+
+/// Stores a corner that does not hang, in its slot, for the last time: it is written, or it dies. Whatever the answer, the
+/// slot is empty; on an error its record is given up.
+#[inline]
+pub fn store_last<M: Mapping, DV: Depot<Vertex<M::V>>>(
+    output: u8,
+    traversal: u64,
+    at: &Place,
+    slot: &mut Option<Vertex<M::V>>,
+    m: &mut M,
+    dv: &mut DV,
+    parents: &mut Corners<M::V>,
+    parent: &mut CellRec<M::C>,
+) -> Result<(), Halt>
+    requires traversal { IsTraversal traversal }
+    requires place { IsBelowRoot at.now }
+    requires counts { IsSomeAnd slot.old (λ v. v.kind ≡ Hanging → ⊥) }
+    requires full { IsFull (M.held m.old).dim parents.old }
+    requires out { 0 < (DV.holds dv.old).out }
+    requires fits { Fits (store_as (setting_of_events M.rules (M.held m.old) traversal) output None at.now (seen_slot M.numbers.vertex slot.old)
+        (desk_in_hand M.numbers (DV.holds dv.old) parents.old parent.old (M.held m.old).list)) }
+    ensures follows { (cells : ℕ → ℕ) → Follows
+        (store_as (setting_of_events M.rules (M.held m.old) traversal) output None at.now (seen_slot M.numbers.vertex slot.old)
+        (desk_in_hand M.numbers (DV.holds dv.old) parents.old parent.old (M.held m.old).list))
+        (λ done. desk_in_hand M.numbers (DV.holds dv.new) parents.new parent.new (M.held m.new).list)
+        (read_by (failure_of_halt at.now) result) (found_of (M.held m.old) (held_by (DV.holds dv.old) (DV.room dv.old)) cells) (M.held m.new).told }
+    ensures left { Left 1 0 (DV.holds dv.old) (DV.room dv.old) (DV.holds dv.new) (DV.room dv.new) (is_err result) }
+    ensures keeps { Keeps (M.held m.old) (M.held m.new) }
+    ensures full { IsFull (M.held m.old).dim parents.new }
+    ensures marks { KeepsMarks M.numbers.vertex parents.old parents.new }
+    ensures emptied { slot.new ≡ None }
+{
+    let kind = filled_mut(slot).kind();
+    match kind {
+        Kind::Dying => store_dying(traversal, at, slot, m, dv, parents, parent),
+        _ => store_staying(
+            kind, output, traversal, at, slot, m, dv, parents, parent,
+        ),
+    }
+}
+
+// Stores a corner in its slot, by a route that is known. On an error its record is given up.
+fn store_slot<M: Mapping, DV: Depot<Vertex<M::V>>>(
+    to: Route,
+    output: u8,
+    traversal: u64,
+    at: &Place,
+    slot: &mut Option<Vertex<M::V>>,
+    m: &mut M,
+    dv: &mut DV,
+    parents: &mut Corners<M::V>,
+    parent: &mut CellRec<M::C>,
+) -> Result<(), Halt>
+    requires traversal { IsTraversal traversal }
+    requires place { IsBelowRoot at.now }
+    requires filled { IsSome slot.old }
+    requires full { IsFull (M.held m.old).dim parents.old }
+    requires out { 0 < (DV.holds dv.old).out }
+    requires fits { Fits (store_as (setting_of_events M.rules (M.held m.old) traversal) output (stack_of to) at.now (seen_slot M.numbers.vertex slot.old)
+        (desk_in_hand M.numbers (DV.holds dv.old) parents.old parent.old (M.held m.old).list)) }
+    ensures follows { (cells : ℕ → ℕ) → Follows
+        (store_as (setting_of_events M.rules (M.held m.old) traversal) output (stack_of to) at.now (seen_slot M.numbers.vertex slot.old)
+        (desk_in_hand M.numbers (DV.holds dv.old) parents.old parent.old (M.held m.old).list))
+        (λ done. desk_in_hand M.numbers (DV.holds dv.new) parents.new parent.new (M.held m.new).list)
+        (read_by (failure_of_halt at.now) result) (found_of (M.held m.old) (held_by (DV.holds dv.old) (DV.room dv.old)) cells) (M.held m.new).told }
+    ensures left { Left 1 0 (DV.holds dv.old) (DV.room dv.old) (DV.holds dv.new) (DV.room dv.new) (is_err result) }
+    ensures keeps { Keeps (M.held m.old) (M.held m.new) }
+    ensures full { IsFull (M.held m.old).dim parents.new }
+    ensures marks { KeepsMarks M.numbers.vertex parents.old parents.new }
+    ensures emptied { slot.new ≡ None }
+{
+    let kind = filled_mut(slot).kind();
+    match kind {
+        Kind::Hanging => store_hanging(traversal, at, slot, m, dv, parents, parent),
+        _ => match to {
+            Route::Stream => store_last(output, traversal, at, slot, m, dv, parents, parent),
+            Route::Temp(s) => put_down(dv, s, slot.take().unwrap()),
+        },
     }
 }
 
@@ -69,79 +287,13 @@ pub fn store_as<M: Mapping, DV: Depot<Vertex<M::V>>>(
     ensures full { IsFull (M.held m.old).dim parents.new }
     ensures marks { KeepsMarks M.numbers.vertex parents.old parents.new }
 {
-    let kind = v.kind();
-    match kind {
-        Kind::Hanging => match end_hanging(m, dv, traversal, at, v, parents, parent) {
-            Ok(()) => Ok(()),
-            Err(stop) => Err(WalkStop::of_event(stop, Event::DestroyHangingVertex, *at)),
-        },
-        Kind::Dying => match to {
-            Route::Stream => store_dying(traversal, at, v, m, dv, parents, parent),
-            Route::Temp(s) => put_down(dv, s, v),
-        },
-        _ => match to {
-            Route::Stream => {
-                match fire(
-                    Event::TouchVertexLastTime,
-                    traversal,
-                    at,
-                    v,
-                    m,
-                    dv,
-                    parents,
-                    parent,
-                ) {
-                    Ok(touched) => {
-                        let mut touched = touched;
-                        let state = last_touch(touched.state(), kind);
-                        touched.depart(state);
-                        put_down(dv, output, touched)
-                    }
-                    Err(stop) => Err(stop),
-                }
-            }
-            Route::Temp(s) => put_down(dv, s, v),
-        },
-    }
-}
-
-// Ends a vertex that dies: its two events are fired, and its record is given up in any case.
-fn store_dying<M: Mapping, DV: Depot<Vertex<M::V>>>(
-    traversal: u64,
-    at: &Place,
-    v: Vertex<M::V>,
-    m: &mut M,
-    dv: &mut DV,
-    parents: &mut Corners<M::V>,
-    parent: &mut CellRec<M::C>,
-) -> Result<(), WalkStop>
-    requires traversal { IsTraversal traversal }
-    requires place { IsBelowRoot at.now }
-    requires full { IsFull (M.held m.old).dim parents.old }
-    requires out { 0 < (DV.holds dv.old).out }
-    ensures follows { (vertices cells : ℕ → ℕ) → Follows
-        (store_of (setting_of_events M.rules (M.held m.old) traversal) Dying true at.now (seen_vertex M.numbers.vertex v)
-        (family_in_hand M.numbers parents.old parent.old (M.held m.old).list))
-        (λ done. nothing_of (family_in_hand M.numbers parents.new parent.new (M.held m.new).list))
-        (read_by failure_of result) (found_of (M.held m.old) vertices cells) (M.held m.new).told }
-    ensures given_up { OnOk result (DV.holds dv.new ≡ given_up (DV.holds dv.old)) }
-    ensures left { Left 1 0 (DV.holds dv.old) (DV.room dv.old) (DV.holds dv.new) (DV.room dv.new) (is_err result) }
-    ensures keeps { Keeps (M.held m.old) (M.held m.new) }
-    ensures full { IsFull (M.held m.old).dim parents.new }
-    ensures marks { KeepsMarks M.numbers.vertex parents.old parents.new }
-{
-    let event = Event::TouchVertexLastTime;
-    match fire(event, traversal, at, v, m, dv, parents, parent) {
-        Ok(touched) => {
-            let event = Event::DestroyVertex;
-            match fire(event, traversal, at, touched, m, dv, parents, parent) {
-                Ok(dead) => {
-                    dv.give_up(dead);
-                    Ok(())
-                }
-                Err(stop) => Err(stop),
-            }
-        }
-        Err(stop) => Err(stop),
+    let mut slot = Some(v);
+    let answer = store_slot(
+        to, output, traversal, at, &mut slot, m, dv, parents, parent,
+    );
+    close_slot(slot);
+    match answer {
+        Ok(()) => Ok(()),
+        Err(halt) => Err(WalkStop::of_halt(halt, *at)),
     }
 }

@@ -8,11 +8,10 @@ ghost use Rattle.pe_stacks.specs.Corners.{no_vertices, vertex_at, with_vertex};
 ghost use Rattle.pe_stacks.specs.Quads.{quad_at, with_quad};
 
 use crate::Vertex;
-use crate::quad::{Quad, close_slot, filled_mut};
+use crate::quad::{Quad, fill_slot, filled_mut};
 use crate::slots::Slots;
 use pe_base::Dim;
 use std::marker::Model;
-use std::mem;
 
 /// The corners of a cell: up to `2^d` vertices in numbered slots.
 ///
@@ -55,8 +54,7 @@ impl<P> Corners<P> {
         requires empty { vertex_at self.old k ≡ None }
         ensures { self.new ≡ with_vertex self.old k (Some v) }
     {
-        let before = mem::replace(self.slot_mut(k), Some(v));
-        close_slot(before);
+        fill_slot(self.slot_mut(k), v);
     }
 
     /// Takes the vertex out of a slot that is full.

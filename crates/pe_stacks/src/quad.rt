@@ -3,6 +3,8 @@ ghost use Rattle.std.specs.Borrow.{Lends, sem};
 ghost use Rattle.std.specs.contracts.option.Option.{the_row as option_row};
 ghost use Rattle.pe_stacks.specs.Quads.{no_quad};
 
+use std::mem;
+
 /// Four of a cell's corners, those with one number above the lowest two bits: each slot is empty or full.
 pub struct Quad<X> {
     /// The corner whose lowest two bits are 0.
@@ -38,8 +40,19 @@ impl<X> Quad<X> {
     }
 }
 
+/// Puts what is given in a slot that is empty.
+#[inline]
+pub fn fill_slot<X>(slot: &mut Option<X>, x: X)
+    requires { slot.old ≡ None }
+    ensures { slot.new ≡ Some x }
+{
+    let before = mem::replace(slot, Some(x));
+    close_slot(before);
+}
+
 /// Ends a slot that is empty.
-pub(crate) fn close_slot<X>(slot: Option<X>)
+#[inline]
+pub fn close_slot<X>(slot: Option<X>)
     requires { slot ≡ None }
 {
     match slot {
@@ -49,7 +62,8 @@ pub(crate) fn close_slot<X>(slot: Option<X>)
 }
 
 /// Lends what is in a slot that is full.
-pub(crate) fn filled_mut<X>(slot: &mut Option<X>) -> &mut X
+#[inline]
+pub fn filled_mut<X>(slot: &mut Option<X>) -> &mut X
     requires { IsSome slot.old }
     ensures value { slot.old ≡ Some result.now }
     ensures* writes_back { sem 𝓛 (Lends (option_row X.row) X.row slot.entry result Some) }
