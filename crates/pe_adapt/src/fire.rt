@@ -48,14 +48,7 @@ pub fn fire<M: Mapping, DV: Depot<Vertex<M::V>>>(
     ensures filled { OnOk result (IsSome slot.new) }
     ensures emptied { OnErr result (slot.new ≡ None) }
 {
-    match m.vertex_event(
-        event,
-        traversal,
-        at,
-        filled_mut(slot),
-        parents,
-        parent,
-    ) {
+    match m.vertex_event(event, traversal, at, filled_mut(slot), parents, parent) {
         Ok(()) => Ok(()),
         Err(stop) => {
             dv.give_up(slot.take().unwrap());

@@ -213,9 +213,7 @@ pub fn store_last<M: Mapping, DV: Depot<Vertex<M::V>>>(
     let kind = filled_mut(slot).kind();
     match kind {
         Kind::Dying => store_dying(traversal, at, slot, m, dv, parents, parent),
-        _ => store_staying(
-            kind, output, traversal, at, slot, m, dv, parents, parent,
-        ),
+        _ => store_staying(kind, output, traversal, at, slot, m, dv, parents, parent),
     }
 }
 
@@ -288,9 +286,7 @@ pub fn store_as<M: Mapping, DV: Depot<Vertex<M::V>>>(
     ensures marks { KeepsMarks M.numbers.vertex parents.old parents.new }
 {
     let mut slot = Some(v);
-    let answer = store_slot(
-        to, output, traversal, at, &mut slot, m, dv, parents, parent,
-    );
+    let answer = store_slot(to, output, traversal, at, &mut slot, m, dv, parents, parent);
     close_slot(slot);
     match answer {
         Ok(()) => Ok(()),

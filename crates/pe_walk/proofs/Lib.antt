@@ -2,6 +2,8 @@
 
 -- tests, lists and powers
 pub mod Tests
+-- calls that go along with the machine
+pub mod Going
 -- # The laws
 -- cells that are not walked
 pub mod Unwalked

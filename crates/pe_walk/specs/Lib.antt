@@ -38,3 +38,5 @@ pub mod Streams
 pub mod InHand
 -- a grid on stacks, and a traversal of it
 pub mod Gridded
+-- corners touched in their slots
+pub mod Corners

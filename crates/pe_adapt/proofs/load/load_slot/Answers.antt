@@ -1,4 +1,4 @@
-use Rattle.std.proofs.Common.{sym, subst, ap, Ok}
+use Rattle.std.proofs.Common.{sym, subst, ap}
 use Rattle.pe_mapping.specs.Sights.{seen_vertex}
 use Rattle.pe_hang.specs.InHand.{setting_of, family_in_hand}
 use Rattle.pe_hang.specs.Follows.{Follows, read_by, found_of, held_by}

@@ -1,4 +1,4 @@
-use Rattle.std.proofs.Common.{◌≡◌, ap, sym, subst, ◌∙◌, refl, Ok, Err, Option, Some}
+use Rattle.std.proofs.Common.{◌≡◌, sym, subst, ◌∙◌, refl, Ok, Err, Option, Some}
 use Rattle.std.specs.Prelude.{is_none, IsSomeAnd}
 use Rattle.pe_base.specs.declared.kind.Kind.TheVariants.{Hanging}
 use Rattle.pe_base.specs.declared.event.Event.TheVariants.{DestroyHangingVertex}

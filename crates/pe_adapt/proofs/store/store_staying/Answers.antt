@@ -1,5 +1,5 @@
-use Rattle.std.proofs.Common.{◌≡◌, ℕ, refl, ap, true, Ok, Err, sym, subst, ◌∙◌}
-use Rattle.std.specs.Prelude.{is_none, None, OnOk, OnErr}
+use Rattle.std.proofs.Common.{◌≡◌, ℕ, refl, Err, sym, subst, ◌∙◌}
+use Rattle.std.specs.Prelude.{None, OnOk}
 use Rattle.pe_base.specs.Acts.Effects.{VertexRecord}
 use Rattle.pe_base.specs.Walk.Core.{Family}
 use Rattle.pe_mapping.specs.Sights.{seen_vertex}
