@@ -92,7 +92,7 @@ pub record Carried (axes greatest : ℕ) (counts active walks walked : Place →
   pub walks_by : (cell : Place) → walks cell ≡ (cell.level == 0 || list_any active (corners axes cell))
   pub walked_by : (cell : Place) → walked cell ≡ (cell.level == 0 || walks (parent_of cell))
 
-all_front : (p : ℕ → Bool) (n : ℕ) (pos : List ℕ) (i : ℕ) → list_all p (take n pos) ≡ true → i < n → i < length pos → p (slice_index pos i) ≡ true
+pub all_front : (p : ℕ → Bool) (n : ℕ) (pos : List ℕ) (i : ℕ) → list_all p (take n pos) ≡ true → i < n → i < length pos → p (slice_index pos i) ≡ true
 all_front p zero pos i h l m = absurd (omega arith)
 all_front p (suc n) [] i h l m = absurd (omega arith)
 all_front p (suc n) (x ∷ pos) zero h l m = and_left (p x) _ h
@@ -103,7 +103,7 @@ all_zero [] i h = refl
 all_zero (x ∷ pos) zero h = true_eq x 0 (and_left (x == 0) _ h)
 all_zero (x ∷ pos) (suc i) h = all_zero pos i (and_right (x == 0) _ h)
 
-all_behind : (n : ℕ) (pos : List ℕ) (i : ℕ) → list_all (λ x. x == 0) (drop n pos) ≡ true → n ≤ i → slice_index pos i ≡ 0
+pub all_behind : (n : ℕ) (pos : List ℕ) (i : ℕ) → list_all (λ x. x == 0) (drop n pos) ≡ true → n ≤ i → slice_index pos i ≡ 0
 all_behind zero pos i h l = all_zero pos i h
 all_behind (suc n) [] i h l = refl
 all_behind (suc n) (x ∷ pos) zero h l = absurd (omega arith)

@@ -133,7 +133,7 @@ first_dying EraseTriggered = refl
 first_dying Erasing = refl
 
 -- a stored cell is walked by the walk with no events
-stored_is_walked : (grid : Grid) → IsWellFormed grid → (cell : Place) → is_some (at grid.cells cell) ≡ true → stored_walked grid cell ≡ true
+pub stored_is_walked : (grid : Grid) → IsWellFormed grid → (cell : Place) → is_some (at grid.cells cell) ≡ true → stored_walked grid cell ≡ true
 stored_is_walked grid is cell t = or_right_true (cell.level == 0) _ (go (cell.level == 1) refl (and_right (is_cell grid.axes cell) _ (sym (is.cells cell) ∙ t)))
   where
     go : (b : Bool) → (cell.level == 1) ≡ b → (b || is_refined_cell grid.axes (state_in grid) (parent_of cell)) ≡ true → goes_below grid (parent_of cell) ≡ true

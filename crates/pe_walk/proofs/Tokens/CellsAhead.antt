@@ -13,7 +13,7 @@ use Rattle.pe_base.proofs.Faces.Bridge.{same_places}
 use Rattle.pe_stacks.specs.Holdings.{Holdings, new_stack, stack_count, stack_at, pushed, pushed_on}
 use Rattle.pe_stacks.specs.Grid.{cell_input_stack}
 use Rattle.pe_walk.specs.Tokens.{Outlook, Tokens, each_some, put, cell_target, touch_of, load, store, enter, leave, around_below, numbers, walk}
-use Rattle.pe_walk.specs.Takings.{cell_reads_of}
+use Rattle.pe_walk.specs.Takings.{cell_reads_of, MayTraverse}
 use Rattle.pe_walk.specs.Apart.{lies}
 use Rattle.pe_walk.specs.CellsAhead.{times, cells_below, CellsDiffer, CellsAhead, StepsKeepAhead, BeginsAhead, MovesItsCells}
 use Rattle.pe_walk.proofs.Trees.{root_is_cell}
@@ -131,7 +131,7 @@ steps_keep_ahead o = record {
 }
 
 -- a filter keeps a place that passes as often as it stands there
-count-filter : (test : Place → Bool) (cells : List Place) (x : Place) → times (filter test cells) x ≡ (if test x then times cells x else 0)
+pub count-filter : (test : Place → Bool) (cells : List Place) (x : Place) → times (filter test cells) x ≡ (if test x then times cells x else 0)
 count-filter test [] x = either (test x) 0
   where
     either : (b : Bool) (n : ℕ) → n ≡ (if b then n else n)
@@ -160,10 +160,21 @@ count-filter test (c ∷ cells) x = go (test c) refl (is_same c x) refl (count-f
         skipped ∙ more ∙ other (test x) s
     go false e false s more = more ∙ other (test x) s
 
+-- as a traversal begins, a cell lies on the stacks as often as it is read
+pub cells_on_input : (o : Outlook) (greatest : ℕ) (t : Tokens) → MayTraverse o greatest t → (x : Place) → lies t.cells x ≡ times (cell_reads_of o greatest root) x
+cells_on_input o greatest t may x =
+    sum_only (there x) t.cells.stacks (cell_input_stack o.swapped) new_stack (omega (arith, near o.swapped, may.cell_stacks))
+    (λ s k. ap (λ cs. times cs x) (may.reads_cells s ∙ ap (λ b. if b then cell_reads_of o greatest root else []) (eq_false s (cell_input_stack o.swapped) k)))
+    ∙ ap (λ cs. times cs x) (may.reads_cells (cell_input_stack o.swapped) ∙ ap (λ b. if b then cell_reads_of o greatest root else []) (same_itself (cell_input_stack o.swapped)))
+  where
+    near : (swapped : Bool) → cell_input_stack swapped < 2
+    near true = omega arith
+    near false = omega arith
+
 pub begins_ahead : BeginsAhead
 begins_ahead o walked greatest t dim grown may = record {
   once = λ x. differ.once_below x;
-  lie = λ x h. on_input x ∙ count-filter o.reads_cell (walked_cells o.axes o.way o.walks greatest root) x ∙ ap (λ n. if o.reads_cell x then n else 0) (just_one x h);
+  lie = λ x h. cells_on_input o greatest t may x ∙ count-filter o.reads_cell (walked_cells o.axes o.way o.walks greatest root) x ∙ ap (λ n. if o.reads_cell x then n else 0) (just_one x h);
 }
   where
     deep : greatest ≡ suc (greatest - 1)
@@ -180,19 +191,6 @@ begins_ahead o walked greatest t dim grown may = record {
 
     just_one : (x : Place) → 1 ≤ times (cells_below o (greatest - 1) root) x → times (walked_cells o.axes o.way o.walks greatest root) x ≡ 1
     just_one x h = omega (arith, h, all_once x, ap (λ cs. times cs x) all_are, count-cons (λ y. is_same y x) root (cells_below o (greatest - 1) root))
-
-    input : ℕ
-    input = cell_input_stack o.swapped
-
-    near : (swapped : Bool) → cell_input_stack swapped < 2
-    near true = omega arith
-    near false = omega arith
-
-    on_input : (x : Place) → lies t.cells x ≡ times (cell_reads_of o greatest root) x
-    on_input x =
-        sum_only (there x) t.cells.stacks (cell_input_stack o.swapped) new_stack (omega (arith, near o.swapped, may.cell_stacks))
-        (λ s k. ap (λ cs. times cs x) (may.reads_cells s ∙ ap (λ b. if b then cell_reads_of o greatest root else []) (eq_false s (cell_input_stack o.swapped) k)))
-        ∙ ap (λ cs. times cs x) (may.reads_cells (cell_input_stack o.swapped) ∙ ap (λ b. if b then cell_reads_of o greatest root else []) (same_itself (cell_input_stack o.swapped)))
 
 -- the walk of a cell moves no cells but its own
 module _ (o : Outlook) (x : Place) where
