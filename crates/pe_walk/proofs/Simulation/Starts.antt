@@ -1,8 +1,8 @@
 -- A traversal of a grid as it begins: its outset, its places on stacks, and its working state.
-use Rattle.std.proofs.Common.{◌≡◌, ◌⊎◌, ℕ, ℤ, zero, suc, ◌+◌, ◌-◌, ◌*◌, ◌^◌, ◌<◌, ◌≤◌, ◌≢◌, Bool, true, false, not, ◌&&◌, ◌||◌, ◌==◌, List, [], ◌∷◌, map, filter, cond, length, slice_index, take, drop, Option, Some, None, refl, sym, ap, ap₂, subst, ◌∙◌, arith, is_some, true≢false, if◌then◌else◌, inl, inr}
-use Rattle.std.specs.Prelude.{nat_lt, reverse, sum_by, count_by}
+use Rattle.std.proofs.Common.{◌≡◌, ◌⊎◌, ℕ, ℤ, zero, suc, ◌+◌, ◌-◌, ◌*◌, ◌^◌, ◌<◌, ◌≤◌, ◌≢◌, Bool, true, false, not, ◌&&◌, ◌||◌, ◌==◌, List, [], ◌∷◌, map, filter, cond, length, slice_index, get_or, take, drop, Option, Some, None, refl, sym, ap, ap₂, subst, ◌∙◌, arith, is_some, true≢false, if◌then◌else◌, inl, inr}
+use Rattle.std.specs.Prelude.{nat_lt, nat_le}
 use Rattle.std.proofs.lemmas.Bool.{lt-ltb, ltb-true, ltb-false, eq-eqb, eqb-true, ne_eqb, and_parts}
-use Rattle.std.proofs.lemmas.List.Sums.{sum_by-cons}
+use Rattle.std.proofs.lemmas.List.FromFn.{length-range_with_len}
 use Rattle.std.proofs.Math.Bool.{and-false}
 use Rattle.std.specs.Option.{option_map, unwrap_or}
 use Rattle.std.specs.List.{flat_map, list_all}
@@ -20,7 +20,7 @@ use Rattle.pe_base.specs.Walk.Streams.{walked_cells, next_way, goes_below, strea
 use Rattle.pe_base.specs.declared.kind.Kind.{Kind}
 use Rattle.pe_base.specs.Walk.Working.{Working, no_vertex, vertex_at, cell_at, begun as begun_of}
 use Rattle.pe_base.specs.Walk.Walk as model
-use Rattle.pe_stacks.specs.Holdings.{Stack, Holdings, stack_at, stack_count, items_at, len_at}
+use Rattle.pe_stacks.specs.Holdings.{Stack, Holdings, new_stack, stack_at, stack_count, items_at, len_at}
 use Rattle.pe_stacks.specs.Grid.{input_stack, cell_input_stack}
 use Rattle.pe_hang.specs.InHand.{map_holdings}
 use Rattle.pe_walk.specs.Machine.{Machine}
@@ -30,9 +30,11 @@ use Rattle.pe_walk.specs.Takings.{Grown, MayTraverse}
 use Rattle.pe_walk.specs.CellsAhead.{times, cells_below}
 use Rattle.pe_walk.specs.Laws.{IsCell}
 use Rattle.pe_walk.specs.Outlooks.{outlook, stored_outlook, stored_walked, IsNew}
-use Rattle.pe_walk.specs.Standing.{Outset, IsOutset, Foresees}
+use Rattle.pe_walk.specs.Standing.{Outset, Stage, IsOutset, Foresees, Stands, Fair, Owes, Holds}
 use Rattle.pe_walk.specs.Gridded.{HoldsGrid, IsTraversalOf, MayTurn}
-use Rattle.pe_base.specs.Walk.Foreseen.{walked}
+use Rattle.pe_base.specs.Tree.Ways.{way_of}
+use Rattle.pe_base.specs.Walk.Foreseen.{next_traversal, walked}
+use Rattle.pe_base.proofs.Steps.Counts.{is_same_itself}
 use Rattle.pe_base.proofs.Lists.{Each, map_same, Each-all, Each-weaker, Each-filter}
 use Rattle.pe_base.proofs.Walk.MapLaws.{at-put}
 use Rattle.pe_base.proofs.Faces.Bridge.{same_places}
@@ -43,13 +45,16 @@ use Rattle.pe_walk.specs.Gridded.{stored_of}
 use Rattle.pe_walk.proofs.Forecasts.{Sound, fresh, formed, forecast_grown, stored_grown}
 use Rattle.pe_walk.proofs.StreamOrders.{reads_are_streams, stored_is_walked}
 use Rattle.pe_walk.proofs.Outlooks.{all_front, all_behind}
-use Rattle.pe_walk.proofs.Trees.{place_is_cell}
+use Rattle.pe_walk.proofs.Trees.{place_is_cell, root_is_cell}
 use Rattle.pe_walk.proofs.Tokens.WalkedHere.{walked_here}
 use Rattle.pe_walk.proofs.Tokens.Apart.{begins_apart}
-use Rattle.pe_walk.proofs.Tokens.CellsAhead.{count-filter, cells_on_input}
+use Rattle.pe_walk.proofs.Tokens.CellsAhead.{count-filter, cells_on_input, begins_ahead}
+use Rattle.pe_walk.proofs.Tokens.CellsApart.{walked_cells_differ}
+use Rattle.pe_walk.proofs.Tokens.DepotCounts.{Lent, lent_counts}
 use Rattle.pe_walk.proofs.Tokens.Short.{begins_counting}
 use Rattle.pe_walk.proofs.Tokens.Traversals.{lent_items, lent_stacks}
 use Rattle.pe_walk.proofs.Simulation.Shared.{on_one, lies_counts}
+use Rattle.pe_walk.proofs.Simulation.Levels.{levels_differ}
 use Rattle.pe_walk.proofs.Simulation.Leaves.{record_of}
 use Rattle.pe_walk.proofs.Simulation.Visits.Entering.{times-here, times-there}
 use Rattle.pe_walk.proofs.Simulation.Outsets.{as_begun, foresight_of, foresees}
@@ -302,3 +307,124 @@ module _ {Plan : Type 0} (set : Setting Plan) (grid : Grid) (swapped : Bool) (m 
           walked_there : IsNew grid ⊎ IsWellFormed grid → 1 ≤ times (walked_cells grid.axes (next_way grid) (goes_below grid) grid.greatest root) x
           walked_there (inl new) = absurd (true≢false (sym some ∙ ap is_some (new.no_cells x)))
           walked_there (inr old) = stored_walks grid swapped old x some
+
+  -- the places as the traversal begins
+  abbrev pub start : Tokens
+  start = begun (outlook set.start_level grid swapped) (tokens_of grid swapped m)
+
+  lent_is : Lent (length (numbers (outlook set.start_level grid swapped))) (tokens_of grid swapped m).vertices (begun (outlook set.start_level grid swapped) (tokens_of grid swapped m)).vertices
+  lent_is = lent_counts (numbers (outlook set.start_level grid swapped)) (tokens_of grid swapped m).vertices
+
+  many : length (numbers (outlook set.start_level grid swapped)) ≡ 2 ^ set.axes
+  many = length-range_with_len 0 (2 ^ grid.axes) ∙ ap (λ n. 2 ^ n) (sym may.fits.axes)
+
+  abbrev pub first_stage : Stage
+  first_stage = record {
+    out = 2 ^ set.axes;
+    parent = root;
+    cell = root;
+    from = 2 ^ set.axes;
+    owed = 0;
+    unstored = 0;
+    counted = 0;
+    entered = root ∷ [];
+    ahead = cells_below (outlook set.start_level grid swapped) (grid.greatest - 1) root;
+  }
+
+  only_root : (x : Place) → 1 ≤ times (root ∷ []) x → is_same root x ≡ true
+  only_root x some = by (is_same root x) refl
+    where
+      by : (b : Bool) → is_same root x ≡ b → b ≡ true
+      by true e = refl
+      by false e = absurd (omega (arith, some, times-there root [] x e))
+
+  root_lies : lies (tokens_of grid swapped m).cells root ≡ 0
+  root_lies = lies_read root ∙ none (times (stream_cells grid) root) refl
+    where
+      none : (n : ℕ) → times (stream_cells grid) root ≡ n → n ≡ 0
+      none zero e = refl
+      none (suc n) e = absurd (true≢false (sym (lt-ltb 0 (times (stream_cells grid) root) (omega (arith, e))) ∙ sym (there_read root) ∙ root_unstored))
+
+  stands : Stands set.axes (outlook set.start_level grid swapped) first_stage start
+  stands = record {
+    apart = apart_of;
+    counting = counting_of;
+    unmet = λ vertex off. refl;
+    held_met = λ vertex some. absurd (omega (arith, some));
+    stacks = lent_is.stacks ∙ may_traverse.stacks;
+    cell_stacks = may_traverse.cell_stacks;
+    parents = λ k low on. absurd (true≢false (sym on ∙ root_off k));
+    mine = λ k high low on. absurd (omega (arith, high, low));
+    out = omega (arith, lent_is.out, many, may.holds.none_out);
+    cells_out = omega (arith, may.holds.no_cell_out);
+    parent_entered = omega (arith, times-here root [] root (is_same_itself root));
+    entered_off = λ cell some. ap (λ c. lies (tokens_of grid swapped m).cells c) (sym (same_places root cell (only_root cell some))) ∙ root_lies;
+    entered_once = λ cell some. ap (times (cells_below (outlook set.start_level grid swapped) (grid.greatest - 1) root)) (sym (same_places root cell (only_root cell some)))
+        ∙ (walked_cells_differ (outlook set.start_level grid swapped) (grid.greatest - 1) root dim_of (root_is_cell grid.axes (way_of (next_traversal grid)))).deeper root (omega arith);
+    entered_distinct = λ cell. distinct cell (is_same root cell) refl;
+    ahead = begins_ahead (outlook set.start_level grid swapped) (walked set.start_level grid) grid.greatest (tokens_of grid swapped m) dim_of grown_of may_traverse;
+  }
+    where
+      distinct : (x : Place) (b : Bool) → is_same root x ≡ b → times (root ∷ []) x ≤ 1
+      distinct x true e = omega (arith, times-here root [] x e)
+      distinct x false e = omega (arith, times-there root [] x e)
+
+  fair : Fair set.axes (set.rules.greatest set.plan) (outlook set.start_level grid swapped) (foresight_of set.start_level grid) first_stage cornered start
+  fair = record {
+    loads = λ vertex. ap (λ loads. unwrap_or (at loads vertex) 0) has.loads;
+    unread = λ vertex none. ap (λ found. at found vertex) has.vertices ∙ found-turned_by as_begun grid.vertices vertex.level vertex.pos;
+    live = λ vertex on live. absurd (elim live [ inl held ↦ let none : 1 ≤ 0 = held in omega (arith, none) | inr lying ↦ let none : 1 ≤ 0 = lying.3 in omega (arith, none) ]);
+    written = λ vertex some met. absurd (omega (arith, met));
+    gone = λ vertex on met none. absurd (omega (arith, met));
+    cells_there = λ x. ap (λ cells. is_some (at cells x)) has.cells ∙ ap is_some (at-put grid.cells root x grid.root) ∙ there x (is_same root x) refl;
+    parent_flags = λ k low. (has.made k low).1 ∙ ap not (sym (root_off k));
+    parents = λ k low off. (has.made k low).0;
+    flags = λ x k deep. ap is_some (has.others x k (omega (arith, deep)))
+        ∙ ap (λ b. b && nat_le (2 ^ set.axes) k && nat_lt k (2 ^ set.axes) && not (o.counts (corner set.axes root k))) (sym (levels_differ root x (λ e. absurd (omega (arith, e, deep)))));
+    mine = λ k high low off. absurd (omega (arith, high, low));
+  }
+    where
+      or_true : (a b : Bool) → b ≡ true → (a || b) ≡ true
+      or_true true b q = refl
+      or_true false b q = q
+
+      or_none : (a b : Bool) → b ≡ false → a ≡ (a || b)
+      or_none true b q = refl
+      or_none false b q = sym q
+
+      there : (x : Place) (b : Bool) → is_same root x ≡ b → is_some (if b then Some grid.root else at grid.cells x) ≡ (nat_lt 0 (lies (tokens_of grid swapped m).cells x) || nat_lt 0 (times (root ∷ []) x))
+      there x true e = sym (or_true (nat_lt 0 (lies (tokens_of grid swapped m).cells x)) (nat_lt 0 (times (root ∷ []) x)) (lt-ltb 0 (times (root ∷ []) x) (omega (arith, times-here root [] x e))))
+      there x false e =
+          there_read x ∙ ap (nat_lt 0) (sym (lies_read x))
+          ∙ or_none (nat_lt 0 (lies (tokens_of grid swapped m).cells x)) (nat_lt 0 (times (root ∷ []) x)) (ap (nat_lt 0) (times-there root [] x e))
+
+  owes : Owes set.axes set.max_cells (outset_of set grid swapped m) first_stage cornered.tally start
+  owes = subst (λ tally. Owes set.axes set.max_cells (outset_of set grid swapped m) first_stage tally start) (sym has.tally) (record {
+    cells = omega arith;
+    total = omega arith;
+    fresh = let corners = few_corners set.axes (subst IsDim (sym may.fits.axes) dim_of).1 in omega (arith, lent_is.fresh, many, may.counts.fresh, corners);
+    pushes = λ s. let with = with_items m.vertices (λ s. if s == input_stack swapped then stream_vertices grid else []) s in omega (arith, ap (λ stacks. (get_or stacks s new_stack).pushes) lent_is.same, with.pushes, may.counts.pushes s);
+    pops = λ s. let with = with_items m.vertices (λ s. if s == input_stack swapped then stream_vertices grid else []) s in omega (arith, ap (λ stacks. (get_or stacks s new_stack).pops) lent_is.same, with.pops, may.counts.pops s);
+    cell_fresh = omega (arith, may.cell_counts.fresh);
+    cell_pushes = λ s. let with = with_items m.cells (λ s. if s == cell_input_stack swapped then stream_cells grid else []) s in omega (arith, with.pushes, may.cell_counts.pushes s);
+    cell_pops = λ s. let with = with_items m.cells (λ s. if s == cell_input_stack swapped then stream_cells grid else []) s in omega (arith, with.pops, may.cell_counts.pops s);
+    read = omega arith;
+    written = omega arith;
+    created = omega arith;
+    destroyed = omega arith;
+    hanging = omega arith;
+    lens = λ s. omega (arith, ap length (lent_items (numbers (outlook set.start_level grid swapped)) (tokens_of grid swapped m).vertices s));
+    cell_lens = λ s. omega arith;
+  })
+    where
+      few_corners : (n : ℕ) → n ≤ 4 → 2 ^ n ≤ 16
+      few_corners zero h = omega arith
+      few_corners (suc zero) h = omega arith
+      few_corners (suc (suc zero)) h = omega arith
+      few_corners (suc (suc (suc zero))) h = omega arith
+      few_corners (suc (suc (suc (suc zero)))) h = omega arith
+      few_corners (suc (suc (suc (suc (suc n))))) h = absurd (omega arith)
+
+  -- what holds as a traversal begins
+  pub starts : Holds set (outset_of set grid swapped m) first_stage cornered start
+  starts = record { stands = stands; fair = fair; owes = owes }
