@@ -1,25 +1,31 @@
--- A grid has no more cells than its vertices allow, and a traversal of it enters no more.
-use Rattle.std.proofs.Common.{◌≡◌, inl, inr, ℕ, suc, ◌-◌, ◌≤◌, Bool, true, cond, ◌||◌, ◌∷◌, filter, length, sym, ap, ◌∙◌, arith}
+-- A grid has no more cells than its vertices allow, and a traversal of it enters no more. What a traversal of it moves.
+use Rattle.std.proofs.Common.{◌≡◌, inl, inr, ℕ, suc, ◌-◌, ◌≤◌, Bool, true, cond, ◌||◌, ◌∷◌, filter, length, sym, ap, ◌∙◌, arith, subst, ◌+◌, false, refl}
 use Rattle.std.specs.Prelude.{is_some}
 use Rattle.std.specs.List.{flat_map, list_any}
 use Rattle.std.proofs.lemmas.List.Sums.{length-filter, count_by-le-length}
 use Rattle.pe_base.specs.declared.place.Place.{Place}
 use Rattle.pe_base.specs.Tree.Places.{root, corners}
 use Rattle.pe_base.specs.Tree.Curve.{children}
+use Rattle.pe_base.specs.Tree.Dim.{IsDim}
+use Rattle.pe_base.specs.Life.States.{is_stored}
+use Rattle.pe_base.specs.Life.Kinds.{kind_from}
+use Rattle.pe_base.specs.Walk.Foreseen.{next_traversal, was, will, kind_foreseen}
 use Rattle.pe_base.specs.Walk.Maps.{at}
 use Rattle.pe_base.specs.Walk.Grids.{Grid, IsWellFormed}
 use Rattle.pe_base.specs.Walk.Streams.{if_walks, walked_cells, stream_vertices, stream_cells}
 use Rattle.pe_base.proofs.Lists.{Each-all}
 use Rattle.pe_base.proofs.Steps.Counts.{eq_false}
 use Rattle.pe_walk.specs.Tokens.{Outlook}
-use Rattle.pe_walk.specs.Outlooks.{outlook, stored_outlook, stored_walked}
+use Rattle.pe_walk.specs.Outlooks.{was_stored, outlook, stored_outlook, stored_walked}
 use Rattle.pe_walk.specs.Takings.{Grown}
 use Rattle.pe_walk.specs.Traffic.{entered_cells}
+use Rattle.pe_walk.specs.Tallies.{KindsForeseen, foreseen_tally, TrafficOfGrids}
 use Rattle.pe_walk.specs.FewCells.{FewCellsOfTraversals, FewCellsOfGrids, most_cells}
 use Rattle.pe_walk.proofs.Outlooks.{Carried}
 use Rattle.pe_walk.proofs.Forecasts.{formed, fresh, any_weaker, forecast_carried, forecast_fits, stored_carried, stored_fits}
 use Rattle.pe_walk.proofs.Tokens.Dues.{root_walks}
 use Rattle.pe_walk.proofs.Tokens.FewCells.{few_cells}
+use Rattle.pe_walk.proofs.Tokens.ExactTraffic.{traffic_by_tally}
 
 -- what is active counts
 walks_counting : (axes greatest : ℕ) (counts active walks walked : Place → Bool) → Carried axes greatest counts active walks walked → (cell : Place) → 1 ≤ cell.level → walks cell ≡ true → list_any counts (corners axes cell) ≡ true
@@ -65,3 +71,33 @@ module _ (grid : Grid) (is : IsWellFormed grid) where
 
 pub few_cells_of_grids : FewCellsOfGrids
 few_cells_of_grids grid is = stored_few grid is
+
+-- the kinds that are foreseen
+pub kinds_foreseen : KindsForeseen
+kinds_foreseen start_level grid swapped = record {
+  counts = λ v. refl;
+  reads = λ v. before (was start_level grid v) (will start_level grid v);
+  writes = λ v. behind (was start_level grid v) (will start_level grid v);
+}
+  where
+    before : (a b : Bool) → a ≡ was_stored (kind_from a b)
+    before true true = refl
+    before true false = refl
+    before false true = refl
+    before false false = refl
+
+    behind : (a b : Bool) → b ≡ is_stored (kind_from a b)
+    behind true true = refl
+    behind true false = refl
+    behind false true = refl
+    behind false false = refl
+
+pub traffic_of_grids : TrafficOfGrids
+traffic_of_grids start_level grid swapped t after low is has e =
+    let dim : IsDim grid.axes = elim is [ inl new ↦ new.axes | inr formed_so ↦ formed_so.axes ] in
+    let exact = traffic_by_tally (outlook start_level grid swapped) (kind_foreseen start_level grid) _ grid.greatest (next_traversal grid) t after dim (forecast_fits start_level grid swapped low is) (kinds_foreseen start_level grid swapped) has e in
+    record {
+      exact = exact;
+      few = subst (λ n. n ≤ most_cells grid.axes ((foreseen_tally start_level grid swapped).read + (foreseen_tally start_level grid swapped).created)) (sym exact.cells)
+          (subst (λ n. length (entered_cells (outlook start_level grid swapped) grid.greatest) ≤ most_cells grid.axes n) exact.vertices (few_cells_of_traversals start_level grid swapped low is));
+    }

@@ -46,3 +46,11 @@ pub mod WalkFrames
 pub mod FewCells
 -- each walked cell is among the cells of the walk
 pub mod WalkedHere
+-- what is counted of the walk of a cell
+pub mod TallyLaws
+-- loads and stores in the words of a tally
+pub mod TouchCounts
+-- how deep the walk of a cell goes
+pub mod Depths
+-- what a traversal moves, in what it counts
+pub mod ExactTraffic

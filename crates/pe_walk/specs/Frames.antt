@@ -13,6 +13,11 @@ use Rattle.pe_walk.specs.Takings.{loads_of, met_after}
 use Rattle.pe_walk.specs.Apart.{lies}
 use Rattle.pe_walk.specs.Traffic.{takes_from, makes, gives_to, ends}
 
+-- the depots have the stacks of vertices, and of cells
+pub record HasStacks (t : Tokens) : Type 0 where
+  pub vertices : stack_count t.vertices ≡ 10
+  pub cells : stack_count t.cells ≡ 2
+
 module _ (o : Outlook) where
   -- from where a corner is loaded, and to where it is stored, whether it counts or not
   abbrev pub loaded_from : Touch → Option ℕ
@@ -70,11 +75,6 @@ module _ (o : Outlook) where
     pub out : after.cells.out ≡ t.cells.out - 1
     pub items : (s : ℕ) → items_at after.cells s ≡ (if is_stack s (cell_target o cell) then cell ∷ items_at t.cells s else items_at t.cells s)
     pub its_lies : (x : Place) → lies after.cells x ≡ lies t.cells x + (if o.writes_cell cell && is_same cell x then 1 else 0)
-
-  -- the depots have the stacks of vertices, and of cells
-  pub record HasStacks (t : Tokens) : Type 0 where
-    pub vertices : stack_count t.vertices ≡ 10
-    pub cells : stack_count t.cells ≡ 2
 
   pub record StepsChange : Type 0 where
     pub loads : (cell : Place) (k : ℕ) (t after : Tokens) → load o cell k t ≡ Some after → AfterLoad (touch_of o cell k) t after

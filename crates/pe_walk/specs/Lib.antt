@@ -22,6 +22,8 @@ pub mod Traffic
 pub mod Frames
 -- how many cells are walked
 pub mod FewCells
+-- what a traversal counts
+pub mod Tallies
 -- grids and streams for the worked rows
 pub mod Grids
 -- the walk on stacks as a machine of lists

@@ -28,6 +28,7 @@ ghost use Rattle.pe_walk.specs.StreamLaws.{FitsTurned, StreamsAreOne, ReadsAreSt
 ghost use Rattle.pe_walk.specs.Traffic.{TrafficOfACell, TrafficOfATraversal, LoadsPerCell, CountsPerCell, TrafficIsCrossings, HangingLoads, FewVertices, StepsKeepCounting, BeginsCounting, StacksAreShort};
 ghost use Rattle.pe_walk.specs.Apart.{StepsKeepApart, BeginsApart, CornersByCounting};
 ghost use Rattle.pe_walk.specs.FewCells.{FewCells, FewCellsOfTraversals, FewCellsOfGrids};
+ghost use Rattle.pe_walk.specs.Tallies.{TallyOfACell, TrafficByTally, KindsForeseen, TrafficOfGrids};
 ghost use Rattle.pe_walk.specs.Frames.{WhatStepsChange, WhatWalksLeave};
 ghost use Rattle.pe_walk.specs.CellsAhead.{WalkedCellsDiffer, StepsKeepAhead, BeginsAhead, MovesItsCells};
 
@@ -189,6 +190,14 @@ pub fn cells_are_few()
     ensures few { FewCells }
     ensures traversals { FewCellsOfTraversals }
     ensures grids { FewCellsOfGrids }
+{}
+
+/// What is counted of the walk of a cell and of a traversal, and what a traversal moves in these counts.
+pub fn tallies()
+    ensures cell { TallyOfACell }
+    ensures traffic { TrafficByTally }
+    ensures kinds { KindsForeseen }
+    ensures grids { TrafficOfGrids }
 {}
 
 /// The core of a walk keeps kinds, and old and new, of all that its events see, by the law of effects.

@@ -44,3 +44,12 @@ count-not p (x ∷ xs) = omega (arith, count-not p xs, count-cons (λ y. not (p 
 pub sum-less : {X : Type 0} (f g : X → ℕ) (xs : List X) → Each (λ x. f x ≤ g x) xs → sum_by f xs ≤ sum_by g xs
 sum-less f g [] e = omega arith
 sum-less f g (x ∷ xs) e = omega (arith, sum_by-cons f x xs, sum_by-cons g x xs, e.0, sum-less f g xs e.1)
+
+pub count-same : {X : Type 0} (p q : X → Bool) (xs : List X) → Each (λ x. p x ≡ q x) xs → count_by p xs ≡ count_by q xs
+count-same p q [] e = refl
+count-same p q (x ∷ xs) e = omega (arith, count-cons p x xs, count-cons q x xs, ap one_if e.0, count-same p q xs e.1)
+
+-- a test that is one of two others
+pub count-sum : {X : Type 0} (p q r : X → Bool) (xs : List X) → ((x : X) → one_if (p x) ≡ one_if (q x) + one_if (r x)) → count_by p xs ≡ count_by q xs + count_by r xs
+count-sum p q r [] h = omega arith
+count-sum p q r (x ∷ xs) h = omega (arith, count-cons p x xs, count-cons q x xs, count-cons r x xs, h x, count-sum p q r xs h)

@@ -169,7 +169,7 @@ module _ (o : Outlook) where
   counted_goes true to n h s e = h s e
   counted_goes false to n h s e = absurd (let none : None ≡ Some s = e in cc)
 
-  pub after_store : IsDim o.axes → (cell : Place) (k : ℕ) (t after : Tokens) → IsCell o.axes o.way cell → k < 2 ^ o.axes → HasStacks o t → store o cell k t ≡ Some after → AfterStore o (touch_of o cell k) t after
+  pub after_store : IsDim o.axes → (cell : Place) (k : ℕ) (t after : Tokens) → IsCell o.axes o.way cell → k < 2 ^ o.axes → HasStacks t → store o cell k t ≡ Some after → AfterStore o (touch_of o cell k) t after
   after_store dim cell k t after is small has e =
       let touch = touch_of o cell k in
       let by = store_by cell k t after (o.counts touch.vertex) e in
@@ -208,7 +208,7 @@ module _ (o : Outlook) where
         its_lies = λ x. ap (λ b. lies m.0 x + one_if (b && is_same cell x)) (sym (is_given (o.reads_cell cell) (cell_input_stack o.swapped))) ∙ taken_lies (cell_source o cell) cell t.cells m.0 m.1 x;
       })
 
-  pub after_leave : IsDim o.axes → (cell : Place) (t after : Tokens) → HasStacks o t → leave o cell t ≡ Some after → AfterLeave o cell t after
+  pub after_leave : IsDim o.axes → (cell : Place) (t after : Tokens) → HasStacks t → leave o cell t ≡ Some after → AfterLeave o cell t after
   after_leave dim cell t after has e =
       let left : Tokens = record t { cells = put (cell_target o cell) cell t.cells } in
       let same : left ≡ after = cc in

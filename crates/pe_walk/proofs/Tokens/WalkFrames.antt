@@ -151,7 +151,7 @@ module _ (o : Outlook) where
       go false c same s = refl
 
   -- what parts of a walk leave, one after another
-  leaves_nothing : (level : ℕ) (t after : Tokens) → HasStacks o t → t ≡ after → LeavesAbove o level t after
+  leaves_nothing : (level : ℕ) (t after : Tokens) → HasStacks t → t ≡ after → LeavesAbove o level t after
   leaves_nothing level t after has same = subst (LeavesAbove o level t) same (record { stacks = has; held = λ q. refl; met = λ q h. refl; hanging = λ q c. refl; out = refl; cells_out = refl; cells = λ x h. refl })
 
   leaves_then : (level : ℕ) (t u v : Tokens) → LeavesAbove o level t u → LeavesAbove o level u v → LeavesAbove o level t v
@@ -165,7 +165,7 @@ module _ (o : Outlook) where
     cells = λ x h. b.cells x h ∙ a.cells x h;
   }
 
-  walk_leaves : IsDim o.axes → (levels : ℕ) (cell : Place) (t after : Tokens) → IsCell o.axes o.way cell → HasStacks o t → walk o levels cell t ≡ Some after → LeavesAbove o cell.level t after
+  walk_leaves : IsDim o.axes → (levels : ℕ) (cell : Place) (t after : Tokens) → IsCell o.axes o.way cell → HasStacks t → walk o levels cell t ≡ Some after → LeavesAbove o cell.level t after
   walk_leaves dim levels cell t after is has e =
       let traffic = traffic_of_a_cell o levels cell t after dim is has.vertices has.cells e in
       let meets = walk_meets dim levels cell t after e in
@@ -181,7 +181,7 @@ module _ (o : Outlook) where
       }
 
   each_leaves : IsDim o.axes → (levels level : ℕ) (cells : List Place) → Each (λ c. IsCell o.axes o.way c × (c.level ≡ level)) cells
-      → (t after : Tokens) → HasStacks o t → each_some (walk o levels) cells t ≡ Some after → LeavesAbove o level t after
+      → (t after : Tokens) → HasStacks t → each_some (walk o levels) cells t ≡ Some after → LeavesAbove o level t after
   each_leaves dim levels level [] each t after has e = leaves_nothing level t after has cc
   each_leaves dim levels level (c ∷ cs) each t after has e = option_and_then_some (each_some (walk o levels) cs) (walk o levels c t) after e (λ u f g.
       let one = subst (λ n. LeavesAbove o n t u) each.0.1 (walk_leaves dim levels c t u each.0.0 has f) in
