@@ -14,6 +14,7 @@ use Rattle.pe_base.specs.Walk.Grids.{Grid, StoredVertex}
 use Rattle.pe_stacks.specs.Holdings.{Holdings, new_stack, new_holdings}
 use Rattle.pe_walk.specs.Tokens.{Tokens, traverse}
 use Rattle.pe_walk.specs.Outlooks.{outlook}
+use Rattle.pe_walk.specs.Tallies.{foreseen_tally}
 
 abbrev pub is_between : ℕ → ℕ → ℕ → Bool
 is_between low high x = nat_le low x && nat_le x high
@@ -141,3 +142,9 @@ after_traversal grid streams =
 -- all stacks empty but the outputs
 abbrev pub on_outputs : Streams → List ℕ → Option (List (List Place) × List (List Place) × List ℕ)
 on_outputs streams counts = Some (slice_set (replicate 10 []) 9 streams.written, slice_set (replicate 2 []) 1 streams.cells_written, counts)
+
+-- what is counted of the next traversal: cells; vertices read, written, created, destroyed and hanging; and how deep it goes
+abbrev pub counted_of : Grid → List ℕ
+counted_of grid =
+    let tally = foreseen_tally 1 grid false in
+    tally.cells ∷ tally.read ∷ tally.written ∷ tally.created ∷ tally.destroyed ∷ tally.hanging ∷ tally.deepest ∷ []

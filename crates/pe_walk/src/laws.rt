@@ -14,9 +14,10 @@
 //! Then the walk over places on stacks, with no record and no event. `walk_of_a_cell` and `whole_traversal` say that it
 //! runs, each place on top when it is wanted, and what it leaves; `loads_are_due` that each load comes after those of the
 //! cells around its vertex that come before. They ask that an outlook fits a walk: `grids_fit` says that what is foreseen
-//! of a traversal does, and what is stored. `places_stand_apart` and `first_and_last` are what the values of vertices need.
-//! `turning_round`, `streams_are_one` and `streams_of_grids` make what is written what is read next. `traffic` and
-//! `stacks_are_short` are the counts.
+//! of a traversal does, and what is stored. `places_stand_apart`, `cells_stand_apart` and `first_and_last` are what the
+//! values of vertices and cells need, and `steps_and_frames` says what each step changes, and what the walk of a cell leaves.
+//! `turning_round`, `streams_are_one` and `streams_of_grids` make what is written what is read next. `traffic`,
+//! `stacks_are_short` and `cells_are_few` are the counts, and `tallies` has them in the words in which a traversal counts.
 //!
 //! Last what the values of the walk by address need: `core_keeps` and `kinds_are_found`.
 ghost use Rattle.pe_walk.specs.CoreKeeps.{CoreKeeps};

@@ -7,7 +7,7 @@ ghost use Rattle.pe_base.specs.Steps.Faces.{arriving, leaving, face_on};
 ghost use Rattle.pe_base.specs.Tree.Places.{root};
 ghost use Rattle.pe_walk.specs.Takings.{reads_of, writes_of};
 ghost use Rattle.pe_walk.specs.Outlooks.{outlook};
-ghost use Rattle.pe_walk.specs.Grids.{half_erased, half_erased_streams, half_kept, half_kept_streams, after_traversal, on_outputs, regular, refined_once, everywhere, mark, on_stack};
+ghost use Rattle.pe_walk.specs.Grids.{half_erased, half_erased_streams, half_kept, half_kept_streams, after_traversal, on_outputs, counted_of, regular, refined_once, everywhere, mark, on_stack};
 
 fn whole_grid_forward()
     ensures arriving_0 { on_stack arriving Forward regular 0 0 ≡
@@ -78,11 +78,12 @@ fn cell_of_space()
         ∷ (2 ∷ 6 ∷ 6 ∷ []) ∷ (1 ∷ 6 ∷ 6 ∷ []) ∷ (1 ∷ 6 ∷ 5 ∷ []) ∷ (1 ∷ 6 ∷ 4 ∷ []) ∷ []) }
 {}
 
-// A traversal with births and deaths, inverted: its streams, and what the places on stacks come to.
+// A traversal with births and deaths, inverted: its streams, what the places on stacks come to, and what is counted.
 fn half_erased_inverted()
     ensures reads { reads_of (outlook 1 half_erased false) 2 root ≡ half_erased_streams.read }
     ensures writes { writes_of (outlook 1 half_erased false) 2 root ≡ half_erased_streams.written }
     ensures places { after_traversal half_erased half_erased_streams ≡ on_outputs half_erased_streams (29 ∷ 29 ∷ 46 ∷ 46 ∷ 29 ∷ 29 ∷ 46 ∷ 46 ∷ 113 ∷ 113 ∷ 0 ∷ 12 ∷ []) }
+    ensures counted { counted_of half_erased ≡ 72 ∷ 29 ∷ 29 ∷ 21 ∷ 21 ∷ 88 ∷ 2 ∷ [] }
 {}
 
 // Another, forward.
@@ -90,6 +91,7 @@ fn half_kept_forward()
     ensures reads { reads_of (outlook 1 half_kept false) 2 root ≡ half_kept_streams.read }
     ensures writes { writes_of (outlook 1 half_kept false) 2 root ≡ half_kept_streams.written }
     ensures places { after_traversal half_kept half_kept_streams ≡ on_outputs half_kept_streams (36 ∷ 33 ∷ 56 ∷ 52 ∷ 36 ∷ 33 ∷ 56 ∷ 52 ∷ 101 ∷ 107 ∷ 0 ∷ 12 ∷ []) }
+    ensures counted { counted_of half_kept ≡ 81 ∷ 50 ∷ 44 ∷ 9 ∷ 15 ∷ 88 ∷ 2 ∷ [] }
 {}
 
 #[test]
