@@ -40,3 +40,7 @@ pub mod RootCorners
 pub mod Begins
 -- a traversal of a grid as it begins
 pub mod Starts
+-- the walk by address is never stuck
+pub mod Unstuck
+-- a traversal of the machine is the walk by address
+pub mod Traverses

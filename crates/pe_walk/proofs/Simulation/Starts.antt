@@ -207,7 +207,7 @@ module _ {Plan : Type 0} (set : Setting Plan) (grid : Grid) (swapped : Bool) (m 
           none (suc n) e = absurd (true≢false (sym (lies_counts o (begun o (tokens_of grid swapped m)) counting_of vertex (omega (arith, lying, e))) ∙ off))
 
   -- # The image
-  image_vertices : map_holdings (record_of set (outset_of set grid swapped m) (begun_of set.traversal grid) (tokens_of grid swapped m)) (tokens_of grid swapped m).vertices ≡ m.vertices
+  pub image_vertices : map_holdings (record_of set (outset_of set grid swapped m) (begun_of set.traversal grid) (tokens_of grid swapped m)) (tokens_of grid swapped m).vertices ≡ m.vertices
   image_vertices =
       image-with (record_of set (outset_of set grid swapped m) (begun_of set.traversal grid) (tokens_of grid swapped m)) m.vertices (λ s. if s == input_stack swapped then stream_vertices grid else []) (λ s low. by (s == input_stack swapped) s refl)
     where
@@ -233,7 +233,7 @@ module _ {Plan : Type 0} (set : Setting Plan) (grid : Grid) (swapped : Bool) (m 
           ∙ ap (items_at m.vertices) (sym same)
       by false s other = sym (empty stored_of (items_at m.vertices s) (may.holds.vertices s ∙ ap (λ b. if b then vertex_stream grid else []) other))
 
-  image_cells : map_holdings (cell_at (begun_of set.traversal grid)) (tokens_of grid swapped m).cells ≡ m.cells
+  pub image_cells : map_holdings (cell_at (begun_of set.traversal grid)) (tokens_of grid swapped m).cells ≡ m.cells
   image_cells = image-with (cell_at (begun_of set.traversal grid)) m.cells (λ s. if s == cell_input_stack swapped then stream_cells grid else []) (λ s low. by (s == cell_input_stack swapped) s refl)
     where
       stored_cell : (c : Place) → is_some (at grid.cells c) ≡ true → cell_at (begun_of set.traversal grid) c ≡ unwrap_or (at grid.cells c) []
