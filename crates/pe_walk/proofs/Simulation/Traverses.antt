@@ -3,6 +3,7 @@ use Rattle.std.proofs.Common.{◌≡◌, ◌⊎◌, ℕ, ℤ, zero, suc, ◌+◌
 use Rattle.std.specs.Option.{option_map, unwrap_or}
 use Rattle.std.specs.List.{range_with_len}
 use Rattle.std.proofs.lemmas.List.{append-nil}
+use Rattle.std.proofs.lemmas.List.FromFn.{length-range_with_len}
 use Rattle.pe_base.specs.declared.place.Place.{Place}
 use Rattle.pe_base.specs.declared.event.Event.TheVariants.{BeginIteration, EndIteration}
 use Rattle.pe_base.specs.Tree.Places.{root}
@@ -62,3 +63,98 @@ end-alike {W = W} swapped room image course machine after close fits same closes
         subst (λ (c : Course Machine). (machine.text ++ c.text ≡ course.text ++ []) × EndAlike swapped (halts cause) c.ending × Each room (machine.log ++ c.log)) (sym (ap (λ x. from x close) q))
         (ap (λ x. x ++ []) same.text, refl, subst (λ x. Each room x) (sym (append-nil machine.log)) same.log)
     go stuck p fit em q = absurd cc
+
+module _ {Plan : Type 0} (set : Setting Plan) (grid : Grid) (swapped : Bool) (m : Machine) (may : MayTurn set grid swapped m) where
+  abbrev e : Outset
+  e = outset_of set grid swapped m
+
+  abbrev levels : ℕ
+  levels = grid.greatest - 1
+
+  deep : suc (grid.greatest - 1) ≡ grid.greatest
+  deep = let some = (sound_of set grid swapped m may).some in omega (arith, some)
+
+  has : HasCorners set (2 ^ set.axes) (begun_of set.traversal grid) (cornered set grid swapped m may)
+  has = has_corners set (2 ^ set.axes) (begun_of set.traversal grid)
+
+  many : length (numbers (outlook set.start_level grid swapped)) ≡ 2 ^ set.axes
+  many = length-range_with_len 0 (2 ^ grid.axes) ∙ ap (λ n. 2 ^ n) (sym may.fits.axes)
+
+  -- the machine with the root's corners in hand is the image
+  corners_image : with_parents (map (record_at set.axes (cornered set grid swapped m may) root) (range_with_len 0 (2 ^ set.axes + 0)))
+      (record m { vertices = lent_times (2 ^ set.axes) m.vertices; family = record m.family { list = (cornered set grid swapped m may).list } })
+      ≡ image_of set (outset_of set grid swapped m) root (cornered set grid swapped m may) (start set grid swapped m may)
+  corners_image = λ i. record {
+    vertices = vertices i;
+    cells = cells i;
+    family = record { parents = (ap (λ n. map (record_at set.axes (cornered set grid swapped m may) root) (range_with_len 0 n)) (let whole : 2 ^ set.axes + 0 ≡ 2 ^ set.axes = omega arith in whole)) i; parent = numbers_of_root i; list = (cornered set grid swapped m may).list };
+    tally = (may.tally ∙ sym has.tally) i;
+  }
+    where
+      vertices : lent_times (2 ^ set.axes) m.vertices ≡ map_holdings (record_of set (outset_of set grid swapped m) (cornered set grid swapped m may) (start set grid swapped m may)) (start set grid swapped m may).vertices
+      vertices =
+          ap (lent_times (2 ^ set.axes)) (sym (image_vertices set grid swapped m may))
+          ∙ ap (λ n. lent_times n (map_holdings (record_of set (outset_of set grid swapped m) (begun_of set.traversal grid) (tokens_of grid swapped m)) (tokens_of grid swapped m).vertices)) (sym many)
+          ∙ sym (lent-image (record_of set (outset_of set grid swapped m) (begun_of set.traversal grid) (tokens_of grid swapped m)) (numbers (outlook set.start_level grid swapped)) (tokens_of grid swapped m).vertices lent_for (λ held. refl) (λ k ks held. refl))
+          ∙ ap (λ vertices. map_holdings (record_of set (outset_of set grid swapped m) (record (begun_of set.traversal grid) { vertices = vertices }) (tokens_of grid swapped m)) (lent_for (numbers (outlook set.start_level grid swapped)) (tokens_of grid swapped m).vertices)) (sym has.vertices)
+
+      cells : m.cells ≡ map_holdings (cell_at (cornered set grid swapped m may)) (tokens_of grid swapped m).cells
+      cells = sym (image_cells set grid swapped m may)
+          ∙ ap (λ cells. map_holdings (cell_at (record (begun_of set.traversal grid) { cells = cells })) (tokens_of grid swapped m).cells) (sym has.cells)
+
+      numbers_of_root : m.family.parent ≡ cell_at (cornered set grid swapped m may) root
+      numbers_of_root =
+          may.holds.root
+          ∙ ap (λ found. unwrap_or found []) (ap (λ b. if b then Some grid.root else at grid.cells root) (sym (is_same_itself root)) ∙ sym (at-put grid.cells root root grid.root))
+          ∙ ap (λ cells. unwrap_or (at cells root) []) (sym has.cells)
+
+  -- the machine's steps between making the root's corners and giving them up
+  abbrev middle : Machine → Course Machine
+  middle x = and_then (machine.plain set (ports_of swapped) BeginIteration x) (λ x. and_then (each (machine.walk_cell set (ports_of swapped) (suc (grid.greatest - 1))) (children set.axes (way set) root) x) (machine.plain set (ports_of swapped) EndIteration))
+
+  abbrev close : Machine → Course Machine
+  close x = machine.give_up_all set (ports_of swapped) x.family.parents (with_parents [] x)
+
+  -- a traversal of the machine, with its steps grouped
+  machine_is : machine.traverse set (ports_of swapped) grid.greatest m
+      ≡ and_then (and_then (machine.plain set (ports_of swapped) BeginIteration (image_of set (outset_of set grid swapped m) root (cornered set grid swapped m may) (start set grid swapped m may)))
+          (λ x. and_then (each (machine.walk_cell set (ports_of swapped) (suc (grid.greatest - 1))) (children set.axes (way set) root) x) (machine.plain set (ports_of swapped) EndIteration)))
+      (λ x. machine.give_up_all set (ports_of swapped) x.family.parents (with_parents [] x))
+  machine_is =
+      ap (λ n. machine.traverse set (ports_of swapped) n m) (sym deep)
+      ∙ ap (λ made. and_then made (λ it. and_then (machine.plain set (ports_of swapped) BeginIteration (with_parents it.0 it.1)) (λ x.
+      and_then (each (machine.walk_cell set (ports_of swapped) (suc (grid.greatest - 1))) (children set.axes (way set) root) x) (λ x.
+      and_then (machine.plain set (ports_of swapped) EndIteration x) (λ x. machine.give_up_all set (ports_of swapped) x.family.parents (with_parents [] x))))))
+      (corners_made set (ports_of swapped) (2 ^ set.axes) 0 [] (begun_of set.traversal grid) m may.holds.list (let corners = few_corners set.axes (sound_few set.axes) in omega (arith, may.counts.fresh, corners)) refl)
+      ∙ ap (λ x. and_then (machine.plain set (ports_of swapped) BeginIteration x) (λ x.
+      and_then (each (machine.walk_cell set (ports_of swapped) (suc (grid.greatest - 1))) (children set.axes (way set) root) x) (λ x.
+      and_then (machine.plain set (ports_of swapped) EndIteration x) (λ x. machine.give_up_all set (ports_of swapped) x.family.parents (with_parents [] x))))) corners_image
+      ∙ sym (
+        then-grouped (machine.plain set (ports_of swapped) BeginIteration first) (λ x. and_then (each (machine.walk_cell set (ports_of swapped) (suc (grid.greatest - 1))) (children set.axes (way set) root) x) (machine.plain set (ports_of swapped) EndIteration))
+            (λ x. machine.give_up_all set (ports_of swapped) x.family.parents (with_parents [] x))
+        ∙ ap (λ (next : Machine → Course Machine). and_then (machine.plain set (ports_of swapped) BeginIteration first) next)
+        (λ i x. (then-grouped (each (machine.walk_cell set (ports_of swapped) (suc (grid.greatest - 1))) (children set.axes (way set) root) x) (machine.plain set (ports_of swapped) EndIteration) (λ x. machine.give_up_all set (ports_of swapped) x.family.parents (with_parents [] x))) i)
+      )
+    where
+      first : Machine
+      first = image_of set (outset_of set grid swapped m) root (cornered set grid swapped m may) (start set grid swapped m may)
+
+      sound_few : (n : ℕ) → set.axes ≤ 4
+      sound_few n = subst (λ n. n ≤ 4) (sym may.fits.axes) (sound_of set grid swapped m may).dim.1
+
+      few_corners : (n : ℕ) → n ≤ 4 → 2 ^ n ≤ 16
+      few_corners zero h = omega arith
+      few_corners (suc zero) h = omega arith
+      few_corners (suc (suc zero)) h = omega arith
+      few_corners (suc (suc (suc zero))) h = omega arith
+      few_corners (suc (suc (suc (suc zero)))) h = omega arith
+      few_corners (suc (suc (suc (suc (suc n))))) h = absurd (omega arith)
+
+  -- and the walk by address
+  model_is : model.traverse set grid
+      ≡ course_map (λ w. (ended_of w grid, w.tally)) (and_then (model.plain set BeginIteration (cornered set grid swapped m may))
+          (λ w. and_then (each (model.walk_cell set (grid.greatest - 1) root) (children set.axes (way set) root) w) (model.plain set EndIteration)))
+  model_is =
+      ap (λ t. course_map (λ w. (ended_of w grid, w.tally)) (model.walk_root (record set { traversal = t }) grid.greatest (begun_of t grid))) (sym may.fits.traversal)
+      ∙ ap (λ ks. course_map (λ w. (ended_of w grid, w.tally)) (and_then (model.plain set BeginIteration (model.root_corners set ks (begun_of set.traversal grid)))
+          (λ w. and_then (each (model.walk_cell set (grid.greatest - 1) root) (children set.axes (way set) root) w) (model.plain set EndIteration)))) (reverse-range (2 ^ set.axes))
