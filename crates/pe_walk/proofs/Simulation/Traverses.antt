@@ -39,6 +39,7 @@ use Rattle.pe_walk.proofs.Simulation.RootCorners.{HasCorners, has_corners, lent_
 use Rattle.pe_walk.proofs.Simulation.Starts.{tokens_of, outset_of, sound_of, dim_of, grown_of, may_traverse, image_vertices, image_cells, cornered, start, is_outset, starts}
 use Rattle.pe_walk.proofs.Simulation.Cells.Corners.{down_from, reverse-range}
 use Rattle.pe_walk.proofs.Simulation.Cells.Simulated.{traversal_simulated}
+use Rattle.pe_walk.proofs.Simulation.Unstuck.{middle-fits}
 
 -- an image of what is lent is lent
 lent-image : {X Y : Type 0} (f : X → Y) (ks : List ℕ) (held : Holdings X) (lent_all : List ℕ → Holdings X → Holdings X) → ((held : Holdings X) → lent_all [] held ≡ held) → ((k : ℕ) (ks : List ℕ) (held : Holdings X) → lent_all (k ∷ ks) held ≡ lent_all ks (lent held))
@@ -158,3 +159,34 @@ module _ {Plan : Type 0} (set : Setting Plan) (grid : Grid) (swapped : Bool) (m 
       ap (λ t. course_map (λ w. (ended_of w grid, w.tally)) (model.walk_root (record set { traversal = t }) grid.greatest (begun_of t grid))) (sym may.fits.traversal)
       ∙ ap (λ ks. course_map (λ w. (ended_of w grid, w.tally)) (and_then (model.plain set BeginIteration (model.root_corners set ks (begun_of set.traversal grid)))
           (λ w. and_then (each (model.walk_cell set (grid.greatest - 1) root) (children set.axes (way set) root) w) (model.plain set EndIteration)))) (reverse-range (2 ^ set.axes))
+
+  -- how a traversal ends, once the last event has fired
+  abbrev pub Closes : (Push → Type 0) → Type 0
+  Closes room = (w : Working) (t : Tokens) → Holds set (outset_of set grid swapped m) (at_root set (outset_of set grid swapped m) room []) w t
+      → HasTraversed (outlook set.start_level grid swapped) grid.greatest (tokens_of grid swapped m) (ended (outlook set.start_level grid swapped) t)
+      → (after : Machine) × (machine.give_up_all set (ports_of swapped) (records_of set.axes w root) (with_parents [] (image_of set (outset_of set grid swapped m) root w t)) ≡ at_once after)
+      × HasTurned swapped (ended_of w grid, w.tally) after
+
+  -- a traversal of the machine is the walk by address, and each push has room
+  pub turns : (room : Push → Type 0) → HasRoom set (outset_of set grid swapped m) room → Closes room
+      → IsWalked set grid swapped (machine.traverse set (ports_of swapped) grid.greatest m) × Each room (machine.traverse set (ports_of swapped) grid.greatest m).log
+  turns room roomy closes =
+      let whole = whole_traversal (outlook set.start_level grid swapped) (walked set.start_level grid) grid.greatest (tokens_of grid swapped m) (dim_of set grid swapped m may) (grown_of set grid swapped m may) (may_traverse set grid swapped m may) in
+      let runs = map_some (ended (outlook set.start_level grid swapped)) (each_some (tokens.walk (outlook set.start_level grid swapped) (grid.greatest - 1)) (children grid.axes (outlook set.start_level grid swapped).way root) (start set grid swapped m may)) whole.0 whole.1 in
+      let steps = traversal_simulated set (outset_of set grid swapped m) (walked set.start_level grid) room (is_outset set grid swapped m may) roomy (grid.greatest - 1)
+          (cornered set grid swapped m may) (start set grid swapped m may) runs.0 (starts set grid swapped m may) runs.1 in
+      let alike = end-alike swapped room (λ w. image_of set (outset_of set grid swapped m) root w runs.0)
+          (and_then (model.plain set BeginIteration (cornered set grid swapped m may)) (λ w. and_then (each (model.walk_cell set (grid.greatest - 1) root) (children set.axes (way set) root) w) (model.plain set EndIteration)))
+          (and_then (machine.plain set (ports_of swapped) BeginIteration (image_of set (outset_of set grid swapped m) root (cornered set grid swapped m may) (start set grid swapped m may)))
+          (λ x. and_then (each (machine.walk_cell set (ports_of swapped) (suc (grid.greatest - 1))) (children set.axes (way set) root) x) (machine.plain set (ports_of swapped) EndIteration)))
+          (λ w. (ended_of w grid, w.tally)) (λ x. machine.give_up_all set (ports_of swapped) x.family.parents (with_parents [] x))
+          (middle-fits set (grid.greatest - 1) (cornered set grid swapped m may)) steps.same
+          (λ w ends. closes w runs.0 (steps.holds w ends) (subst (λ t. HasTraversed (outlook set.start_level grid swapped) grid.greatest (tokens_of grid swapped m) t) (sym runs.2) whole.2)) in (
+        record {
+          text = ap (λ c. c.text) machine_is ∙ alike.0 ∙ sym (ap (λ c. c.text) model_is);
+          ending = subst (λ (a : Ending (Grid × Tally)). EndAlike swapped a (machine.traverse set (ports_of swapped) grid.greatest m).ending) (sym (ap (λ c. c.ending) model_is))
+              (subst (λ (b : Ending Machine). EndAlike swapped (course_map (λ w. (ended_of w grid, w.tally)) (and_then (model.plain set BeginIteration (cornered set grid swapped m may))
+              (λ w. and_then (each (model.walk_cell set (grid.greatest - 1) root) (children set.axes (way set) root) w) (model.plain set EndIteration)))).ending b) (sym (ap (λ c. c.ending) machine_is)) alike.1);
+        },
+        subst (λ (c : Course Machine). Each room c.log) (sym machine_is) alike.2,
+      )
