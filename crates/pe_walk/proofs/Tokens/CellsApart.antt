@@ -67,6 +67,11 @@ children_once : (axes : ℕ) (way : Way) (cell x : Place) → axes ≤ 4 → IsC
 children_once axes way cell x four is =
     rising_once (rank_of axes way (suc cell.level)) (λ a b e. ap (λ p. rank axes way (suc cell.level) p) (is_same-true a b e).1) _ _ (children axes way cell) (children_rise axes way cell.level cell four (cell_four axes way cell four is)) x
 
+-- what holds of each of some items holds where they are walked
+pub each_if : {X : Type 0} (P : X → Type 0) (axes : ℕ) (way : Way) (walks : Place → Bool) (b : Bool) (xs : List X) → Each P xs → Each P (if_walks axes way walks b xs)
+each_if P axes way walks true xs e = e
+each_if P axes way walks false xs e = tt
+
 module _ (o : Outlook) (four : o.axes ≤ 4) where
   -- the cells of the walks of a cell's children lie below it
   walk_below : (levels : ℕ) → ((cell : Place) → IsCell o.axes o.way cell → Each (Under cell) (walked_cells o.axes o.way o.walks levels cell))

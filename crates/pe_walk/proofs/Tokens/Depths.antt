@@ -1,15 +1,16 @@
 -- How deep the walk of a cell goes.
-use Rattle.std.proofs.Common.{◌≡◌, ℕ, zero, suc, ◌+◌, ◌-◌, ◌≤◌, Bool, true, false, List, [], ◌∷◌, ◌∙◌, arith}
+use Rattle.std.proofs.Common.{◌≡◌, ℕ, zero, suc, ◌+◌, ◌-◌, ◌≤◌, List, [], ◌∷◌, ◌∙◌, arith}
 use Rattle.std.specs.Prelude.{max}
 use Rattle.std.specs.List.{flat_map}
 use Rattle.pe_base.specs.declared.place.Place.{Place}
 use Rattle.pe_base.specs.Tree.Curve.{children}
-use Rattle.pe_base.specs.Walk.Streams.{if_walks, walked_children, walked_cells}
+use Rattle.pe_base.specs.Walk.Streams.{walked_children, walked_cells}
 use Rattle.pe_base.proofs.Lists.{Each, Each-all}
 use Rattle.pe_walk.specs.Tokens.{Outlook}
 use Rattle.pe_walk.specs.Traffic.{tallest, height}
 use Rattle.pe_walk.specs.Tallies.{deepest_of}
 use Rattle.pe_walk.proofs.Tokens.Walks.{children_levels}
+use Rattle.pe_walk.proofs.Tokens.CellsApart.{each_if}
 use Rattle.pe_walk.proofs.Tokens.TallyLaws.{deepest-append}
 
 module _ (o : Outlook) where
@@ -31,15 +32,11 @@ module _ (o : Outlook) where
   some_height zero cell = omega arith
   some_height (suc levels) cell = omega arith
 
-  each_if : (P : Place → Type 0) (b : Bool) (cells : List Place) → Each P cells → Each P (if_walks o.axes o.way o.walks b cells)
-  each_if P true cells e = e
-  each_if P false cells e = tt
-
   pub walk_deepest : (levels : ℕ) (cell : Place) (n : ℕ) → deepest_of (walked_cells o.axes o.way o.walks levels cell) n ≡ max n (cell.level + (height o levels cell - 1))
   walk_deepest zero cell n = omega arith
   walk_deepest (suc levels) cell n =
       let kids = walked_children o.axes o.way o.walks cell in
-      each_deepest levels cell.level (walk_deepest levels) kids (each_if (λ c. c.level ≡ cell.level + 1) (o.walks cell) (children o.axes o.way cell) (children_levels o.axes o.way cell)) (Each-all _ (some_height levels) kids)
+      each_deepest levels cell.level (walk_deepest levels) kids (each_if (λ c. c.level ≡ cell.level + 1) o.axes o.way o.walks (o.walks cell) (children o.axes o.way cell) (children_levels o.axes o.way cell)) (Each-all _ (some_height levels) kids)
       (max n cell.level) (omega arith)
       ∙ joined n cell.level (tallest (height o levels) kids)
     where

@@ -22,6 +22,7 @@ use Rattle.pe_walk.proofs.Tokens.Walks.{children_levels}
 use Rattle.pe_walk.proofs.Tokens.Apart.{one_if}
 use Rattle.pe_walk.proofs.Tokens.Traffic.{loads_length}
 use Rattle.pe_walk.proofs.Tokens.Crossings.{hanging_loads}
+use Rattle.pe_walk.proofs.Tokens.CellsApart.{each_if}
 use Rattle.pe_walk.proofs.Tokens.CountLists.{count-cons, count-append, count-flat_map, count-reverse, count-not, sum-less}
 
 abbrev tests : Outlook → Touch → Bool
@@ -93,10 +94,6 @@ module _ (o : Outlook) where
         go true e = omega (arith, count-reverse (tests o) (corner_touches o.axes cell), corners-count o.axes cell o.counts (fits cell deep e))
         go false e = omega arith
 
-    each_if : (P : Place → Type 0) (b : Bool) (cells : List Place) → Each P cells → Each P (if_walks o.axes o.way o.walks b cells)
-    each_if P true cells e = e
-    each_if P false cells e = tt
-
     walks-loads : (levels : ℕ) (cell : Place) → 1 ≤ cell.level → count_by o.walks (walked_cells o.axes o.way o.walks levels cell) ≤ count_by (tests o) (loads_of o levels cell)
     walks-loads zero cell deep = omega (arith, count-cons o.walks cell [], own cell deep)
     walks-loads (suc levels) cell deep =
@@ -109,7 +106,7 @@ module _ (o : Outlook) where
           count-flat_map o.walks (walked_cells o.axes o.way o.walks levels) kids,
           count-flat_map (tests o) (loads_of o levels) kids,
           sum-less (λ c. count_by o.walks (walked_cells o.axes o.way o.walks levels c)) (λ c. count_by (tests o) (loads_of o levels c)) kids
-              (each_if _ (o.walks cell) (children o.axes o.way cell) (Each-weaker (λ c. c.level ≡ cell.level + 1) _ (λ c e. walks-loads levels c (omega (arith, e))) (children o.axes o.way cell) (children_levels o.axes o.way cell))),
+              (each_if _ o.axes o.way o.walks (o.walks cell) (children o.axes o.way cell) (Each-weaker (λ c. c.level ≡ cell.level + 1) _ (λ c e. walks-loads levels c (omega (arith, e))) (children o.axes o.way cell) (children_levels o.axes o.way cell))),
         )
 
 -- the touches of vertices that count

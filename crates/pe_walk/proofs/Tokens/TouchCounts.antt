@@ -9,7 +9,7 @@ use Rattle.pe_base.specs.Tree.Curve.{children}
 use Rattle.pe_base.specs.Steps.Routes.{stack_in, stack_out}
 use Rattle.pe_base.specs.Steps.Faces.{Touch, stack_of, corner_touches}
 use Rattle.pe_base.specs.Steps.Stacks.{is_stack}
-use Rattle.pe_base.specs.Walk.Streams.{if_walks, walked_children, walked_cells}
+use Rattle.pe_base.specs.Walk.Streams.{walked_children, walked_cells}
 use Rattle.pe_base.proofs.Lists.{Each, Each-all, Each-weaker, Each-append, Each-map, Each-reverse, Each-flat_map}
 use Rattle.pe_base.proofs.Steps.Counts.{eq_false, same_itself}
 use Rattle.pe_stacks.specs.Grid.{input_stack, output_stack}
@@ -25,6 +25,7 @@ use Rattle.pe_walk.proofs.Tokens.Passages.{far_input}
 use Rattle.pe_walk.proofs.Tokens.Apart.{one_if}
 use Rattle.pe_walk.proofs.Tokens.Short.{sum-same}
 use Rattle.pe_walk.proofs.Tokens.DepotCounts.{count_none}
+use Rattle.pe_walk.proofs.Tokens.CellsApart.{each_if}
 use Rattle.pe_walk.proofs.Tokens.CountLists.{count-append, count-flat_map, count-reverse, count-same, count-sum}
 
 -- a stack, if there is one, is of the axes
@@ -75,11 +76,7 @@ module _ (o : Outlook) (dim : IsDim o.axes) where
   own_touches P h cell is = Each-map P (λ k. record { vertex = corner o.axes cell k; cell = cell }) (range_with_len 0 (2 ^ o.axes)) (each_below (2 ^ o.axes) _ (λ k small. h cell is k small))
 
   each_kid : (Q : Place → Type 0) (cell : Place) → IsCell o.axes o.way cell → ((c : Place) → IsCell o.axes o.way c → Q c) → Each Q (walked_children o.axes o.way o.walks cell)
-  each_kid Q cell is h = go (o.walks cell) (Each-weaker (IsCell o.axes o.way) Q h (children o.axes o.way cell) (kids_in_tree o dim.1 cell is))
-    where
-      go : (b : Bool) → Each Q (children o.axes o.way cell) → Each Q (if_walks o.axes o.way o.walks b (children o.axes o.way cell))
-      go true e = e
-      go false e = tt
+  each_kid Q cell is h = each_if Q o.axes o.way o.walks (o.walks cell) (children o.axes o.way cell) (Each-weaker (IsCell o.axes o.way) Q h (children o.axes o.way cell) (kids_in_tree o dim.1 cell is))
 
   module _ (P : Touch → Type 0) (h : (cell : Place) → IsCell o.axes o.way cell → (k : ℕ) → k < 2 ^ o.axes → P (touch_of o cell k)) where
     pub each_load : (levels : ℕ) (cell : Place) → IsCell o.axes o.way cell → Each P (loads_of o levels cell)
