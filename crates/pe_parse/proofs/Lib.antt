@@ -22,6 +22,8 @@ pub mod Accepts
 pub mod Refusals
 -- tokens that may come begin a body
 pub mod Completes
+-- tokens without a fault spell a body
+pub mod FaultFree
 -- tokens read by descent
 pub mod Descent
 -- each text has at most one tree

@@ -14,6 +14,8 @@ pub mod Faults
 pub mod Reading
 -- what it means that a body begins with tokens
 pub mod Bodies
+-- the tree of tokens
+pub mod Trees
 -- how a body is printed
 pub mod Printed
 -- what makes the grammar one reading of a text

@@ -1,5 +1,11 @@
 //! Laws of the grammar. Each function has a law for its contract, and no body: the law holds of the definitions alone.
 ghost use Rattle.pe_parse.specs.Laws.{HasOneTree, IsReadAsPrinted};
+ghost use Rattle.pe_parse.specs.Trees.{AreSpelled};
+
+/// Tokens without a fault spell a body.
+pub fn fault_free_is_spelled()
+    ensures { AreSpelled }
+{}
 
 /// Each text has at most one tree.
 pub fn one_tree()

@@ -14,7 +14,7 @@ mod tree;
 mod words;
 
 pub use fault::ParseFault;
-pub use laws::{one_tree, printed_is_read};
+pub use laws::{fault_free_is_spelled, one_tree, printed_is_read};
 pub use rank::Rank;
 pub use read::parse;
 pub use tree::{Body, Choice, Expr, Name, Prefix, Sign, Stmt, Trigger, Values, Word};
