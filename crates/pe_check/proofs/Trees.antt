@@ -7,6 +7,8 @@ use Rattle.pe_parse.specs.declared.tree.Expr.{Expr as Read, Chain as ReadChain}
 use Rattle.pe_parse.specs.declared.tree.Expr.TheOpen.{Expr-F}
 use Rattle.pe_parse.specs.declared.tree.Expr.TheVariants as read
 use Rattle.pe_parse.specs.declared.tree.Expr.TheFolds.{fold-roll-Expr}
+use Rattle.pe_parse.specs.declared.tree.Stmt.{Stmt as ReadStmt}
+use Rattle.pe_parse.specs.Statements.{statement_of, statements_of}
 use Rattle.pe_check.specs.declared.cause.CheckFault.{CheckFault}
 use Rattle.pe_check.specs.declared.checked.Expr.{Expr, Chain}
 use Rattle.pe_check.specs.declared.checked.Expr.TheOpen as open_checked
@@ -18,7 +20,7 @@ use Rattle.pe_check.specs.declared.checked.Stmt.TheVariants as stmts
 use Rattle.pe_check.specs.declared.checked.Stmt.TheFolds as stmt_folds
 use Rattle.pe_check.specs.Fits.{Reach, expr_fits, expr_fits_step, stmt_fits, stmt_fits_step, fits}
 use Rattle.pe_check.specs.Resolving.{Context}
-use Rattle.pe_check.specs.Checking.{◌>>=◌, all_of, link_of, expr_step, expr_of}
+use Rattle.pe_check.specs.Checking.{◌>>=◌, all_of, link_of, expr_step, expr_of, stmt_of, each_of, body_of}
 
 -- a link whose operand is checked
 abbrev pub checked_link : Context → Sign × Read → Result (Sign × Expr) CheckFault
@@ -82,3 +84,15 @@ if_fits reach test body here all = stmt_fits-If reach test body ∙ both _ _ her
 
 pub if_else_fits : (reach : Reach) (test : Expr) (body other : List Stmt) → IsTrue (expr_fits reach test) → IsTrue (fits reach body) → IsTrue (fits reach other) → IsTrue (stmt_fits reach (IfElse test body other))
 if_else_fits reach test body other here all more = stmt_fits-IfElse reach test body other ∙ both _ _ (both _ _ here all) more
+
+-- a statement as the code holds it
+abbrev pub checked_stmt : Context → ReadStmt → Result Stmt CheckFault
+checked_stmt context stmt = stmt_of context (statement_of stmt)
+
+each_of-all : (context : Context) (body : List ReadStmt) → each_of context (statements_of body) ≡ map (checked_stmt context) body
+each_of-all context [] = refl
+each_of-all context (stmt ∷ body) = ap (λ rest. checked_stmt context stmt ∷ rest) (each_of-all context body)
+
+-- a body is checked statement by statement
+pub body_of-all : (context : Context) (body : List ReadStmt) → body_of context (statements_of body) ≡ all_of (map (checked_stmt context) body)
+body_of-all context body = ap all_of (each_of-all context body)

@@ -4,9 +4,7 @@ use Rattle.pe_parse.specs.declared.tree.Sign.{Sign}
 use Rattle.pe_parse.specs.declared.tree.Expr.{Expr as Read}
 use Rattle.pe_parse.specs.declared.tree.Expr.TheOpen.{Expr-F}
 use Rattle.pe_parse.specs.declared.tree.Expr.TheFolds.{fold-Expr}
-use Rattle.pe_parse.specs.declared.tree.Stmt.{Stmt as ReadStmt}
-use Rattle.pe_parse.specs.declared.tree.Stmt.TheOpen.{Stmt-F}
-use Rattle.pe_parse.specs.declared.tree.Stmt.TheFolds.{fold-Stmt}
+use Rattle.pe_parse.specs.Statements.{Statement, Statements, Assigns, Marks, Prints, Chooses, ChoosesElse, Nothing, Then}
 use Rattle.pe_check.specs.declared.cause.Cause.{Cause}
 use Rattle.pe_check.specs.declared.cause.CheckFault.{CheckFault}
 use Rattle.pe_check.specs.declared.checked.Expr.{Expr, Number, Name, Unary, Chain, Extreme, Abs}
@@ -44,17 +42,19 @@ expr_step context (Expr-F.Abs operand) = operand >>= λ x. Ok (Abs x)
 abbrev pub expr_of : Context → Read → Result Expr CheckFault
 expr_of context = fold-Expr (Result Expr CheckFault) (expr_step context)
 
--- a statement whose bodies are replaced or refused
-abbrev pub stmt_step : Context → Stmt-F (Result Stmt CheckFault) → Result Stmt CheckFault
-stmt_step context (Stmt-F.Assign name expr) = located name.at (slot_name context name.first name.second) >>= λ slot. expr_of context expr >>= λ x. Ok (Assign slot x)
-stmt_step context (Stmt-F.Mark trigger word) = located word.at (vertex_word context word.text) >>= λ vertex. Ok (Mark trigger vertex)
-stmt_step context (Stmt-F.Print values) = all_of (map (expr_of context) values.items) >>= λ xs. Ok (Print xs)
-stmt_step context (Stmt-F.If test body) = expr_of context test >>= λ x. all_of body >>= λ xs. Ok (If x xs)
-stmt_step context (Stmt-F.IfElse test body other) = expr_of context test >>= λ x. all_of body >>= λ xs. all_of other >>= λ ys. Ok (IfElse x xs ys)
+-- a statement and statements with their names replaced
+abbrev mutual
+  pub stmt_of : Context → Statement → Result Stmt CheckFault
+  stmt_of context (Assigns name expr) = located name.at (slot_name context name.first name.second) >>= λ slot. expr_of context expr >>= λ x. Ok (Assign slot x)
+  stmt_of context (Marks trigger word) = located word.at (vertex_word context word.text) >>= λ vertex. Ok (Mark trigger vertex)
+  stmt_of context (Prints values) = all_of (map (expr_of context) values) >>= λ xs. Ok (Print xs)
+  stmt_of context (Chooses test body) = expr_of context test >>= λ x. all_of (each_of context body) >>= λ xs. Ok (If x xs)
+  stmt_of context (ChoosesElse test body other) = expr_of context test >>= λ x. all_of (each_of context body) >>= λ xs. all_of (each_of context other) >>= λ ys. Ok (IfElse x xs ys)
 
-abbrev pub stmt_of : Context → ReadStmt → Result Stmt CheckFault
-stmt_of context = fold-Stmt (Result Stmt CheckFault) (stmt_step context)
+  pub each_of : Context → Statements → List (Result Stmt CheckFault)
+  each_of context Nothing = []
+  each_of context (Then statement statements) = stmt_of context statement ∷ each_of context statements
 
 -- each name is checked, also where it stands in a branch that never runs
-abbrev pub body_of : Context → List ReadStmt → Result (List Stmt) CheckFault
-body_of context body = all_of (map (stmt_of context) body)
+abbrev pub body_of : Context → Statements → Result (List Stmt) CheckFault
+body_of context body = all_of (each_of context body)

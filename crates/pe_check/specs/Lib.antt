@@ -2,6 +2,8 @@
 
 -- the table of names
 pub mod Table
+-- the names of fields
+pub mod FieldNames
 -- what names stand for, and why they are refused
 pub mod Resolving
 -- when a body whose names are resolved fits an event

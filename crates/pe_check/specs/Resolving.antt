@@ -4,7 +4,6 @@ use Rattle.std.specs.Str.{bytes_eq}
 use Rattle.std.specs.List.{position_from}
 use Rattle.pe_base.specs.declared.event.Sort.{Sort}
 use Rattle.pe_base.specs.declared.event.Event.{Event}
-use Rattle.pe_base.specs.declared.setup.Names.{Names}
 use Rattle.pe_base.specs.Acts.Events.{sort_of}
 use Rattle.pe_check.specs.declared.checked.VertexName.{VertexName}
 use Rattle.pe_check.specs.declared.checked.Slot.{Slot}
@@ -15,6 +14,7 @@ use Rattle.pe_check.specs.declared.head.Head.{Head}
 use Rattle.pe_check.specs.declared.head.Head.TheVariants.{Traversal, Global, Level, Axis, Vertex, Cell, Parent}
 use Rattle.pe_check.specs.declared.cause.Cause.{Cause}
 use Rattle.pe_check.specs.declared.cause.Cause.TheVariants.{UnknownName, NotHere, Corner, ReadOnly}
+use Rattle.pe_check.specs.FieldNames.{FieldNames}
 use Rattle.pe_check.specs.Fits.{Reach}
 use Rattle.pe_check.specs.Table.{head_of, is_here, has_corner}
 
@@ -22,10 +22,10 @@ use Rattle.pe_check.specs.Table.{head_of, is_here, has_corner}
 pub record Context : Type 0 where
   pub sort : Sort
   pub dim : ℕ
-  pub names : Names
+  pub names : FieldNames
 
 -- at an event
-abbrev pub context_at : Event → ℕ → Names → Context
+abbrev pub context_at : Event → ℕ → FieldNames → Context
 context_at event dim names = record { sort = sort_of event; dim = dim; names = names }
 
 abbrev pub reach_in : Context → Reach

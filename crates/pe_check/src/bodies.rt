@@ -2,6 +2,8 @@ ghost use Rattle.std.specs.Prelude.{◌≡◌, length, map, IfOk, IsTrue};
 ghost use Rattle.std.specs.List.{list_all};
 ghost use Rattle.std.specs.Option.{option_copied};
 ghost use Rattle.pe_base.specs.Acts.Events.{sort_of};
+ghost use Rattle.pe_parse.specs.Statements.{statement_of, statements_of};
+ghost use Rattle.pe_check.specs.FieldNames.{names_view};
 ghost use Rattle.pe_check.specs.Fits.{expr_fits, stmt_fits, fits};
 ghost use Rattle.pe_check.specs.Resolving.{reach_in, context_at};
 ghost use Rattle.pe_check.specs.Scopes.{context_of};
@@ -27,8 +29,8 @@ pub fn check(
     names: &Names,
     dim: Dim,
 ) -> Result<Checked, CheckFault>
-    ensures answer { Gives (λ checked. checked) result (body_of (context_at event dim names.now) body) }
-    ensures fits { IfOk result (λ checked. IsTrue (fits (reach_in (context_at event dim names.now)) checked)) }
+    ensures answer { Gives (λ checked. checked) result (body_of (context_at event dim (names_view names.now)) (statements_of body)) }
+    ensures fits { IfOk result (λ checked. IsTrue (fits (reach_in (context_at event dim (names_view names.now))) checked)) }
 {
     let scope = Scope {
         sort: event.sort(),
@@ -111,7 +113,7 @@ fn check_values(
 /// Statements in turn, with their names replaced.
 #[cycle(body)]
 fn check_body(alloc: Global, body: &[tree::Stmt], scope: &Scope) -> Result<List<Stmt>, CheckFault>
-    ensures answer { Gives (λ xs. xs) result (body_of (context_of scope.now) body.now) }
+    ensures answer { Gives (λ xs. xs) result (body_of (context_of scope.now) (statements_of body.now)) }
     ensures fits { IfOk result (λ xs. IsTrue (fits (reach_in (context_of scope.now)) xs)) }
 {
     let mut checked = Vec::new(alloc);
@@ -128,7 +130,7 @@ fn check_body(alloc: Global, body: &[tree::Stmt], scope: &Scope) -> Result<List<
 /// The tree of a statement with its names replaced.
 #[cycle(body)]
 fn check_stmt(alloc: Global, stmt: &tree::Stmt, scope: &Scope) -> Result<Stmt, CheckFault>
-    ensures answer { Gives (λ x. x) result (stmt_of (context_of scope.now) stmt.now) }
+    ensures answer { Gives (λ x. x) result (stmt_of (context_of scope.now) (statement_of stmt.now)) }
     ensures fits { IfOk result (λ x. IsTrue (stmt_fits (reach_in (context_of scope.now)) x)) }
 {
     match stmt {
