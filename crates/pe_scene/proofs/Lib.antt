@@ -4,3 +4,9 @@
 pub mod Keys
 -- arrays
 pub mod Arrays
+-- the body of a text
+pub mod BodyText
+-- the bodies of a table
+pub mod BodyLoop
+-- the document of some bytes
+pub mod SaidLemmas

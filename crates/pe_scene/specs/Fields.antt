@@ -1,6 +1,7 @@
 -- The names of the fields of a scenario.
 use Rattle.std.specs.Prelude.{ℕ, List, [], codes, Option, Some, None, Result, Ok, Err}
 use Rattle.toml.specs.Data.{Data, Members, get_member, as_table}
+use Rattle.pe_check.specs.FieldNames.{FieldNames}
 use Rattle.pe_scene.specs.declared.fault.SceneFault.{SceneFault}
 use Rattle.pe_scene.specs.declared.fault.SceneFault.TheVariants.{Shape, UnknownKey}
 use Rattle.pe_scene.specs.declared.section.Section.{Section}
@@ -8,12 +9,6 @@ use Rattle.pe_scene.specs.declared.section.Section.TheVariants.{Fields as InFiel
 use Rattle.pe_scene.specs.Sections.{named, unknown_in}
 use Rattle.pe_scene.specs.Faults.{on_ok}
 use Rattle.pe_scene.specs.Texts.{of_array, texts_of, names_of}
-
--- the names of the numbers of a vertex, of a cell, and of the whole grid
-pub record FieldNames : Type 0 where
-  pub vertex : List (List ℕ)
-  pub cell : List (List ℕ)
-  pub global : List (List ℕ)
 
 abbrev pub no_names : FieldNames
 no_names = record { vertex = []; cell = []; global = [] }

@@ -16,6 +16,10 @@ pub mod SettingsView
 pub mod Texts
 pub mod Fields
 pub mod TextsView
--- what a scenario says before its bodies
-pub mod Front
-pub mod FrontView
+-- the body of an event, from its text
+pub mod BodyTexts
+-- the table of bodies
+pub mod BodyTable
+-- what a scenario says, or the first cause of its refusal
+pub mod Said
+pub mod SaidView

@@ -6,7 +6,7 @@ ghost use Rattle.toml.specs.View.{items_view, table_view};
 ghost use Rattle.pe_lex.specs.Forms.{is_letter, is_word_byte};
 ghost use Rattle.pe_scene.specs.Sections.{named, is_one_of};
 ghost use Rattle.pe_scene.specs.Texts.{texts_of, is_spelled, is_field_name, are_field_names, names_of};
-ghost use Rattle.pe_scene.specs.TextsView.{names_view};
+ghost use Rattle.pe_check.specs.FieldNames.{names_view};
 ghost use Rattle.pe_scene.specs.Fields.{names_at, names_in, fields_in};
 ghost use Rattle.pe_scene.specs.Faults.{Gives};
 

@@ -2,16 +2,19 @@
 #![tactic(auto)]
 
 mod bodies;
+mod body;
 mod fault;
 mod fields;
-mod front;
+mod read;
 mod scenario;
 mod section;
 mod settings;
+mod table;
 mod texts;
 mod trace;
 
 pub use bodies::Bodies;
 pub use fault::{BodyCause, SceneFault};
+pub use read::{SCENARIO_LIMIT, read_scenario};
 pub use scenario::Scenario;
 pub use trace::Trace;
