@@ -1,5 +1,5 @@
 -- The body of a text, once its tokens and its tree are known.
-use Rattle.std.proofs.Common.{◌≡◌, ℕ, List, Option, Some, None, Result, Ok, Err, refl, ap, ◌∙◌}
+use Rattle.std.proofs.Common.{◌≡◌, ℕ, List, Option, Some, None, Result, Ok, refl, ap, ◌∙◌}
 use Rattle.pe_base.specs.declared.event.Event.{Event}
 use Rattle.pe_lex.specs.declared.token.Token.{Token}
 use Rattle.pe_lex.specs.Tokens.{tokens_of}
@@ -10,7 +10,6 @@ use Rattle.pe_parse.specs.Grammar.{All, Spells}
 use Rattle.pe_parse.specs.Faults.{fault_of}
 use Rattle.pe_parse.proofs.FaultFree.{tree_of}
 use Rattle.pe_parse.proofs.Once.{one_tree}
-use Rattle.pe_check.specs.declared.checked.Stmt.{Stmt}
 use Rattle.pe_check.specs.declared.cause.CheckFault.{CheckFault}
 use Rattle.pe_check.specs.declared.cause.CheckFault.TheVariants.{UnknownName, NotHere, Corner, ReadOnly, Memory}
 use Rattle.pe_check.specs.Answers as checking

@@ -10,3 +10,5 @@ pub mod BodyText
 pub mod BodyLoop
 -- the document of some bytes
 pub mod SaidLemmas
+-- no document is refused for its length
+pub mod NotTooLong

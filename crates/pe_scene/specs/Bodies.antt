@@ -1,5 +1,5 @@
 -- The bodies of a scenario, and when they fit it.
-use Rattle.std.specs.Prelude.{◌≡◌, ℕ, true, List, length, Option, Some, None, slice_index_or}
+use Rattle.std.specs.Prelude.{◌≡◌, ℕ, true, List, Option, Some, None, slice_index_or}
 use Rattle.pe_base.specs.declared.event.Event.{Event}
 use Rattle.pe_base.specs.Acts.Events.{number_of, sort_of}
 use Rattle.pe_check.specs.declared.checked.Stmt.{Stmt}

@@ -7,7 +7,6 @@ use Rattle.pe_lex.specs.declared.token.LexFault.TheVariants as lexing
 use Rattle.pe_lex.specs.Tokens.{tokens_of}
 use Rattle.pe_parse.specs.declared.fault.ParseFault.{ParseFault}
 use Rattle.pe_parse.specs.declared.fault.ParseFault.TheVariants as parsing
-use Rattle.pe_parse.specs.Lexemes.{lexemes_of}
 use Rattle.pe_parse.specs.Faults.{fault_of}
 use Rattle.pe_parse.proofs.FaultFree.{tree_of}
 use Rattle.pe_check.specs.declared.checked.Stmt.{Stmt}

@@ -53,7 +53,8 @@ fn said_in(alloc: Global, table: &Table) -> Result<Scenario, SceneFault>
 /// fields; the bodies of the events, in the order of the events.
 #[tactic(auto, unfolding(crate::specs::Said::scenario_of))]
 pub fn read_scenario(alloc: Global, bytes: &[u8]) -> Result<Scenario, SceneFault>
-    ensures { Gives said_of result (scenario_of bytes.now) }
+    ensures said { Gives said_of result (scenario_of bytes.now) }
+    ensures too_long { (result ≡ Err SceneFault.TooLong) ↔ (scenario_limit < length bytes.now) }
 {
     if bytes.len() as u64 > SCENARIO_LIMIT {
         return Err(SceneFault::TooLong);

@@ -59,12 +59,7 @@ fn body_in(
 }
 
 /// The bodies of a table whose keys are all known.
-fn all_bodies(
-    alloc: Global,
-    table: &Table,
-    names: &Names,
-    dim: Dim,
-) -> Result<Bodies, SceneFault>
+fn all_bodies(alloc: Global, table: &Table, names: &Names, dim: Dim) -> Result<Bodies, SceneFault>
     ensures gives { Gives (λ bodies. bodies) result (all_bodies dim (names_view names.now) (table_view table.now)) }
     ensures fit { IfOk result (AllFit dim (length names.now.vertex) (length names.now.cell) (length names.now.global)) }
 {

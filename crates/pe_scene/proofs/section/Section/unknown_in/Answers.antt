@@ -1,6 +1,5 @@
-use Rattle.std.proofs.Common.{◌≡◌, ◌∷◌, ap, ◌∙◌, sym, map, string_bytes, Some}
+use Rattle.std.proofs.Common.{ap, ◌∙◌, sym, map, string_bytes, Some}
 use Rattle.std.specs.String.{string_cmp}
-use Rattle.std.specs.List.Sorted.{IsStrictlySortedBy}
 use Rattle.std.proofs.lemmas.Map.Keys.{sorted_tail}
 use Rattle.pe_scene.specs.Sections.{lists, unknown_of}
 use Rattle.pe_scene.proofs.Keys.{keys_in-entries, unknown_of-first, unknown_of-listed}
