@@ -27,13 +27,13 @@ use Rattle.pe_parse.proofs.Steps.{stands, took, took_stop, too_many, skips, skip
 use Rattle.pe_parse.proofs.Pieces.{piece_cons, piece_single, piece_snoc, piece_join, piece_empty}
 
 -- what the statements of the code are as plain data
-pub of_assign : (n : Name) (e : Expr) → statement_of (stmt.Assign n e) ≡ Assigns n e
+of_assign : (n : Name) (e : Expr) → statement_of (stmt.Assign n e) ≡ Assigns n e
 of_assign n e = ap statement_of (sym (stmt.rolls-Assign n e)) ∙ fold-roll-Stmt Statement statement_step (open_.Assign n e)
 
-pub of_mark : (t : Trigger) (w : Word) → statement_of (stmt.Mark t w) ≡ Marks t w
+of_mark : (t : Trigger) (w : Word) → statement_of (stmt.Mark t w) ≡ Marks t w
 of_mark t w = ap statement_of (sym (stmt.rolls-Mark t w)) ∙ fold-roll-Stmt Statement statement_step (open_.Mark t w)
 
-pub of_print : (v : values.Values) → statement_of (stmt.Print v) ≡ Prints v.items
+of_print : (v : values.Values) → statement_of (stmt.Print v) ≡ Prints v.items
 of_print v = ap statement_of (sym (stmt.rolls-Print v)) ∙ fold-roll-Stmt Statement statement_step (open_.Print v)
 
 pub of_if : (e : Expr) (body : List Stmt) → statement_of (stmt.If e body) ≡ Chooses e (statements_of body)

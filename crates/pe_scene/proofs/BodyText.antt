@@ -9,7 +9,7 @@ use Rattle.pe_parse.specs.Statements.{Statements}
 use Rattle.pe_parse.specs.Grammar.{All, Spells}
 use Rattle.pe_parse.specs.Faults.{fault_of}
 use Rattle.pe_parse.proofs.FaultFree.{tree_of}
-use Rattle.pe_parse.proofs.Once.{one_tree}
+use Rattle.pe_parse.proofs.OneTree.{one_body}
 use Rattle.pe_check.specs.declared.cause.CheckFault.{CheckFault}
 use Rattle.pe_check.specs.declared.cause.CheckFault.TheVariants.{UnknownName, NotHere, Corner, ReadOnly, Memory}
 use Rattle.pe_check.specs.Answers as checking
@@ -24,7 +24,7 @@ parsed_is : (context : Context) (event : Event) (text : List ℕ) (tokens : List
 parsed_is context event text tokens body (Some fault) is none_ spelled = absurd (cc)
 parsed_is context event text tokens body None is none_ spelled =
     let tree = tree_of text tokens is in
-    ap (λ body. or_refused event (body_of context body)) (one_tree (lexemes_of text tokens) tree.body body tree.spelled spelled)
+    ap (λ body. or_refused event (body_of context body)) (one_body (lexemes_of text tokens) tree.body body tree.spelled spelled)
 
 -- what a text says that spells a tree
 pub body_text_is : (context : Context) (event : Event) (text : List ℕ) (tokens : List Token) (body : Statements) → tokens_of text ≡ Ok tokens → fault_of text tokens ≡ None
