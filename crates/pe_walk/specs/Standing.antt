@@ -21,7 +21,7 @@ use Rattle.pe_base.specs.Walk.Core.{Setting, way}
 use Rattle.pe_base.specs.Walk.Working.{Working, loads_of, record_at, family_of}
 use Rattle.pe_base.specs.Walk.Touches.{kind_of_vertex}
 use Rattle.pe_stacks.specs.Holdings.{stack_at, items_at, len_at, stack_count}
-use Rattle.pe_stacks.specs.Grid.{output_stack}
+use Rattle.pe_stacks.specs.Grid.{input_stack, output_stack, cell_input_stack}
 use Rattle.pe_adapt.specs.Touches.{kind_in_hand}
 use Rattle.pe_walk.specs.Laws.{IsCell}
 use Rattle.pe_walk.specs.Tokens.{Outlook, Tokens, cells_before}
@@ -212,10 +212,10 @@ pub record IsOutset {Plan : Type 0} (set : Setting Plan) (e : Outset) (walked : 
   pub grown : Grown e.outlook walked (set.rules.greatest set.plan)
   pub bound : e.base + per_cell * set.max_cells < 2 ^ 63
 
--- a push has room wherever its stack, as long as it is then, may stand at a stage
+-- a push on a stack that is no input has room wherever its stack, as long as it is then, may stand at a stage
 pub record HasRoom {Plan : Type 0} (set : Setting Plan) (e : Outset) (room : Push → Type 0) : Type 0 where
-  pub vertices : (st : Stage) (w : Working) (t : Tokens) → Holds set e st w t → (s : ℕ) → room (record { of_cell = false; stack = s; length = len_at t.vertices s })
-  pub cells : (st : Stage) (w : Working) (t : Tokens) → Holds set e st w t → (s : ℕ) → room (record { of_cell = true; stack = s; length = len_at t.cells s })
+  pub vertices : (st : Stage) (w : Working) (t : Tokens) → Holds set e st w t → (s : ℕ) → s ≢ input_stack e.outlook.swapped → room (record { of_cell = false; stack = s; length = len_at t.vertices s })
+  pub cells : (st : Stage) (w : Working) (t : Tokens) → Holds set e st w t → (s : ℕ) → s ≢ cell_input_stack e.outlook.swapped → room (record { of_cell = true; stack = s; length = len_at t.cells s })
 
 -- At a load, the kind of a corner as the map has its carriers, and as the parent's corners in hand have them, is the one
 -- foreseen.

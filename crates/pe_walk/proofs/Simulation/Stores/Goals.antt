@@ -1,12 +1,12 @@
 -- Where the place of a corner goes that is stored.
-use Rattle.std.proofs.Common.{◌≡◌, ◌≢◌, ℕ, ◌^◌, ◌<◌, Bool, true, false, Option, Some, None, sym, subst}
+use Rattle.std.proofs.Common.{◌≡◌, ◌≢◌, ℕ, ◌^◌, ◌<◌, Bool, true, false, not, Option, Some, None, refl, sym, subst, ◌∙◌}
 use Rattle.std.specs.Prelude.{nat_lt, if◌then◌else◌}
 use Rattle.pe_base.specs.declared.place.Place.{Place}
 use Rattle.pe_base.specs.declared.way.Way.{Way}
 use Rattle.pe_base.specs.Tree.Dim.{IsDim}
 use Rattle.pe_base.specs.Tree.Places.{corner}
 use Rattle.pe_base.specs.Steps.Routes.{stack_out}
-use Rattle.pe_stacks.specs.Grid.{output_stack}
+use Rattle.pe_stacks.specs.Grid.{input_stack, output_stack}
 use Rattle.pe_walk.specs.Laws.{IsCell}
 use Rattle.pe_walk.specs.Tokens.{Outlook, Tokens, given, first_of, touch_of, target, store_it, store}
 use Rattle.pe_walk.specs.Apart.{IsApart}
@@ -61,3 +61,28 @@ pub waits_apart : (axes : ℕ) (way : Way) (cell : Place) (k : ℕ) (swapped : B
     → (s : ℕ) → stack_out axes way (corner axes cell k) cell ≡ Some s → s ≢ output_stack swapped
 waits_apart axes way cell k swapped dim is_cell below s e =
     across_apart axes (corner axes cell k) cell (stack_out axes way (corner axes cell k) cell) _ swapped dim.1 (corners_cross_once axes way cell k dim is_cell below).goes s e
+
+-- and no corner goes to the input
+pub goal_apart : (o : Outlook) (axes : ℕ) (way : Way) (cell : Place) (k : ℕ) → IsDim axes → IsCell axes way cell → k < 2 ^ axes
+    → (s : ℕ) → goal_of o axes way (corner axes cell k) cell ≡ Some s → s ≢ input_stack o.swapped
+goal_apart o axes way cell k dim is_cell below s = by (o.counts (corner axes cell k))
+  where
+    turned : (b : Bool) → output_stack (not b) ≡ input_stack b
+    turned true = refl
+    turned false = refl
+
+    other : (b : Bool) → output_stack b ≢ input_stack b
+    other true e = absurd cc
+    other false e = absurd cc
+
+    by_next : (to : Option ℕ) → stack_out axes way (corner axes cell k) cell ≡ to → (writes : Bool)
+        → first_of to (given writes (Some (output_stack o.swapped))) ≡ Some s → s ≢ input_stack o.swapped
+    by_next (Some next) e writes q same =
+        let is : next ≡ s = cc in
+        waits_apart axes way cell k (not o.swapped) dim is_cell below s (e ∙ q) (same ∙ sym (turned o.swapped))
+    by_next None e true q same = let is : output_stack o.swapped ≡ s = cc in other o.swapped (is ∙ same)
+    by_next None e false q same = absurd cc
+
+    by : (b : Bool) → goal_if b o axes way (corner axes cell k) cell ≡ Some s → s ≢ input_stack o.swapped
+    by false q same = absurd cc
+    by true q same = by_next (stack_out axes way (corner axes cell k) cell) refl (o.writes (corner axes cell k)) q same

@@ -30,7 +30,8 @@ use Rattle.pe_walk.proofs.Simulation.Matching.{Matches, Steps, then-grouped, cor
 use Rattle.pe_walk.proofs.Simulation.Shared.{cells-image, vertices-image}
 use Rattle.pe_walk.proofs.Simulation.Silent.{store-silent}
 use Rattle.pe_walk.proofs.Simulation.Stores.Places.{len-pushed}
-use Rattle.pe_walk.proofs.Simulation.Stores.Goals.{goal_if}
+use Rattle.pe_walk.specs.Laws.{IsCell}
+use Rattle.pe_walk.proofs.Simulation.Stores.Goals.{goal_if, goal_apart}
 use Rattle.pe_walk.proofs.Simulation.Stores.InHand.{stored_by}
 use Rattle.pe_walk.proofs.Simulation.Stores.Fairness.{IsStored, found, found_lying, cells_lying, records-stored}
 use Rattle.pe_walk.proofs.Simulation.Stores.Stored.{to_of, goal_at, core_of, before_of, after_of, places_of, places_are, hand, within, is_stored, tally_after, holds_after}
@@ -157,7 +158,8 @@ module _ {Plan : Type 0} (set : Setting Plan) (e : Outset) (walked : Place → B
         go (Some s) went = (
           subst (λ n. room (record { of_cell = false; stack = s; length = n }))
               (ap (λ goal. len_at (put goal vertex t.vertices) s) went ∙ len-pushed s vertex t.vertices (within set e walked is st stage w t h k from below t' run s went))
-              (rooms.vertices (after_store k st) after now (holds_after set e walked is st stage w t h k from below t' run r run_core owed unstored) s),
+              (rooms.vertices (after_store k st) after now (holds_after set e walked is st stage w t h k from below t' run r run_core owed unstored) s
+              (goal_apart e.outlook set.axes (way set) st.cell k is.foresees.dim (subst (λ u. IsCell set.axes u st.cell) is.foresees.ways stage.cell) below s went)),
           tt,
         )
 

@@ -22,7 +22,7 @@ use Rattle.pe_base.proofs.Faces.Bridge.{same_places}
 use Rattle.pe_base.proofs.Steps.Counts.{is_same_itself}
 use Rattle.pe_base.proofs.Walk.MapLaws.{at-removed}
 use Rattle.pe_stacks.specs.Holdings.{Holdings, stack_count, stack_at, items_at, len_at, given_up, pushed}
-use Rattle.pe_stacks.specs.Grid.{cell_output_stack}
+use Rattle.pe_stacks.specs.Grid.{cell_input_stack, cell_output_stack}
 use Rattle.pe_hang.specs.InHand.{map_holdings}
 use Rattle.pe_hang.specs.Moves.{give_up, push}
 use Rattle.pe_walk.specs.Machine.{Machine, cell_goes, kind_of_cell}
@@ -360,9 +360,13 @@ module _ {Plan : Type 0} (set : Setting Plan) (e : Outset) (walked : Place → B
             ∙ ap₂ (λ a b. if a then Some it.parent else if b then (if is_stored kind then Some own.cell else None) else at w.cells st.cell) (levels_differ st.parent st.cell (stage_levels set e walked is st stage)) (is_same_itself st.cell)
             ∙ ap (λ d. if d then Some own.cell else None) stored)
 
+        other : (b : Bool) → cell_output_stack b ≢ cell_input_stack b
+        other true e = absurd cc
+        other false e = absurd cc
+
         roomy : room (record { of_cell = true; stack = cell_output_stack e.outlook.swapped; length = len_at t.cells (cell_output_stack e.outlook.swapped) + 1 })
         roomy = subst (λ n. room (record { of_cell = true; stack = cell_output_stack e.outlook.swapped; length = n })) longer
-            (has.cells (after_leave outer st) after t' holds_left (cell_output_stack e.outlook.swapped))
+            (has.cells (after_leave outer st) after t' holds_left (cell_output_stack e.outlook.swapped) (other e.outlook.swapped))
           where
             longer : len_at t'.cells (cell_output_stack e.outlook.swapped) ≡ len_at t.cells (cell_output_stack e.outlook.swapped) + 1
             longer =
