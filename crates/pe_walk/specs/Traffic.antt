@@ -108,17 +108,17 @@ abbrev pub TrafficOfATraversal : Type 0
 TrafficOfATraversal = (o : Outlook) (walked : Place → Bool) (greatest : ℕ) (t after : Tokens) → IsDim o.axes → Grown o walked greatest → stack_count t.vertices ≡ 10 → stack_count t.cells ≡ 2 → traverse o greatest t ≡ Some after
     → HasMovedAll o greatest t after
 
--- Places that count and differ are at most as many as the walked cells, each of which loads 2^d places.
+-- Places that count and differ are at most as many as the walked cells below the root, each of which loads 2^d places.
 abbrev pub FewVertices : Type 0
 FewVertices = (o : Outlook) (walked : Place → Bool) (greatest : ℕ) (places : List Place) → IsDim o.axes → Grown o walked greatest
     → ((place : Place) → count_by (λ other. is_same other place) places ≤ 1) → AllByRecursion (λ place. o.counts place ≡ true) places
-    → length places ≤ length (walked_cells o.axes o.way o.walks greatest root)
+    → length places ≤ length (entered_cells o greatest)
 
 -- all places on the stacks count
 abbrev pub OnlyCounting : Outlook → Tokens → Type 0
 OnlyCounting o t = (s : ℕ) → AllByRecursion (λ place. o.counts place ≡ true) (items_at t.vertices s)
 
--- It is kept, and so no stack is ever longer than there are walked cells.
+-- It is kept, and so no stack is ever longer than there are walked cells below the root.
 pub record KeepsCounting (o : Outlook) : Type 0 where
   pub loads : (cell : Place) (k : ℕ) (t after : Tokens) → load o cell k t ≡ Some after → OnlyCounting o t → OnlyCounting o after
   pub stores : (cell : Place) (k : ℕ) (t after : Tokens) → store o cell k t ≡ Some after → OnlyCounting o t → OnlyCounting o after
@@ -132,7 +132,7 @@ BeginsCounting = (o : Outlook) (greatest : ℕ) (t : Tokens) → MayTraverse o g
 
 abbrev pub StacksAreShort : Type 0
 StacksAreShort = (o : Outlook) (walked : Place → Bool) (greatest : ℕ) (t : Tokens) → IsDim o.axes → Grown o walked greatest → IsApart o t → OnlyCounting o t
-    → (s : ℕ) → len_at t.vertices s ≤ length (walked_cells o.axes o.way o.walks greatest root)
+    → (s : ℕ) → len_at t.vertices s ≤ length (entered_cells o greatest)
 
 -- the vertices that count, in the order of their first loads
 abbrev pub first_vertices : Outlook → ℕ → List Place

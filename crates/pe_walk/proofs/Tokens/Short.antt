@@ -1,14 +1,16 @@
 -- Vertices that count are at most as many as the walked cells, and so no stack is longer.
-use Rattle.std.proofs.Common.{◌≡◌, ◌⊎◌, inl, inr, ℕ, zero, suc, ◌+◌, ◌*◌, ◌^◌, ◌<◌, ◌≤◌, Bool, true, false, ◌==◌, List, [], ◌∷◌, filter, length, get_or, Option, Some, None, refl, sym, ap, ◌∙◌, subst, true≢false, arith}
+use Rattle.std.proofs.Common.{◌≡◌, ◌⊎◌, inl, inr, ℕ, zero, suc, ◌+◌, ◌-◌, ◌*◌, ◌^◌, ◌<◌, ◌≤◌, Bool, true, false, ◌==◌, List, [], ◌∷◌, ◌++◌, filter, reverse, length, get_or, Option, Some, None, refl, sym, ap, ◌∙◌, subst, true≢false, arith}
 use Rattle.std.specs.Prelude.{nat_lt, if◌then◌else◌, sum_by, count_by}
-use Rattle.std.specs.List.{AllByRecursion}
-use Rattle.std.proofs.lemmas.List.{length-map}
+use Rattle.std.specs.List.{AllByRecursion, flat_map}
+use Rattle.std.proofs.lemmas.List.{length-map, length-append, length-reverse}
 use Rattle.std.proofs.lemmas.List.Sums.{sum_by-cons, length-filter}
 use Rattle.std.proofs.Math.Nat.{le_of_mul-le-mul_left, mul-suc, mul-zero}
 use Rattle.pe_base.specs.declared.place.Place.{Place}
 use Rattle.pe_base.specs.Tree.Dim.{IsDim}
 use Rattle.pe_base.specs.Tree.Places.{root, is_same}
-use Rattle.pe_base.specs.Steps.Faces.{Touch}
+use Rattle.pe_base.specs.Tree.Curve.{children}
+use Rattle.pe_base.specs.Steps.Faces.{Touch, corner_touches}
+use Rattle.pe_base.specs.Walk.Streams.{if_walks, walked_children, walked_loads, walked_cells}
 use Rattle.pe_base.proofs.Lists.{Each, Each-all, Each-weaker, Each-map, Each-filter, filter_same}
 use Rattle.pe_base.proofs.Tree.Ranks.{and_left}
 use Rattle.pe_base.proofs.Steps.Counts.{is_same_itself}
@@ -18,15 +20,16 @@ use Rattle.pe_base.proofs.Steps.SlowerLaws.{length-around}
 use Rattle.pe_stacks.specs.Holdings.{Holdings, new_stack, stack_count, items_at, lent, given_up, pushed, popped}
 use Rattle.pe_walk.specs.Tokens.{Outlook, Tokens, one_less, is_top, given, taken, put, source, target, touch_of, load_it, load, store_it, store, enter, leave, cell_source, cell_target, numbers}
 use Rattle.pe_stacks.specs.Grid.{input_stack}
-use Rattle.pe_walk.proofs.Tokens.Traversals.{lent_items}
+use Rattle.pe_walk.proofs.Tokens.Traversals.{lent_items, root_corners}
+use Rattle.pe_walk.proofs.Tokens.CountLists.{count-append}
 use Rattle.pe_walk.specs.Takings.{loads_of, is_read, reads_of, Grown}
-use Rattle.pe_walk.specs.Traffic.{FewVertices, OnlyCounting, StepsKeepCounting, BeginsCounting, StacksAreShort}
+use Rattle.pe_walk.specs.Traffic.{entered_cells, FewVertices, OnlyCounting, StepsKeepCounting, BeginsCounting, StacksAreShort}
 use Rattle.pe_walk.proofs.Tokens.Stacks.{popped_same, popped_other, pushed_same, pushed_other, same_or_other}
-use Rattle.pe_walk.proofs.Tokens.Dues.{loaded_around}
+use Rattle.pe_walk.proofs.Tokens.Dues.{loaded_around, root_walks}
 use Rattle.pe_walk.proofs.Tokens.Keeping.{given_some, walk_keeps}
 use Rattle.pe_walk.proofs.Tokens.Apart.{map_some, one_if, there, set_past}
 use Rattle.pe_walk.proofs.Tokens.DepotCounts.{count_none}
-use Rattle.pe_walk.proofs.Tokens.Traffic.{loads_length}
+use Rattle.pe_walk.proofs.Tokens.Traffic.{loads_length, corners_of}
 use Rattle.pe_walk.proofs.Tests.{all_of, by_recursion, some_power}
 
 pub sum-both : {X : Type 0} (f g : X → ℕ) (xs : List X) → sum_by (λ x. f x + g x) xs ≡ sum_by f xs + sum_by g xs
@@ -73,11 +76,45 @@ touches_of o walked greatest dim grown p c =
     ∙ ap length (filter_same (λ t. is_same t.vertex p) (λ t. is_same p t.vertex) (loads_of o greatest root) (Each-all _ (λ t. turn_same t.vertex p) (loads_of o greatest root)))
     ∙ length-filter (λ t. is_same p t.vertex) (loads_of o greatest root)
 
+-- the loads of a traversal are those of the root's corners, and 2^d for each cell below
+pub record LoadsBelow (o : Outlook) (greatest : ℕ) : Type 0 where
+  pub rest : List Touch
+  pub all : loads_of o greatest root ≡ reverse (corner_touches o.axes root) ++ rest
+  pub many : length rest ≡ 2 ^ o.axes * length (entered_cells o greatest)
+
+pub loads_below : (o : Outlook) (walked : Place → Bool) (greatest : ℕ) → IsDim o.axes → Grown o walked greatest → LoadsBelow o greatest
+loads_below o walked greatest dim grown =
+    let rest = flat_map (walked_loads o.axes o.way o.walks (greatest - 1)) (walked_children o.axes o.way o.walks root) in
+    let walks = root_walks o walked greatest dim grown in
+    let deep : greatest ≡ suc (greatest - 1) = omega (arith, grown.walks_within root walks) in
+    let all : loads_of o greatest root ≡ reverse (corner_touches o.axes root) ++ rest = ap (λ n. loads_of o n root) deep in
+    let cells : walked_cells o.axes o.way o.walks greatest root ≡ root ∷ entered_cells o greatest =
+            ap (λ n. walked_cells o.axes o.way o.walks n root) deep ∙ ap (λ b. root ∷ flat_map (walked_cells o.axes o.way o.walks (greatest - 1)) (if_walks o.axes o.way o.walks b (children o.axes o.way root))) walks in
+    let count = loads_length o greatest root ∙ ap (λ cs. 2 ^ o.axes * length cs) cells ∙ mul-suc (2 ^ o.axes) (length (entered_cells o greatest)) in
+    let own : length (reverse (corner_touches o.axes root)) ≡ 2 ^ o.axes = length-reverse (corner_touches o.axes root) ∙ corners_of o.axes root in
+    record { rest = rest; all = all; many = omega (arith, ap length all, length-append (reverse (corner_touches o.axes root)) rest, count, own) }
+
 pub few_vertices : FewVertices
 few_vertices o walked greatest places dim grown once counting =
-    let loads = loads_of o greatest root in
-    let each = Each-weaker (λ p. o.counts p ≡ true) (λ p. 2 ^ o.axes ≡ count_by (λ t. is_same p t.vertex) loads) (λ p c. touches_of o walked greatest dim grown p c) places (all_of (λ p. o.counts p ≡ true) places counting) in
-    le_of_mul-le-mul_left {k = 2 ^ o.axes} (omega (arith, sym (sum-times (2 ^ o.axes) places) ∙ sum-same (λ p. 2 ^ o.axes) (λ p. count_by (λ t. is_same p t.vertex) loads) places each, each_touch_once places once loads, loads_length o greatest root)) (some_power o.axes)
+    let below = loads_below o walked greatest dim grown in
+    let each = Each-weaker (λ p. o.counts p ≡ true) (λ p. 2 ^ o.axes ≡ count_by (λ t. is_same p t.vertex) below.rest) (λ p c. touched_below p c) places (all_of (λ p. o.counts p ≡ true) places counting) in
+    le_of_mul-le-mul_left {k = 2 ^ o.axes} (
+      omega (arith, sym (sum-times (2 ^ o.axes) places) ∙ sum-same (λ p. 2 ^ o.axes) (λ p. count_by (λ t. is_same p t.vertex) below.rest) places each, each_touch_once places once below.rest, below.many)
+    ) (some_power o.axes)
+  where
+    touched_below : (p : Place) → o.counts p ≡ true → 2 ^ o.axes ≡ count_by (λ t. is_same p t.vertex) (loads_below o walked greatest dim grown).rest
+    touched_below p c =
+        let below = loads_below o walked greatest dim grown in
+        let none : count_by (λ t. is_same p t.vertex) (reverse (corner_touches o.axes root)) ≡ 0 =
+                count_none (λ t. is_same p t.vertex) (reverse (corner_touches o.axes root)) (Each-weaker (λ t. o.counts t.vertex ≡ false) (λ t. is_same p t.vertex ≡ false)
+                (λ t off. false_unless (is_same p t.vertex) (λ k. absurd (true≢false (sym c ∙ ap o.counts (same_places p t.vertex k) ∙ off)))) (reverse (corner_touches o.axes root)) (root_corners o walked greatest dim grown)) in
+        omega (
+          arith,
+          touches_of o walked greatest dim grown p c,
+          ap (count_by (λ t. is_same p t.vertex)) below.all,
+          count-append (λ t. is_same p t.vertex) (reverse (corner_touches o.axes root)) below.rest,
+          none,
+        )
 
 -- all places of each stack count
 module _ (o : Outlook) where
