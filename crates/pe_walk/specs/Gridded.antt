@@ -1,12 +1,17 @@
 -- A grid on the stacks of the machine of lists, and what a traversal makes of it.
-use Rattle.std.specs.Prelude.{◌≡◌, ◌⊎◌, ℕ, ℤ, ◌+◌, ◌^◌, ◌≤◌, Bool, not, ◌==◌, List, [], map, if◌then◌else◌}
+use Rattle.std.specs.Prelude.{◌≡◌, ◌≢◌, ◌⊎◌, ℕ, ℤ, ◌+◌, ◌-◌, ◌*◌, ◌^◌, ◌≤◌, Bool, not, ◌==◌, List, [], map, length, if◌then◌else◌}
+use Rattle.std.specs.List.{flat_map, AllByRecursion}
 use Rattle.pe_base.specs.declared.tally.Tally.{Tally}
 use Rattle.pe_base.specs.Acts.Effects.{VertexRecord, AreLawful}
-use Rattle.pe_base.specs.Walk.Course.{Cause, Ending, done, halts, stuck, Course}
+use Rattle.pe_base.specs.Tree.Places.{root}
+use Rattle.pe_base.specs.Tree.Ways.{way_of}
+use Rattle.pe_base.specs.Tree.Curve.{children}
+use Rattle.pe_base.specs.Walk.Course.{Cause, Ending, done, halts, stuck, Push, Course}
 use Rattle.pe_base.specs.Walk.Core.{Setting}
 use Rattle.pe_base.specs.Walk.Working.{no_tally}
 use Rattle.pe_base.specs.Walk.Grids.{Grid, StoredVertex, IsWellFormed}
-use Rattle.pe_base.specs.Walk.Streams.{vertex_stream, cell_stream}
+use Rattle.pe_base.specs.Walk.Foreseen.{next_traversal, walks}
+use Rattle.pe_base.specs.Walk.Streams.{walked_cells, vertex_stream, cell_stream}
 use Rattle.pe_base.specs.Walk.Walk as model
 use Rattle.pe_stacks.specs.Holdings.{Holdings, stack_count, items_at, CountsWithin}
 use Rattle.pe_stacks.specs.Grid.{input_stack, cell_input_stack}
@@ -64,10 +69,22 @@ EndAlike swapped (halts cause) (halts other) = cause ≡ other
 EndAlike swapped (halts cause) stuck = ⊥
 EndAlike swapped stuck other = ⊥
 
+-- how many cells a traversal of a grid walks, if nothing halts it
+abbrev pub size : ℕ → Grid → ℕ
+size start_level grid = length (flat_map (walked_cells grid.axes (way_of (next_traversal grid)) (walks start_level grid) (grid.greatest - 1)) (children grid.axes (way_of (next_traversal grid)) root))
+
+-- A push of a traversal is on no input, and its stack is no longer afterwards than the traversal has cells, nor than it may
+-- have corners.
+pub record IsShort {Plan : Type 0} (set : Setting Plan) (grid : Grid) (swapped : Bool) (push : Push) : Type 0 where
+  pub apart : push.stack ≢ (if push.of_cell then cell_input_stack swapped else input_stack swapped)
+  pub within : push.length ≤ size set.start_level grid
+  pub few : push.length ≤ 2 ^ set.axes * set.max_cells
+
 -- A traversal on stacks is the walk by address: it adds the same text, and ends alike.
 pub record IsWalked {Plan : Type 0} (set : Setting Plan) (grid : Grid) (swapped : Bool) (course : Course Machine) : Type 0 where
   pub text : course.text ≡ (model.traverse set grid).text
   pub ending : EndAlike swapped (model.traverse set grid).ending course.ending
+  pub log : AllByRecursion (IsShort set grid swapped) course.log
 
 abbrev pub ports_of : Bool → Ports
 ports_of swapped = record { input = input_stack swapped; cell_input = cell_input_stack swapped }

@@ -146,7 +146,7 @@ module _ {Plan : Type 0} (set : Setting Plan) (grid : Grid) (swapped : Bool) (m 
   small_cells false = omega arith
 
   -- what the stacks hold
-  vertices_at : (s : ℕ) → items_at (tokens_of grid swapped m).vertices s ≡ (if s == input_stack swapped then stream_vertices grid else [])
+  pub vertices_at : (s : ℕ) → items_at (tokens_of grid swapped m).vertices s ≡ (if s == input_stack swapped then stream_vertices grid else [])
   vertices_at s = by (nat_lt s 10) refl
     where
       with : WithItems m.vertices (λ s. if s == input_stack swapped then stream_vertices grid else []) s
@@ -157,7 +157,7 @@ module _ {Plan : Type 0} (set : Setting Plan) (grid : Grid) (swapped : Bool) (m 
       by false high = let low = small swapped in let past = ltb-false s 10 high in
           with.past (omega (arith, past, may.holds.stacks)) ∙ ap (λ b. if b then stream_vertices grid else []) (sym (ne_eqb s (input_stack swapped) (λ e. absurd (omega (arith, e, low, past)))))
 
-  cells_at : (s : ℕ) → items_at (tokens_of grid swapped m).cells s ≡ (if s == cell_input_stack swapped then stream_cells grid else [])
+  pub cells_at : (s : ℕ) → items_at (tokens_of grid swapped m).cells s ≡ (if s == cell_input_stack swapped then stream_cells grid else [])
   cells_at s = by (nat_lt s 2) refl
     where
       with : WithItems m.cells (λ s. if s == cell_input_stack swapped then stream_cells grid else []) s

@@ -1,7 +1,9 @@
 -- A traversal of the machine is the walk by address.
-use Rattle.std.proofs.Common.{◌≡◌, ◌⊎◌, ℕ, ℤ, zero, suc, ◌+◌, ◌-◌, ◌^◌, ◌<◌, ◌≤◌, Bool, true, false, ◌==◌, List, [], ◌∷◌, ◌++◌, map, reverse, length, Option, Some, None, refl, sym, ap, ap₂, subst, ◌∙◌, arith, if◌then◌else◌}
+use Rattle.std.proofs.Common.{◌≡◌, ◌⊎◌, ℕ, ℤ, zero, suc, ◌+◌, ◌-◌, ◌*◌, ◌^◌, ◌<◌, ◌≤◌, Bool, true, false, ◌==◌, List, [], ◌∷◌, ◌++◌, map, reverse, length, Option, Some, None, refl, sym, ap, ap₂, subst, ◌∙◌, arith, if◌then◌else◌}
 use Rattle.std.specs.Option.{option_map, unwrap_or}
 use Rattle.std.specs.List.{range_with_len}
+use Rattle.std.proofs.Math.Nat.{mul-le-mul_left, mul-le-mul_right}
+use Rattle.std.proofs.lemmas.Bool.{ne_eqb}
 use Rattle.std.proofs.lemmas.List.{append-nil}
 use Rattle.std.proofs.lemmas.List.FromFn.{length-range_with_len}
 use Rattle.pe_base.specs.declared.place.Place.{Place}
@@ -20,7 +22,9 @@ use Rattle.pe_base.specs.Walk.Walk as model
 use Rattle.pe_base.proofs.Lists.{Each}
 use Rattle.pe_base.proofs.Steps.Counts.{is_same_itself}
 use Rattle.pe_base.proofs.Walk.MapLaws.{at-put}
-use Rattle.pe_stacks.specs.Holdings.{Holdings, lent}
+use Rattle.pe_stacks.specs.Holdings.{Holdings, len_at, lent}
+use Rattle.pe_stacks.specs.Grid.{input_stack, cell_input_stack}
+use Rattle.pe_base.specs.Walk.Streams.{stream_vertices, stream_cells}
 use Rattle.pe_hang.specs.InHand.{map_holdings}
 use Rattle.pe_hang.specs.Follows.{is_fit, Fits}
 use Rattle.pe_walk.specs.Machine.{Machine, Ports, with_parents}
@@ -30,13 +34,16 @@ use Rattle.pe_walk.specs.Tokens as tokens
 use Rattle.pe_walk.specs.Takings.{HasTraversed}
 use Rattle.pe_walk.specs.Outlooks.{outlook}
 use Rattle.pe_walk.specs.Standing.{Outset, Holds, HasRoom}
-use Rattle.pe_walk.specs.Gridded.{MayTurn, HasTurned, EndAlike, IsWalked, ports_of}
+use Rattle.pe_walk.specs.CellsAhead.{times}
+use Rattle.pe_walk.specs.Gridded.{MayTurn, HasTurned, EndAlike, IsShort, IsWalked, ports_of}
+use Rattle.pe_walk.proofs.Tests.{by_recursion, some_power}
+use Rattle.pe_walk.proofs.Tokens.Short.{stacks_are_short}
 use Rattle.pe_walk.proofs.Tokens.Apart.{map_some}
 use Rattle.pe_walk.proofs.Tokens.Traversals.{whole_traversal}
 use Rattle.pe_walk.proofs.Simulation.Matching.{Matches, Steps, ending_map, then-grouped}
 use Rattle.pe_walk.proofs.Simulation.Leaves.{image_of, record_of, at_root}
 use Rattle.pe_walk.proofs.Simulation.RootCorners.{HasCorners, has_corners, lent_times, corners_made}
-use Rattle.pe_walk.proofs.Simulation.Starts.{tokens_of, outset_of, sound_of, dim_of, grown_of, may_traverse, image_vertices, image_cells, cornered, start, is_outset, starts}
+use Rattle.pe_walk.proofs.Simulation.Starts.{tokens_of, outset_of, sound_of, dim_of, grown_of, vertices_at, cells_at, may_traverse, image_vertices, image_cells, cornered, start, is_outset, starts}
 use Rattle.pe_walk.proofs.Simulation.Cells.Corners.{down_from, reverse-range}
 use Rattle.pe_walk.proofs.Simulation.Cells.Simulated.{traversal_simulated}
 use Rattle.pe_walk.proofs.Simulation.Unstuck.{middle-fits}
@@ -167,26 +174,52 @@ module _ {Plan : Type 0} (set : Setting Plan) (grid : Grid) (swapped : Bool) (m 
       → (after : Machine) × (machine.give_up_all set (ports_of swapped) (records_of set.axes w root) (with_parents [] (image_of set (outset_of set grid swapped m) root w t)) ≡ at_once after)
       × HasTurned swapped (ended_of w grid, w.tally) after
 
-  -- a traversal of the machine is the walk by address, and each push has room
-  pub turns : (room : Push → Type 0) → HasRoom set (outset_of set grid swapped m) room → Closes room
-      → IsWalked set grid swapped (machine.traverse set (ports_of swapped) grid.greatest m) × Each room (machine.traverse set (ports_of swapped) grid.greatest m).log
-  turns room roomy closes =
+  few_more : (k a b : ℕ) → a ≤ b → k * a ≤ k * b
+  few_more k a b few = mul-le-mul_left k few
+
+  -- each push leaves its stack short
+  room_of : HasRoom set (outset_of set grid swapped m) (IsShort set grid swapped)
+  room_of = record {
+    vertices = λ st w t h s other. record {
+      apart = other;
+      within = stacks_are_short (outlook set.start_level grid swapped) (walked set.start_level grid) grid.greatest t (dim_of set grid swapped m may) (grown_of set grid swapped m may) h.stands.apart h.stands.counting s;
+      few = let begun_empty : len_at (tokens_of grid swapped m).vertices s ≡ 0 = ap length (vertices_at set grid swapped m may s ∙ ap (λ b. if b then stream_vertices grid else []) (ne_eqb s (input_stack swapped) other)) in
+          omega (arith, h.owes.lens s, begun_empty, few_more (2 ^ set.axes) w.tally.cells set.max_cells h.owes.cells);
+    };
+    cells = λ st w t h s other.
+        let begun_empty : len_at (tokens_of grid swapped m).cells s ≡ 0 = ap length (cells_at set grid swapped m may s ∙ ap (λ b. if b then stream_cells grid else []) (ne_eqb s (cell_input_stack swapped) other)) in
+        let entered = entered_some st.entered st.parent h.stands.parent_entered in record {
+          apart = other;
+          within = omega (arith, h.owes.cell_lens s, h.owes.total, begun_empty, entered);
+          few = let one = some_power set.axes in omega (arith, h.owes.cell_lens s, h.owes.cells, begun_empty, entered, few_more (2 ^ set.axes) w.tally.cells set.max_cells h.owes.cells, times_one (2 ^ set.axes) w.tally.cells one);
+        };
+  }
+    where
+      entered_some : (xs : List Place) (x : Place) → 1 ≤ times xs x → 1 ≤ length xs
+      entered_some [] x some = absurd (omega (arith, some))
+      entered_some (y ∷ xs) x some = omega arith
+
+      times_one : (k c : ℕ) → 1 ≤ k → c ≤ k * c
+      times_one k c some = let once : 1 * c ≡ c = omega arith in subst (λ n. n ≤ k * c) once (mul-le-mul_right c some)
+
+  -- a traversal of the machine is the walk by address
+  pub turns : Closes (IsShort set grid swapped) → IsWalked set grid swapped (machine.traverse set (ports_of swapped) grid.greatest m)
+  turns closes =
       let whole = whole_traversal (outlook set.start_level grid swapped) (walked set.start_level grid) grid.greatest (tokens_of grid swapped m) (dim_of set grid swapped m may) (grown_of set grid swapped m may) (may_traverse set grid swapped m may) in
       let runs = map_some (ended (outlook set.start_level grid swapped)) (each_some (tokens.walk (outlook set.start_level grid swapped) (grid.greatest - 1)) (children grid.axes (outlook set.start_level grid swapped).way root) (start set grid swapped m may)) whole.0 whole.1 in
-      let steps = traversal_simulated set (outset_of set grid swapped m) (walked set.start_level grid) room (is_outset set grid swapped m may) roomy (grid.greatest - 1)
+      let steps = traversal_simulated set (outset_of set grid swapped m) (walked set.start_level grid) (IsShort set grid swapped) (is_outset set grid swapped m may) room_of (grid.greatest - 1)
           (cornered set grid swapped m may) (start set grid swapped m may) runs.0 (starts set grid swapped m may) runs.1 in
-      let alike = end-alike swapped room (λ w. image_of set (outset_of set grid swapped m) root w runs.0)
+      let alike = end-alike swapped (IsShort set grid swapped) (λ w. image_of set (outset_of set grid swapped m) root w runs.0)
           (and_then (model.plain set BeginIteration (cornered set grid swapped m may)) (λ w. and_then (each (model.walk_cell set (grid.greatest - 1) root) (children set.axes (way set) root) w) (model.plain set EndIteration)))
           (and_then (machine.plain set (ports_of swapped) BeginIteration (image_of set (outset_of set grid swapped m) root (cornered set grid swapped m may) (start set grid swapped m may)))
           (λ x. and_then (each (machine.walk_cell set (ports_of swapped) (suc (grid.greatest - 1))) (children set.axes (way set) root) x) (machine.plain set (ports_of swapped) EndIteration)))
           (λ w. (ended_of w grid, w.tally)) (λ x. machine.give_up_all set (ports_of swapped) x.family.parents (with_parents [] x))
           (middle-fits set (grid.greatest - 1) (cornered set grid swapped m may)) steps.same
-          (λ w ends. closes w runs.0 (steps.holds w ends) (subst (λ t. HasTraversed (outlook set.start_level grid swapped) grid.greatest (tokens_of grid swapped m) t) (sym runs.2) whole.2)) in (
-        record {
+          (λ w ends. closes w runs.0 (steps.holds w ends) (subst (λ t. HasTraversed (outlook set.start_level grid swapped) grid.greatest (tokens_of grid swapped m) t) (sym runs.2) whole.2)) in
+      record {
           text = ap (λ c. c.text) machine_is ∙ alike.0 ∙ sym (ap (λ c. c.text) model_is);
           ending = subst (λ (a : Ending (Grid × Tally)). EndAlike swapped a (machine.traverse set (ports_of swapped) grid.greatest m).ending) (sym (ap (λ c. c.ending) model_is))
               (subst (λ (b : Ending Machine). EndAlike swapped (course_map (λ w. (ended_of w grid, w.tally)) (and_then (model.plain set BeginIteration (cornered set grid swapped m may))
               (λ w. and_then (each (model.walk_cell set (grid.greatest - 1) root) (children set.axes (way set) root) w) (model.plain set EndIteration)))).ending b) (sym (ap (λ c. c.ending) machine_is)) alike.1);
-        },
-        subst (λ (c : Course Machine). Each room c.log) (sym machine_is) alike.2,
-      )
+        log = by_recursion (IsShort set grid swapped) (machine.traverse set (ports_of swapped) grid.greatest m).log (subst (λ (c : Course Machine). Each (IsShort set grid swapped) c.log) (sym machine_is) alike.2);
+      }
