@@ -1,5 +1,5 @@
 -- A grid on the stacks of the machine of lists, and what a traversal makes of it.
-use Rattle.std.specs.Prelude.{◌≡◌, ◌≢◌, ◌⊎◌, ℕ, ℤ, ◌+◌, ◌-◌, ◌*◌, ◌^◌, ◌≤◌, Bool, not, ◌==◌, List, [], map, length, if◌then◌else◌}
+use Rattle.std.specs.Prelude.{◌≡◌, ◌≢◌, ◌⊎◌, ℕ, ℤ, ◌+◌, ◌-◌, ◌*◌, ◌^◌, ◌≤◌, ◌<◌, Bool, not, ◌==◌, List, [], map, length, if◌then◌else◌}
 use Rattle.std.specs.List.{flat_map, AllByRecursion}
 use Rattle.pe_base.specs.declared.tally.Tally.{Tally}
 use Rattle.pe_base.specs.Acts.Effects.{VertexRecord, AreLawful}
@@ -73,9 +73,10 @@ EndAlike swapped stuck other = ⊥
 abbrev pub size : ℕ → Grid → ℕ
 size start_level grid = length (flat_map (walked_cells grid.axes (way_of (next_traversal grid)) (walks start_level grid) (grid.greatest - 1)) (children grid.axes (way_of (next_traversal grid)) root))
 
--- A push of a traversal is on no input, and its stack is no longer afterwards than the traversal has cells, nor than it may
+-- A push of a traversal is on a stack that is no input, and its stack is no longer afterwards than the traversal has cells, nor than it may
 -- have corners.
 pub record IsShort {Plan : Type 0} (set : Setting Plan) (grid : Grid) (swapped : Bool) (push : Push) : Type 0 where
+  pub there : push.stack < (if push.of_cell then 2 else 10)
   pub apart : push.stack ≢ (if push.of_cell then cell_input_stack swapped else input_stack swapped)
   pub within : push.length ≤ size set.start_level grid
   pub few : push.length ≤ 2 ^ set.axes * set.max_cells

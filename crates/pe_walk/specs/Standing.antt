@@ -214,8 +214,8 @@ pub record IsOutset {Plan : Type 0} (set : Setting Plan) (e : Outset) (walked : 
 
 -- a push on a stack that is no input has room wherever its stack, as long as it is then, may stand at a stage
 pub record HasRoom {Plan : Type 0} (set : Setting Plan) (e : Outset) (room : Push → Type 0) : Type 0 where
-  pub vertices : (st : Stage) (w : Working) (t : Tokens) → Holds set e st w t → (s : ℕ) → s ≢ input_stack e.outlook.swapped → room (record { of_cell = false; stack = s; length = len_at t.vertices s })
-  pub cells : (st : Stage) (w : Working) (t : Tokens) → Holds set e st w t → (s : ℕ) → s ≢ cell_input_stack e.outlook.swapped → room (record { of_cell = true; stack = s; length = len_at t.cells s })
+  pub vertices : (st : Stage) (w : Working) (t : Tokens) → Holds set e st w t → (s : ℕ) → s < 10 → s ≢ input_stack e.outlook.swapped → room (record { of_cell = false; stack = s; length = len_at t.vertices s })
+  pub cells : (st : Stage) (w : Working) (t : Tokens) → Holds set e st w t → (s : ℕ) → s < 2 → s ≢ cell_input_stack e.outlook.swapped → room (record { of_cell = true; stack = s; length = len_at t.cells s })
 
 -- At a load, the kind of a corner as the map has its carriers, and as the parent's corners in hand have them, is the one
 -- foreseen.

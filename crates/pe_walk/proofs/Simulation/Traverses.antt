@@ -180,15 +180,17 @@ module _ {Plan : Type 0} (set : Setting Plan) (grid : Grid) (swapped : Bool) (m 
   -- each push leaves its stack short
   room_of : HasRoom set (outset_of set grid swapped m) (IsShort set grid swapped)
   room_of = record {
-    vertices = λ st w t h s other. record {
+    vertices = λ st w t h s there other. record {
+      there = there;
       apart = other;
       within = stacks_are_short (outlook set.start_level grid swapped) (walked set.start_level grid) grid.greatest t (dim_of set grid swapped m may) (grown_of set grid swapped m may) h.stands.apart h.stands.counting s;
       few = let begun_empty : len_at (tokens_of grid swapped m).vertices s ≡ 0 = ap length (vertices_at set grid swapped m may s ∙ ap (λ b. if b then stream_vertices grid else []) (ne_eqb s (input_stack swapped) other)) in
           omega (arith, h.owes.lens s, begun_empty, few_more (2 ^ set.axes) w.tally.cells set.max_cells h.owes.cells);
     };
-    cells = λ st w t h s other.
+    cells = λ st w t h s there other.
         let begun_empty : len_at (tokens_of grid swapped m).cells s ≡ 0 = ap length (cells_at set grid swapped m may s ∙ ap (λ b. if b then stream_cells grid else []) (ne_eqb s (cell_input_stack swapped) other)) in
         let entered = entered_some st.entered st.parent h.stands.parent_entered in record {
+          there = there;
           apart = other;
           within = omega (arith, h.owes.cell_lens s, h.owes.total, begun_empty, entered);
           few = let one = some_power set.axes in omega (arith, h.owes.cell_lens s, h.owes.cells, begun_empty, entered, few_more (2 ^ set.axes) w.tally.cells set.max_cells h.owes.cells, times_one (2 ^ set.axes) w.tally.cells one);

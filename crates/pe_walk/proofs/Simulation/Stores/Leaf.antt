@@ -159,6 +159,7 @@ module _ {Plan : Type 0} (set : Setting Plan) (e : Outset) (walked : Place → B
           subst (λ n. room (record { of_cell = false; stack = s; length = n }))
               (ap (λ goal. len_at (put goal vertex t.vertices) s) went ∙ len-pushed s vertex t.vertices (within set e walked is st stage w t h k from below t' run s went))
               (rooms.vertices (after_store k st) after now (holds_after set e walked is st stage w t h k from below t' run r run_core owed unstored) s
+              (omega (arith, within set e walked is st stage w t h k from below t' run s went, h.stands.stacks))
               (goal_apart e.outlook set.axes (way set) st.cell k is.foresees.dim (subst (λ u. IsCell set.axes u st.cell) is.foresees.ways stage.cell) below s went)),
           tt,
         )

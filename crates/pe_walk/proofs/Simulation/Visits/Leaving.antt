@@ -366,7 +366,7 @@ module _ {Plan : Type 0} (set : Setting Plan) (e : Outset) (walked : Place → B
 
         roomy : room (record { of_cell = true; stack = cell_output_stack e.outlook.swapped; length = len_at t.cells (cell_output_stack e.outlook.swapped) + 1 })
         roomy = subst (λ n. room (record { of_cell = true; stack = cell_output_stack e.outlook.swapped; length = n })) longer
-            (has.cells (after_leave outer st) after t' holds_left (cell_output_stack e.outlook.swapped) (other e.outlook.swapped))
+            (has.cells (after_leave outer st) after t' holds_left (cell_output_stack e.outlook.swapped) (small e.outlook.swapped) (other e.outlook.swapped))
           where
             longer : len_at t'.cells (cell_output_stack e.outlook.swapped) ≡ len_at t.cells (cell_output_stack e.outlook.swapped) + 1
             longer =
