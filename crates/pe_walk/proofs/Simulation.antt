@@ -40,6 +40,8 @@ pub mod RootCorners
 pub mod Begins
 -- a traversal of a grid as it begins
 pub mod Starts
+-- a traversal of a grid as it ends
+pub mod Ends
 -- the walk by address is never stuck
 pub mod Unstuck
 -- a traversal of the machine is the walk by address

@@ -43,7 +43,7 @@ stream_reads grid swapped = ap (map (λ t. t.vertex)) (filter_same (is_read (sto
     (Each-all _ (λ t. and_twice (is_some (at grid.vertices t.vertex)) (is_none (stack_in grid.axes (next_way grid) t.vertex t.cell))) (walked_loads grid.axes (next_way grid) (goes_below grid) grid.greatest root)))
 
 -- the test of a cell, at a cell of the tree
-cell_test : (axes : ℕ) (cell : Place) → IsPosition axes (3 ^ cell.level) cell.pos → is_cell axes cell ≡ not (cell.level == 0)
+pub cell_test : (axes : ℕ) (cell : Place) → IsPosition axes (3 ^ cell.level) cell.pos → is_cell axes cell ≡ not (cell.level == 0)
 cell_test axes cell is = ap₂ (λ x y. ((nat_lt 0 cell.level && x) && y) && list_all (λ z. z == 0) (drop axes cell.pos)) (eq_true (length cell.pos) 4 is.four) (front axes cell.pos (λ i h l. is.inside i h))
     ∙ ap (λ z. ((nat_lt 0 cell.level && true) && true) && z) (behind axes cell.pos is.rest) ∙ plain (nat_lt 0 cell.level) ∙ above cell.level
   where
@@ -105,7 +105,7 @@ was_not_hanging Born h = refl
 was_not_hanging Dying h = refl
 was_not_hanging Hanging h = absurd (true≢false (sym h))
 
-stored_not_hanging : (k : Kind) → is_stored k ≡ true → not (is_hanging k) ≡ true
+pub stored_not_hanging : (k : Kind) → is_stored k ≡ true → not (is_hanging k) ≡ true
 stored_not_hanging Kept h = refl
 stored_not_hanging Born h = refl
 stored_not_hanging Dying h = refl

@@ -46,6 +46,8 @@ pub mod WalkFrames
 pub mod FewCells
 -- each walked cell is among the cells of the walk
 pub mod WalkedHere
+-- what is in the streams that a traversal reads
+pub mod OnStreams
 -- what is counted of the walk of a cell
 pub mod TallyLaws
 -- loads and stores in the words of a tally

@@ -261,54 +261,48 @@ firsts o four v (touch ∷ touches) each e =
     one_or_none true h = omega (arith, ap length h)
     one_or_none false h = omega (arith, ap length h)
 
+-- where only one stack is not empty, a place lies there
+pub lies_only : (held : Holdings Place) (s : ℕ) (xs : List Place) → s < stack_count held → ((r : ℕ) → items_at held r ≡ (if r == s then xs else [])) → (place : Place) → lies held place ≡ count_by (λ other. is_same other place) xs
+lies_only held s xs low items place =
+    sum_only (there place) held.stacks s new_stack low (λ r k. ap (count_by (λ other. is_same other place)) (items r ∙ ap (λ b. if b then xs else []) (eq_false r s k)))
+    ∙ ap (count_by (λ other. is_same other place)) (items s ∙ ap (λ b. if b then xs else []) (same_itself s))
+
+-- what is read, by the loads of each vertex
+module _ (o : Outlook) (greatest : ℕ) (q : Place) where
+  pub reading : count_by (λ p. is_same p q) (reads_of o greatest root) ≡ length (filter (is_read o) (filter (λ t. is_same t.vertex q) (loads_of o greatest root)))
+  reading =
+      let here = λ (t : Touch). is_same t.vertex q in
+      let all = loads_of o greatest root in
+      sym (length-filter (λ p. is_same p q) (reads_of o greatest root))
+      ∙ ap length (filter-map (λ p. is_same p q) (λ t. t.vertex) (filter (is_read o) all))
+      ∙ length-map (filter here (filter (is_read o) all)) (λ t. t.vertex)
+      ∙ ap length (sym (filter-filter here (is_read o) all) ∙ filter_same _ (λ t. here t && is_read o t) all (Each-all _ (λ t. and_turned (is_read o t) (here t)) all) ∙ filter-filter (is_read o) here all)
+
+  pub its_loads : Each (λ t. is_same t.vertex q ≡ true) (filter (λ t. is_same t.vertex q) (loads_of o greatest root))
+  its_loads = Each-weaker _ (λ t. is_same t.vertex q ≡ true) (λ t h. h.1) _ (Each-filter (λ t. Unit {0}) (λ t. is_same t.vertex q) (loads_of o greatest root) (Each-all _ (λ t. tt) (loads_of o greatest root)))
+
+  pub not_read : o.reads q ≡ false → count_by (λ p. is_same p q) (reads_of o greatest root) ≡ 0
+  not_read r = reading ∙ ap length (filter_none (is_read o) (filter (λ t. is_same t.vertex q) (loads_of o greatest root))
+      (Each-weaker _ _ (λ t s. unread (o.counts t.vertex) (ap o.reads (same_places t.vertex q s) ∙ r) _) (filter (λ t. is_same t.vertex q) (loads_of o greatest root)) its_loads))
+    where
+      unread : {b : Bool} (a : Bool) → b ≡ false → (x : Bool) → (a && (b && x)) ≡ false
+      unread true h x = ap (λ y. y && x) h
+      unread false h x = refl
+
 pub begins_apart : BeginsApart
 begins_apart o walked greatest t dim grown may free = record {
   once = λ q c. omega (arith, free q, on_input q, reads_once q c);
-  unmet = λ q c r m. omega (arith, free q, on_input q, not_read q c r);
+  unmet = λ q c r m. omega (arith, free q, on_input q, not_read o greatest q r);
 }
   where
-    ts : List Touch
-    ts = loads_of o greatest root
-
-    input : ℕ
-    input = input_stack o.swapped
-
     near : (swapped : Bool) → input_stack swapped < 10
     near true = omega arith
     near false = omega arith
 
-    held : Holdings Place
-    held = (begun o t).vertices
-
-    items : (s : ℕ) → items_at (begun o t).vertices s ≡ (if s == input_stack o.swapped then reads_of o greatest root else [])
-    items s = lent_items (numbers o) t.vertices s ∙ may.reads_vertices s
-
     on_input : (q : Place) → lies (begun o t).vertices q ≡ count_by (λ p. is_same p q) (reads_of o greatest root)
-    on_input q =
-        sum_only (there q) (begun o t).vertices.stacks (input_stack o.swapped) new_stack (omega (arith, near o.swapped, lent_stacks (numbers o) t.vertices, may.stacks))
-        (λ s k. ap (count_by (λ p. is_same p q)) (items s ∙ ap (λ b. if b then reads_of o greatest root else []) (eq_false s (input_stack o.swapped) k)))
-        ∙ ap (count_by (λ p. is_same p q)) (items (input_stack o.swapped) ∙ ap (λ b. if b then reads_of o greatest root else []) (same_itself (input_stack o.swapped)))
-
-    -- the loads that read a vertex
-    reading : (q : Place) → count_by (λ p. is_same p q) (reads_of o greatest root) ≡ length (filter (is_read o) (filter (λ t. is_same t.vertex q) (loads_of o greatest root)))
-    reading q =
-        let here = λ (t : Touch). is_same t.vertex q in
-        let all = loads_of o greatest root in
-        sym (length-filter (λ p. is_same p q) (reads_of o greatest root))
-        ∙ ap length (filter-map (λ p. is_same p q) (λ t. t.vertex) (filter (is_read o) all))
-        ∙ length-map (filter here (filter (is_read o) all)) (λ t. t.vertex)
-        ∙ ap length (sym (filter-filter here (is_read o) all) ∙ filter_same _ (λ t. here t && is_read o t) all (Each-all _ (λ t. and_turned (is_read o t) (here t)) all) ∙ filter-filter (is_read o) here all)
-
-    kept : (q : Place) → Each (λ t. is_same t.vertex q ≡ true) (filter (λ t. is_same t.vertex q) (loads_of o greatest root))
-    kept q = Each-weaker _ (λ t. is_same t.vertex q ≡ true) (λ t h. h.1) _ (Each-filter (λ t. Unit {0}) (λ t. is_same t.vertex q) (loads_of o greatest root) (Each-all _ (λ t. tt) (loads_of o greatest root)))
+    on_input =
+        lies_only (begun o t).vertices (input_stack o.swapped) (reads_of o greatest root) (omega (arith, near o.swapped, lent_stacks (numbers o) t.vertices, may.stacks))
+        (λ s. lent_items (numbers o) t.vertices s ∙ may.reads_vertices s)
 
     reads_once : (q : Place) → o.counts q ≡ true → count_by (λ p. is_same p q) (reads_of o greatest root) ≤ 1
-    reads_once q c = omega (arith, reading q, firsts o dim.1 q (filter (λ t. is_same t.vertex q) (loads_of o greatest root)) (kept q) (loaded_around o walked greatest dim grown q c))
-
-    not_read : (q : Place) → o.counts q ≡ true → o.reads q ≡ false → count_by (λ p. is_same p q) (reads_of o greatest root) ≡ 0
-    not_read q c r = reading q ∙ ap length (filter_none (is_read o) (filter (λ t. is_same t.vertex q) (loads_of o greatest root))
-        (Each-weaker _ _ (λ t s. unread (o.counts t.vertex) (ap o.reads (same_places t.vertex q s) ∙ r) _) (filter (λ t. is_same t.vertex q) (loads_of o greatest root)) (kept q)))
-      where
-        unread : {b : Bool} (a : Bool) → b ≡ false → (x : Bool) → (a && (b && x)) ≡ false
-        unread true h x = ap (λ y. y && x) h
-        unread false h x = refl
+    reads_once q c = omega (arith, reading o greatest q, firsts o dim.1 q (filter (λ t. is_same t.vertex q) (loads_of o greatest root)) (its_loads o greatest q) (loaded_around o walked greatest dim grown q c))

@@ -7,10 +7,10 @@ use Rattle.pe_base.specs.declared.place.Place.{Place}
 use Rattle.pe_base.specs.Tree.Places.{root, is_same}
 use Rattle.pe_base.specs.Tree.Curve.{children}
 use Rattle.pe_base.specs.Walk.Streams.{if_walks, walked_children, walked_cells}
-use Rattle.pe_base.proofs.Steps.Counts.{eq_false, same_itself, is_same_itself}
+use Rattle.pe_base.proofs.Steps.Counts.{is_same_itself}
 use Rattle.pe_base.proofs.Faces.Quiet.{false_unless}
 use Rattle.pe_base.proofs.Faces.Bridge.{same_places}
-use Rattle.pe_stacks.specs.Holdings.{Holdings, new_stack, stack_count, stack_at, pushed, pushed_on}
+use Rattle.pe_stacks.specs.Holdings.{Holdings, stack_count, stack_at, pushed, pushed_on}
 use Rattle.pe_stacks.specs.Grid.{cell_input_stack}
 use Rattle.pe_walk.specs.Tokens.{Outlook, Tokens, each_some, put, cell_target, touch_of, load, store, enter, leave, around_below, numbers, walk}
 use Rattle.pe_walk.specs.Takings.{cell_reads_of, MayTraverse}
@@ -19,7 +19,7 @@ use Rattle.pe_walk.specs.CellsAhead.{times, cells_below, CellsDiffer, CellsAhead
 use Rattle.pe_walk.proofs.Trees.{root_is_cell}
 use Rattle.pe_walk.proofs.Tokens.Dues.{root_walks}
 use Rattle.pe_walk.proofs.Tokens.Keeping.{given_some}
-use Rattle.pe_walk.proofs.Tokens.Apart.{one_if, there, set_past, sum_only}
+use Rattle.pe_walk.proofs.Tokens.Apart.{one_if, there, set_past, lies_only}
 use Rattle.pe_walk.proofs.Tokens.StepFrames.{pushed_once, store_by, after_load, after_enter}
 use Rattle.pe_walk.proofs.Tokens.CountLists.{count-cons, count-append}
 use Rattle.pe_walk.proofs.Tokens.CellsApart.{walked_cells_differ}
@@ -162,10 +162,7 @@ count-filter test (c ∷ cells) x = go (test c) refl (is_same c x) refl (count-f
 
 -- as a traversal begins, a cell lies on the stacks as often as it is read
 pub cells_on_input : (o : Outlook) (greatest : ℕ) (t : Tokens) → MayTraverse o greatest t → (x : Place) → lies t.cells x ≡ times (cell_reads_of o greatest root) x
-cells_on_input o greatest t may x =
-    sum_only (there x) t.cells.stacks (cell_input_stack o.swapped) new_stack (omega (arith, near o.swapped, may.cell_stacks))
-    (λ s k. ap (λ cs. times cs x) (may.reads_cells s ∙ ap (λ b. if b then cell_reads_of o greatest root else []) (eq_false s (cell_input_stack o.swapped) k)))
-    ∙ ap (λ cs. times cs x) (may.reads_cells (cell_input_stack o.swapped) ∙ ap (λ b. if b then cell_reads_of o greatest root else []) (same_itself (cell_input_stack o.swapped)))
+cells_on_input o greatest t may x = lies_only t.cells (cell_input_stack o.swapped) (cell_reads_of o greatest root) (omega (arith, near o.swapped, may.cell_stacks)) may.reads_cells x
   where
     near : (swapped : Bool) → cell_input_stack swapped < 2
     near true = omega arith

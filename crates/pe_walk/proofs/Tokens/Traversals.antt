@@ -89,11 +89,11 @@ pub lent_stacks : (ks : List ℕ) (held : Holdings Place) → stack_count (lent_
 lent_stacks [] held = refl
 lent_stacks (k ∷ ks) held = lent_stacks ks (lent held)
 
-given_items : (ks : List ℕ) (held : Holdings Place) (s : ℕ) → items_at (given_up_for ks held) s ≡ items_at held s
+pub given_items : (ks : List ℕ) (held : Holdings Place) (s : ℕ) → items_at (given_up_for ks held) s ≡ items_at held s
 given_items [] held s = refl
 given_items (k ∷ ks) held s = given_items ks (given_up held) s
 
-given_stacks : (ks : List ℕ) (held : Holdings Place) → stack_count (given_up_for ks held) ≡ stack_count held
+pub given_stacks : (ks : List ℕ) (held : Holdings Place) → stack_count (given_up_for ks held) ≡ stack_count held
 given_stacks [] held = refl
 given_stacks (k ∷ ks) held = given_stacks ks (given_up held)
 
