@@ -46,3 +46,5 @@ pub mod Ends
 pub mod Unstuck
 -- a traversal of the machine is the walk by address
 pub mod Traverses
+-- the tally of the walk by address is the one that is foreseen
+pub mod Tallied

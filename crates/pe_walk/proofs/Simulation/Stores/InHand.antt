@@ -77,7 +77,7 @@ module _ {Plan : Type 0} (set : Setting Plan) (e : Outset) (walked : Place → B
       given_up (Some it) alike = absurd (let gone : false ≡ true = sym (ap (λ kind. stays kind (is_none to)) hanging) ∙ alike.0 in cc)
 
   -- a corner that counts is stored under its place
-  counting_free : e.outlook.counts vertex ≡ true → is_hung w st.cell k ≡ false
+  pub counting_free : e.outlook.counts vertex ≡ true → is_hung w st.cell k ≡ false
   counting_free on = h.fair.flags st.cell k (omega (arith, deep)) ∙ ap (λ b. is_same st.cell st.cell && nat_le st.from k && nat_lt k (2 ^ set.axes) && not b) on ∙ never (is_same st.cell st.cell) (nat_le st.from k) (nat_lt k (2 ^ set.axes))
     where
       never : (a b c : Bool) → (a && b && c && false) ≡ false
