@@ -2,3 +2,5 @@
 
 -- each step
 pub mod Steps
+-- the walk of a cell
+pub mod Walks

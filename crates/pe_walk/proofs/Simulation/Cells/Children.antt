@@ -117,7 +117,7 @@ module _ {Plan : Type 0} (set : Setting Plan) (e : Outset) (walked : Place → B
 
   -- # What is done below a cell
   -- the kind of the children, as the model finds it
-  model_found : (st : Stage) (w : Working) (t : Tokens) → IsStage set.axes e.outlook st → IsOpen st → Holds set e st w t → model.kind_of_children set w st.cell ≡ e.foresight.below st.cell
+  pub model_found : (st : Stage) (w : Working) (t : Tokens) → IsStage set.axes e.outlook st → IsOpen st → Holds set e st w t → model.kind_of_children set w st.cell ≡ e.foresight.below st.cell
   model_found st w t stage full h =
       ap (λ b. if b then (if set.traversal == 1 then Born else Kept) else kind_below (records_of set.axes w st.cell)) (ne_eqb st.cell.level 0 (λ q. absurd (omega (arith, stage.deep, q))))
       ∙ below_found st w t stage full h

@@ -27,17 +27,17 @@ use Rattle.pe_walk.proofs.Simulation.Cells.Inside.{with_ahead, IsOpen, less-hold
 use Rattle.pe_walk.proofs.Simulation.Cells.Children.{within, BelowSim, below_none, below_some}
 
 -- the stages within the walk of a cell: all corners are loaded, the cell is entered
-abbrev all_loaded : ℕ → Stage → Stage
+abbrev pub all_loaded : ℕ → Stage → Stage
 all_loaded axes st = let counted = after_count axes st in record counted { from = 0; owed = counted.owed - 2 ^ axes }
 
 abbrev pub opened : ℕ → List Place → Stage → Stage
 opened axes inner st = after_enter inner (all_loaded axes st)
 
 module _ {Plan : Type 0} (set : Setting Plan) (e : Outset) (walked : Place → Bool) (room : Push → Type 0) (is : IsOutset set e walked) where
-  few : 2 ^ set.axes ≤ 16
+  pub few : 2 ^ set.axes ≤ 16
   few = corners_range set.axes is.foresees.dim
 
-  is_open : (inner : List Place) (st : Stage) → IsStage set.axes e.outlook st → IsOpen (opened set.axes inner st)
+  pub is_open : (inner : List Place) (st : Stage) → IsStage set.axes e.outlook st → IsOpen (opened set.axes inner st)
   is_open inner st stage =
       let up : st.cell.level - 1 ≡ st.parent.level = ap (λ (p : Place). p.level) stage.above in
       record {
@@ -47,7 +47,7 @@ module _ {Plan : Type 0} (set : Setting Plan) (e : Outset) (walked : Place → B
       }
 
   -- all loads, from none in hand
-  all_loads_sim : LoadLeaf set e room → (st : Stage) → IsStage set.axes e.outlook st → st.from ≡ 2 ^ set.axes → 2 ^ set.axes ≤ st.owed
+  pub all_loads_sim : LoadLeaf set e room → (st : Stage) → IsStage set.axes e.outlook st → st.from ≡ 2 ^ set.axes → 2 ^ set.axes ≤ st.owed
       → Sim room (Holds set e st) (image_of set e st.parent) (Holds set e (record st { from = 0; owed = st.owed - 2 ^ set.axes })) (in_hand set e (record st { from = 0; owed = st.owed - 2 ^ set.axes }))
       (each (model.load_corner set st.parent st.cell) (reverse (walks.corner_numbers set))) (λ m. machine.load_all set (ports set e room) st.cell (2 ^ set.axes) [] m) (each_some (tokens.load e.outlook st.cell) (reverse (tokens.numbers e.outlook)))
   all_loads_sim loads st stage none owed =
