@@ -98,6 +98,6 @@ traffic_of_grids start_level grid swapped t after low is has e =
     let exact = traffic_by_tally (outlook start_level grid swapped) (kind_foreseen start_level grid) _ grid.greatest (next_traversal grid) t after dim (forecast_fits start_level grid swapped low is) (kinds_foreseen start_level grid swapped) has e in
     record {
       exact = exact;
-      few = subst (λ n. n ≤ most_cells grid.axes ((foreseen_tally start_level grid swapped).read + (foreseen_tally start_level grid swapped).created)) (sym exact.cells)
-          (subst (λ n. length (entered_cells (outlook start_level grid swapped) grid.greatest) ≤ most_cells grid.axes n) exact.vertices (few_cells_of_traversals start_level grid swapped low is));
+      few = subst (λ n. n ≤ most_cells grid.axes ((foreseen_tally start_level grid swapped).read + (foreseen_tally start_level grid swapped).created)) (sym exact.cell_count)
+          (subst (λ n. length (entered_cells (outlook start_level grid swapped) grid.greatest) ≤ most_cells grid.axes n) exact.counting (few_cells_of_traversals start_level grid swapped low is));
     }

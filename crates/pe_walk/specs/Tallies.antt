@@ -15,7 +15,7 @@ use Rattle.pe_base.specs.Walk.Touches.{tally_load, tally_store, tally_cell}
 use Rattle.pe_base.specs.Walk.Grids.{Grid, IsWellFormed}
 use Rattle.pe_base.specs.Walk.Foreseen.{next_traversal, kind_foreseen}
 use Rattle.pe_base.specs.Walk.Streams.{walked_children, walked_cells}
-use Rattle.pe_stacks.specs.Holdings.{stack_at}
+use Rattle.pe_stacks.specs.Holdings.{Holdings, stack_at}
 use Rattle.pe_stacks.specs.Grid.{input_stack, output_stack, cell_input_stack, cell_output_stack}
 use Rattle.pe_walk.specs.Outlooks.{was_stored, outlook, IsNew}
 use Rattle.pe_walk.specs.Tokens.{Outlook, Tokens, traverse}
@@ -93,35 +93,39 @@ TallyOfACell = (o : Outlook) (kind : Place → Kind) (levels : ℕ) (cell : Plac
 --     read, written           vertices popped from the input, and pushed on the output
 --     fresh, spent            vertices made, and given up: those created and destroyed, the hanging ones, and the root's corners
 --     popped, pushed          by the stack of an axis and a parity: so often as the vertices that count cross it
+--     idle                    the stacks of axes that there are not
 --     most, cells_most        how much was out at most: the corners of one cell of each level, the root's too; and one cell
---     vertices, hanging       how many vertices count; and the corners of all cells that do not
-pub record ExactTraffic (o : Outlook) (greatest : ℕ) (t after : Tokens) (tally : Tally) : Type 0 where
-  pub read : (stack_at after.vertices (input_stack o.swapped)).pops ≡ (stack_at t.vertices (input_stack o.swapped)).pops + tally.read
-  pub written : (stack_at after.vertices (output_stack o.swapped)).pushes ≡ (stack_at t.vertices (output_stack o.swapped)).pushes + tally.written
-  pub input_kept : (stack_at after.vertices (input_stack o.swapped)).pushes ≡ (stack_at t.vertices (input_stack o.swapped)).pushes
-  pub output_kept : (stack_at after.vertices (output_stack o.swapped)).pops ≡ (stack_at t.vertices (output_stack o.swapped)).pops
-  pub fresh : after.vertices.fresh ≡ t.vertices.fresh + (tally.created + tally.hanging + 2 ^ o.axes)
-  pub spent : after.vertices.spent ≡ t.vertices.spent + (tally.destroyed + tally.hanging + 2 ^ o.axes)
+--     counting, hanging       how many vertices count; and the corners of all cells that do not
+pub record ExactTraffic {X Y : Type 0} (o : Outlook) (greatest : ℕ) (vertices vertices' : Holdings X) (cells cells' : Holdings Y) (tally : Tally) : Type 0 where
+  pub read : (stack_at vertices' (input_stack o.swapped)).pops ≡ (stack_at vertices (input_stack o.swapped)).pops + tally.read
+  pub written : (stack_at vertices' (output_stack o.swapped)).pushes ≡ (stack_at vertices (output_stack o.swapped)).pushes + tally.written
+  pub input_kept : (stack_at vertices' (input_stack o.swapped)).pushes ≡ (stack_at vertices (input_stack o.swapped)).pushes
+  pub output_kept : (stack_at vertices' (output_stack o.swapped)).pops ≡ (stack_at vertices (output_stack o.swapped)).pops
+  pub fresh : vertices'.fresh ≡ vertices.fresh + (tally.created + tally.hanging + 2 ^ o.axes)
+  pub spent : vertices'.spent ≡ vertices.spent + (tally.destroyed + tally.hanging + 2 ^ o.axes)
   pub popped : (axis parity : ℕ) → axis < o.axes → parity < 2
-      → (stack_at after.vertices (2 * axis + parity)).pops ≡ (stack_at t.vertices (2 * axis + parity)).pops + sum_by (crosses_on o.axes axis parity) (first_vertices o greatest)
+      → (stack_at vertices' (2 * axis + parity)).pops ≡ (stack_at vertices (2 * axis + parity)).pops + sum_by (crosses_on o.axes axis parity) (first_vertices o greatest)
   pub pushed : (axis parity : ℕ) → axis < o.axes → parity < 2
-      → (stack_at after.vertices (2 * axis + parity)).pushes ≡ (stack_at t.vertices (2 * axis + parity)).pushes + sum_by (crosses_on o.axes axis parity) (first_vertices o greatest)
-  pub out : after.vertices.out ≡ t.vertices.out
-  pub most : after.vertices.most ≡ max t.vertices.most (t.vertices.out + 2 ^ o.axes * (tally.deepest + 1))
-  pub vertices : length (first_vertices o greatest) ≡ tally.read + tally.created
-  pub vertices_after : length (first_vertices o greatest) ≡ tally.written + tally.destroyed
+      → (stack_at vertices' (2 * axis + parity)).pushes ≡ (stack_at vertices (2 * axis + parity)).pushes + sum_by (crosses_on o.axes axis parity) (first_vertices o greatest)
+  pub idle : (s : ℕ) → 2 * o.axes ≤ s → s < 8 → ((stack_at vertices' s).pops ≡ (stack_at vertices s).pops) × ((stack_at vertices' s).pushes ≡ (stack_at vertices s).pushes)
+  pub out : vertices'.out ≡ vertices.out
+  pub most : vertices'.most ≡ max vertices.most (vertices.out + 2 ^ o.axes * (tally.deepest + 1))
+  pub counting : length (first_vertices o greatest) ≡ tally.read + tally.created
+  pub counting_after : length (first_vertices o greatest) ≡ tally.written + tally.destroyed
   pub hanging : tally.hanging + 2 ^ o.axes * length (first_vertices o greatest) ≡ 2 ^ o.axes * tally.cells
-  pub cells : tally.cells ≡ length (entered_cells o greatest)
-  pub cells_read : (stack_at after.cells (cell_input_stack o.swapped)).pops ≡ (stack_at t.cells (cell_input_stack o.swapped)).pops + count_by o.reads_cell (entered_cells o greatest)
-  pub cells_made : after.cells.fresh + count_by o.reads_cell (entered_cells o greatest) ≡ t.cells.fresh + tally.cells
-  pub cells_written : (stack_at after.cells (cell_output_stack o.swapped)).pushes ≡ (stack_at t.cells (cell_output_stack o.swapped)).pushes + count_by o.writes_cell (entered_cells o greatest)
-  pub cells_gone : after.cells.spent + count_by o.writes_cell (entered_cells o greatest) ≡ t.cells.spent + tally.cells
-  pub cells_out : t.cells.out ≤ t.cells.most → after.cells.out ≡ t.cells.out
-  pub cells_most : t.cells.out ≤ t.cells.most → after.cells.most ≡ max t.cells.most (t.cells.out + tally.deepest)
+  pub cell_count : tally.cells ≡ length (entered_cells o greatest)
+  pub cells_read : (stack_at cells' (cell_input_stack o.swapped)).pops ≡ (stack_at cells (cell_input_stack o.swapped)).pops + count_by o.reads_cell (entered_cells o greatest)
+  pub cell_input_kept : (stack_at cells' (cell_input_stack o.swapped)).pushes ≡ (stack_at cells (cell_input_stack o.swapped)).pushes
+  pub cell_output_kept : (stack_at cells' (cell_output_stack o.swapped)).pops ≡ (stack_at cells (cell_output_stack o.swapped)).pops
+  pub cells_made : cells'.fresh + count_by o.reads_cell (entered_cells o greatest) ≡ cells.fresh + tally.cells
+  pub cells_written : (stack_at cells' (cell_output_stack o.swapped)).pushes ≡ (stack_at cells (cell_output_stack o.swapped)).pushes + count_by o.writes_cell (entered_cells o greatest)
+  pub cells_gone : cells'.spent + count_by o.writes_cell (entered_cells o greatest) ≡ cells.spent + tally.cells
+  pub cells_out : cells.out ≤ cells.most → cells'.out ≡ cells.out
+  pub cells_most : cells.out ≤ cells.most → cells'.most ≡ max cells.most (cells.out + tally.deepest)
 
 abbrev pub TrafficByTally : Type 0
 TrafficByTally = (o : Outlook) (kind : Place → Kind) (walked : Place → Bool) (greatest traversal : ℕ) (t after : Tokens) → IsDim o.axes → Grown o walked greatest → IsOfKinds o kind → HasStacks t → traverse o greatest t ≡ Some after
-    → ExactTraffic o greatest t after (counted_traversal o kind greatest (no_tally traversal))
+    → ExactTraffic o greatest t.vertices after.vertices t.cells after.cells (counted_traversal o kind greatest (no_tally traversal))
 
 -- The kinds foreseen of a traversal of a grid are those of its outlook. So its traffic is exact, and it walks no more cells
 -- than its vertices allow.
@@ -132,7 +136,7 @@ abbrev pub foreseen_tally : ℕ → Grid → Bool → Tally
 foreseen_tally start_level grid swapped = counted_traversal (outlook start_level grid swapped) (kind_foreseen start_level grid) grid.greatest (no_tally (next_traversal grid))
 
 pub record TrafficOfGrid (start_level : ℕ) (grid : Grid) (swapped : Bool) (t after : Tokens) : Type 0 where
-  pub exact : ExactTraffic (outlook start_level grid swapped) grid.greatest t after (foreseen_tally start_level grid swapped)
+  pub exact : ExactTraffic (outlook start_level grid swapped) grid.greatest t.vertices after.vertices t.cells after.cells (foreseen_tally start_level grid swapped)
   pub few : (foreseen_tally start_level grid swapped).cells ≤ most_cells grid.axes ((foreseen_tally start_level grid swapped).read + (foreseen_tally start_level grid swapped).created)
 
 abbrev pub TrafficOfGrids : Type 0

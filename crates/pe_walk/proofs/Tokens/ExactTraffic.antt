@@ -18,7 +18,7 @@ use Rattle.pe_base.specs.Steps.Stacks.{is_stack}
 use Rattle.pe_base.specs.Walk.Working.{no_tally}
 use Rattle.pe_base.specs.Walk.Streams.{if_walks, walked_cells}
 use Rattle.pe_base.proofs.Lists.{Each-all, Each-weaker}
-use Rattle.pe_base.proofs.Steps.Counts.{same_itself}
+use Rattle.pe_base.proofs.Steps.Counts.{same_itself, eq_false}
 use Rattle.pe_base.proofs.Steps.Turned.{stack-opposite}
 use Rattle.pe_stacks.specs.Holdings.{stack_at}
 use Rattle.pe_stacks.specs.Grid.{input_stack, output_stack, cell_input_stack, cell_output_stack}
@@ -41,7 +41,7 @@ use Rattle.pe_walk.proofs.Tokens.Crossings.{traffic_is_crossings, hanging_loads}
 use Rattle.pe_walk.proofs.Tokens.CountLists.{count-append, count-flat_map, count-reverse, count-same, count-not}
 use Rattle.pe_walk.proofs.Tokens.TallyLaws.{walk_rises, each_rises}
 use Rattle.pe_walk.proofs.Tokens.Depths.{each_deepest, some_height, walk_deepest}
-use Rattle.pe_walk.proofs.Tokens.TouchCounts.{input_reads, output_unread, output_writes, input_unwritten, made_counts, ended_counts, first_counts, last_counts, stores-loads, left-walked}
+use Rattle.pe_walk.proofs.Tokens.TouchCounts.{input_reads, output_unread, output_writes, input_unwritten, idle_loads, idle_stores, made_counts, ended_counts, first_counts, last_counts, stores-loads, left-walked}
 use Rattle.pe_walk.proofs.Tests.{some_power}
 
 -- what the root's corners, and what is below the root, add to a count
@@ -139,6 +139,14 @@ by_given : (b : Bool) (s : ℕ) → is_stack s (given b (Some s)) ≡ b
 by_given true s = same_itself s
 by_given false s = refl
 
+by_other : (b : Bool) (s other : ℕ) → (s ≡ other → ⊥) → is_stack s (given b (Some other)) ≡ false
+by_other true s other apart = eq_false s other apart
+by_other false s other apart = refl
+
+two_cell_streams : (swapped : Bool) → cell_input_stack swapped ≡ cell_output_stack swapped → ⊥
+two_cell_streams true e = omega (arith, e)
+two_cell_streams false e = omega (arith, e)
+
 by_none : (b : Bool) (s : ℕ) → is_none (given b (Some s)) ≡ not b
 by_none true s = refl
 by_none false s = refl
@@ -180,7 +188,7 @@ module _ (o : Outlook) (kind : Place → Kind) (walked : Place → Bool) (greate
       ∙ each_deepest o (greatest - 1) 0 (walk_deepest o (greatest - 1)) (children o.axes o.way root) (children_levels o.axes o.way root) (Each-all _ (some_height o (greatest - 1)) (children o.axes o.way root)) 0 (omega arith)
       ∙ omega arith
 
-  exact : (t after : Tokens) → HasStacks t → traverse o greatest t ≡ Some after → ExactTraffic o greatest t after (counted_traversal o kind greatest (no_tally traversal))
+  exact : (t after : Tokens) → HasStacks t → traverse o greatest t ≡ Some after → ExactTraffic o greatest t.vertices after.vertices t.cells after.cells (counted_traversal o kind greatest (no_tally traversal))
   exact t after has e =
       let traffic = traffic_of_a_traversal o walked greatest t after dim grown has.vertices has.cells e in
       let m = traffic.moved in
@@ -198,15 +206,23 @@ module _ (o : Outlook) (kind : Place → Kind) (walked : Place → Bool) (greate
         spent = m.spent ∙ ap (λ n. t.vertices.spent + n) (ended_counts o stores ∙ omega (arith, all_destroyed, all_gone));
         popped = λ axis parity a b. m.pops (2 * axis + parity) ∙ ap (λ n. (stack_at t.vertices (2 * axis + parity)).pops + n) (traffic_is_crossings o walked greatest axis parity dim grown a b).pops;
         pushed = λ axis parity a b. m.pushes (2 * axis + parity) ∙ ap (λ n. (stack_at t.vertices (2 * axis + parity)).pushes + n) (traffic_is_crossings o walked greatest axis parity dim grown a b).pushes;
+        idle = λ s beyond below. (
+          m.pops s ∙ omega (arith, idle_loads o dim greatest root is_cell s beyond below),
+          m.pushes s ∙ omega (arith, idle_stores o dim greatest root is_cell s beyond below),
+        );
         out = traffic.vertices.out;
         most = traffic.vertices.most ∙ ap (λ n. max t.vertices.most (t.vertices.out + 2 ^ o.axes * n)) tall;
-        vertices = firsts_length o walked greatest dim grown ∙ first_counts o loads ∙ ap₂ (λ a b. a + b) all_read all_created;
-        vertices_after = lasts_length o walked greatest dim grown ∙ last_counts o stores ∙ ap₂ (λ a b. a + b) all_written all_destroyed;
+        counting = firsts_length o walked greatest dim grown ∙ first_counts o loads ∙ ap₂ (λ a b. a + b) all_read all_created;
+        counting_after = lasts_length o walked greatest dim grown ∙ last_counts o stores ∙ ap₂ (λ a b. a + b) all_written all_destroyed;
         hanging = spread (2 ^ o.axes) (length (first_vertices o greatest)) (count_by (is_hung o) loads) tally.hanging (length (walked_cells o.axes o.way o.walks greatest root)) tally.cells
             (hanging_loads o walked greatest dim grown) all_hung (ap length (all_cells o walked greatest dim grown) ∙ ap suc (sym cells_counted));
-        cells = cells_counted;
+        cell_count = cells_counted;
         cells_read = m.cell_pops (cell_input_stack o.swapped)
             ∙ ap (λ n. (stack_at t.cells (cell_input_stack o.swapped)).pops + n) (count-same (λ c. is_stack (cell_input_stack o.swapped) (cell_source o c)) o.reads_cell entered (Each-all _ (λ c. by_given (o.reads_cell c) (cell_input_stack o.swapped)) entered));
+        cell_input_kept = m.cell_pushes (cell_input_stack o.swapped)
+            ∙ omega (arith, count_none (λ c. is_stack (cell_input_stack o.swapped) (cell_target o c)) (departed_cells o greatest) (Each-all _ (λ c. by_other (o.writes_cell c) (cell_input_stack o.swapped) (cell_output_stack o.swapped) (two_cell_streams o.swapped)) (departed_cells o greatest)));
+        cell_output_kept = m.cell_pops (cell_output_stack o.swapped)
+            ∙ omega (arith, count_none (λ c. is_stack (cell_output_stack o.swapped) (cell_source o c)) entered (Each-all _ (λ c. by_other (o.reads_cell c) (cell_output_stack o.swapped) (cell_input_stack o.swapped) (λ e. two_cell_streams o.swapped (sym e))) entered));
         cells_made = omega (
           arith,
           m.cell_fresh,

@@ -1,5 +1,5 @@
 -- Loads and stores by where they come from and go to, in the words of what is read, written, created, destroyed and hanging.
-use Rattle.std.proofs.Common.{◌≡◌, inl, inr, ℕ, zero, suc, ◌+◌, ◌^◌, ◌<◌, ◌≤◌, Bool, true, false, not, ◌&&◌, List, [], ◌∷◌, reverse, Option, Some, None, refl, sym, ap, ◌∙◌, arith}
+use Rattle.std.proofs.Common.{◌≡◌, inl, inr, ℕ, zero, suc, ◌+◌, ◌*◌, ◌^◌, ◌<◌, ◌≤◌, Bool, true, false, not, ◌&&◌, List, [], ◌∷◌, reverse, Option, Some, None, refl, sym, ap, ◌∙◌, arith}
 use Rattle.std.specs.Prelude.{is_none, count_by}
 use Rattle.std.specs.List.{flat_map, range_with_len}
 use Rattle.pe_base.specs.declared.place.Place.{Place}
@@ -29,31 +29,31 @@ use Rattle.pe_walk.proofs.Tokens.CellsApart.{each_if}
 use Rattle.pe_walk.proofs.Tokens.CountLists.{count-append, count-flat_map, count-reverse, count-same, count-sum}
 
 -- a stack, if there is one, is of the axes
-abbrev pub IsLow : Option ℕ → Type 0
-IsLow from = (s : ℕ) → from ≡ Some s → s < 8
+abbrev pub IsBelow : ℕ → Option ℕ → Type 0
+IsBelow n from = (s : ℕ) → from ≡ Some s → s < n
 
 -- a stream is taken from where it is read and no stack of the axes is named
-own_stream : (a : ℕ) (c r : Bool) (from : Option ℕ) → 8 ≤ a → IsLow from → (c && is_stack a (first_of from (given r (Some a)))) ≡ (c && (r && is_none from))
-own_stream a c true None far low = ap (λ b. c && b) (same_itself a)
-own_stream a c false None far low = refl
-own_stream a c r (Some w) far low = let near : w < 8 = low w refl in ap (λ b. c && b) (eq_false a w (λ e. omega (arith, e, near, far)) ∙ never r)
+own_stream : (n a : ℕ) (c r : Bool) (from : Option ℕ) → n ≤ a → IsBelow n from → (c && is_stack a (first_of from (given r (Some a)))) ≡ (c && (r && is_none from))
+own_stream n a c true None far low = ap (λ b. c && b) (same_itself a)
+own_stream n a c false None far low = refl
+own_stream n a c r (Some w) far low = let near : w < n = low w refl in ap (λ b. c && b) (eq_false a w (λ e. omega (arith, e, near, far)) ∙ never r)
   where
     never : (b : Bool) → false ≡ (b && false)
     never true = refl
     never false = refl
 
 -- and another stream never is
-other_stream : (a b : ℕ) (c r : Bool) (from : Option ℕ) → 8 ≤ b → (b ≡ a → ⊥) → IsLow from → (c && is_stack b (first_of from (given r (Some a)))) ≡ false
-other_stream a b c r from far apart low = never c (elsewhere r from low)
+other_stream : (n a b : ℕ) (c r : Bool) (from : Option ℕ) → n ≤ b → (b ≡ a → ⊥) → IsBelow n from → (c && is_stack b (first_of from (given r (Some a)))) ≡ false
+other_stream n a b c r from far apart low = never c (elsewhere r from low)
   where
     never : (x : Bool) {y : Bool} → y ≡ false → (x && y) ≡ false
     never true e = e
     never false e = refl
 
-    elsewhere : (r : Bool) (from : Option ℕ) → IsLow from → is_stack b (first_of from (given r (Some a))) ≡ false
+    elsewhere : (r : Bool) (from : Option ℕ) → IsBelow n from → is_stack b (first_of from (given r (Some a))) ≡ false
     elsewhere true None low = eq_false b a apart
     elsewhere false None low = refl
-    elsewhere r (Some w) low = let near : w < 8 = low w refl in eq_false b w (λ e. omega (arith, e, near, far))
+    elsewhere r (Some w) low = let near : w < n = low w refl in eq_false b w (λ e. omega (arith, e, near, far))
 
 -- what comes from nowhere is new, or hangs
 from_nowhere : (c r : Bool) (from : Option ℕ) (s : ℕ) → one_if (not (c && not (is_none (first_of from (given r (Some s)))))) ≡ one_if (c && (not r && is_none from)) + one_if (not c)
@@ -89,7 +89,7 @@ module _ (o : Outlook) (dim : IsDim o.axes) where
     each_store (suc levels) cell is = Each-append P (flat_map (stores_of o levels) (walked_children o.axes o.way o.walks cell)) (corner_touches o.axes cell)
         (Each-flat_map P (stores_of o levels) (walked_children o.axes o.way o.walks cell) (each_kid (λ c. Each P (stores_of o levels c)) cell is (each_store levels))) (own_touches P h cell is)
 
-  comes_low : (cell : Place) → IsCell o.axes o.way cell → (k : ℕ) → k < 2 ^ o.axes → IsLow (stack_in o.axes o.way (corner o.axes cell k) cell)
+  comes_low : (cell : Place) → IsCell o.axes o.way cell → (k : ℕ) → k < 2 ^ o.axes → IsBelow (2 * o.axes) (stack_in o.axes o.way (corner o.axes cell k) cell)
   comes_low cell is k small s e = elim (corners_cross_once o.axes o.way cell k dim is small).comes [
     | inl none ↦ absurd (let no_stack : None ≡ Some s = sym none.no_stack ∙ e in cc)
     | inr one ↦
@@ -100,7 +100,7 @@ module _ (o : Outlook) (dim : IsDim o.axes) where
         omega arith
   ]
 
-  goes_low : (cell : Place) → IsCell o.axes o.way cell → (k : ℕ) → k < 2 ^ o.axes → IsLow (stack_out o.axes o.way (corner o.axes cell k) cell)
+  goes_low : (cell : Place) → IsCell o.axes o.way cell → (k : ℕ) → k < 2 ^ o.axes → IsBelow (2 * o.axes) (stack_out o.axes o.way (corner o.axes cell k) cell)
   goes_low cell is k small s e = elim (corners_cross_once o.axes o.way cell k dim is small).goes [
     | inl none ↦ absurd (let no_stack : None ≡ Some s = sym none.no_stack ∙ e in cc)
     | inr one ↦
@@ -111,8 +111,11 @@ module _ (o : Outlook) (dim : IsDim o.axes) where
         omega arith
   ]
 
-  far_output : (swapped : Bool) → 8 ≤ output_stack swapped
-  far_output swapped = far_input (not swapped)
+  beyond_input : (swapped : Bool) → 2 * o.axes ≤ input_stack swapped
+  beyond_input swapped = let far = far_input swapped in let four = dim.1 in omega arith
+
+  beyond_output : (swapped : Bool) → 2 * o.axes ≤ output_stack swapped
+  beyond_output swapped = beyond_input (not swapped)
 
   two_streams : (swapped : Bool) → input_stack swapped ≡ output_stack swapped → ⊥
   two_streams true e = omega (arith, e)
@@ -121,20 +124,29 @@ module _ (o : Outlook) (dim : IsDim o.axes) where
   -- the loads from the input are the reads, and none is from the output
   pub input_reads : (levels : ℕ) (cell : Place) → IsCell o.axes o.way cell → count_by (takes_from o (input_stack o.swapped)) (loads_of o levels cell) ≡ count_by (is_read o) (loads_of o levels cell)
   input_reads levels cell is = count-same (takes_from o (input_stack o.swapped)) (is_read o) (loads_of o levels cell)
-      (each_load _ (λ c i k small. own_stream (input_stack o.swapped) (o.counts (corner o.axes c k)) (o.reads (corner o.axes c k)) _ (far_input o.swapped) (comes_low c i k small)) levels cell is)
+      (each_load _ (λ c i k small. own_stream (2 * o.axes) (input_stack o.swapped) (o.counts (corner o.axes c k)) (o.reads (corner o.axes c k)) _ (beyond_input o.swapped) (comes_low c i k small)) levels cell is)
 
   pub output_unread : (levels : ℕ) (cell : Place) → IsCell o.axes o.way cell → count_by (takes_from o (output_stack o.swapped)) (loads_of o levels cell) ≡ 0
   output_unread levels cell is = count_none (takes_from o (output_stack o.swapped)) (loads_of o levels cell)
-      (each_load _ (λ c i k small. other_stream (input_stack o.swapped) (output_stack o.swapped) (o.counts (corner o.axes c k)) (o.reads (corner o.axes c k)) _ (far_output o.swapped) (λ e. two_streams o.swapped (sym e)) (comes_low c i k small)) levels cell is)
+      (each_load _ (λ c i k small. other_stream (2 * o.axes) (input_stack o.swapped) (output_stack o.swapped) (o.counts (corner o.axes c k)) (o.reads (corner o.axes c k)) _ (beyond_output o.swapped) (λ e. two_streams o.swapped (sym e)) (comes_low c i k small)) levels cell is)
 
   -- the stores to the output are the writes, and none is to the input
   pub output_writes : (levels : ℕ) (cell : Place) → IsCell o.axes o.way cell → count_by (gives_to o (output_stack o.swapped)) (stores_of o levels cell) ≡ count_by (is_written o) (stores_of o levels cell)
   output_writes levels cell is = count-same (gives_to o (output_stack o.swapped)) (is_written o) (stores_of o levels cell)
-      (each_store _ (λ c i k small. own_stream (output_stack o.swapped) (o.counts (corner o.axes c k)) (o.writes (corner o.axes c k)) _ (far_output o.swapped) (goes_low c i k small)) levels cell is)
+      (each_store _ (λ c i k small. own_stream (2 * o.axes) (output_stack o.swapped) (o.counts (corner o.axes c k)) (o.writes (corner o.axes c k)) _ (beyond_output o.swapped) (goes_low c i k small)) levels cell is)
 
   pub input_unwritten : (levels : ℕ) (cell : Place) → IsCell o.axes o.way cell → count_by (gives_to o (input_stack o.swapped)) (stores_of o levels cell) ≡ 0
   input_unwritten levels cell is = count_none (gives_to o (input_stack o.swapped)) (stores_of o levels cell)
-      (each_store _ (λ c i k small. other_stream (output_stack o.swapped) (input_stack o.swapped) (o.counts (corner o.axes c k)) (o.writes (corner o.axes c k)) _ (far_input o.swapped) (two_streams o.swapped) (goes_low c i k small)) levels cell is)
+      (each_store _ (λ c i k small. other_stream (2 * o.axes) (output_stack o.swapped) (input_stack o.swapped) (o.counts (corner o.axes c k)) (o.writes (corner o.axes c k)) _ (beyond_input o.swapped) (two_streams o.swapped) (goes_low c i k small)) levels cell is)
+
+  -- and none comes or goes by the stacks of axes that there are not
+  pub idle_loads : (levels : ℕ) (cell : Place) → IsCell o.axes o.way cell → (s : ℕ) → 2 * o.axes ≤ s → s < 8 → count_by (takes_from o s) (loads_of o levels cell) ≡ 0
+  idle_loads levels cell is s beyond below = count_none (takes_from o s) (loads_of o levels cell)
+      (each_load _ (λ c i k small. other_stream (2 * o.axes) (input_stack o.swapped) s (o.counts (corner o.axes c k)) (o.reads (corner o.axes c k)) _ beyond (λ e. let far = far_input o.swapped in omega (arith, e, below)) (comes_low c i k small)) levels cell is)
+
+  pub idle_stores : (levels : ℕ) (cell : Place) → IsCell o.axes o.way cell → (s : ℕ) → 2 * o.axes ≤ s → s < 8 → count_by (gives_to o s) (stores_of o levels cell) ≡ 0
+  idle_stores levels cell is s beyond below = count_none (gives_to o s) (stores_of o levels cell)
+      (each_store _ (λ c i k small. other_stream (2 * o.axes) (output_stack o.swapped) s (o.counts (corner o.axes c k)) (o.writes (corner o.axes c k)) _ beyond (λ e. let far = far_input (not o.swapped) in omega (arith, e, below)) (goes_low c i k small)) levels cell is)
 
 module _ (o : Outlook) where
   -- what is made is created, or hangs; what is given up is destroyed, or hangs
