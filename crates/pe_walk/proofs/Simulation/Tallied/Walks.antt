@@ -55,7 +55,7 @@ module _ {Plan : Type 0} (set : Setting Plan) (e : Outset) (walked : Place → B
   any_room push = Unit {0}
 
   pub roomy : HasRoom set e any_room
-  roomy = record { vertices = λ st w t h s. tt; cells = λ st w t h s. tt }
+  roomy = record { vertices = λ st w t h s within other. tt; cells = λ st w t h s within other. tt }
 
   abbrev kind : Place → Kind
   kind = e.foresight.kind
