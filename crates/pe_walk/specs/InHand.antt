@@ -1,5 +1,5 @@
 -- What the calls of a traversal have in hand and on stacks, as the machine of lists sees it.
-use Rattle.std.specs.Prelude.{ℕ, ℤ, ◌≤◌, List}
+use Rattle.std.specs.Prelude.{ℕ, ℤ, ◌≤◌, List, []}
 use Rattle.pe_base.specs.declared.tally.Tally.{Tally}
 use Rattle.pe_base.specs.Tree.Places.{IsCellPlace}
 use Rattle.pe_base.specs.Acts.Effects.{Rules}
@@ -11,8 +11,8 @@ use Rattle.pe_stacks.specs.declared.record.CellRec.{CellRec}
 use Rattle.pe_stacks.specs.Corners.{CornerList}
 use Rattle.pe_stacks.specs.Holdings.{Holdings}
 use Rattle.pe_mapping.specs.Held.{Held}
-use Rattle.pe_mapping.specs.Sights.{Numbers}
-use Rattle.pe_hang.specs.InHand.{setting_of, family_in_hand, vertices_on_stacks}
+use Rattle.pe_mapping.specs.Sights.{Numbers, seen_cell}
+use Rattle.pe_hang.specs.InHand.{setting_of, family_in_hand, vertices_on_stacks, cells_on_stacks}
 use Rattle.pe_hang.specs.Follows.{Failure}
 use Rattle.pe_adapt.specs.declared.stop.Halt.{Halt}
 use Rattle.pe_adapt.specs.Stops.{failure_of_halt}
@@ -34,6 +34,15 @@ machine_in_hand numbers vertices cells parents parent list tally = record {
   vertices = vertices_on_stacks numbers vertices;
   cells = cells;
   family = family_in_hand numbers parents parent list;
+  tally = tally;
+}
+
+-- between two traversals: no corners are in hand, and the parent is the root
+abbrev pub machine_between : {V C : Type 0} → Numbers V C → Holdings (Vertex V) → Holdings (CellRec C) → CellRec C → List ℤ → Tally → Machine
+machine_between numbers vertices cells root list tally = record {
+  vertices = vertices_on_stacks numbers vertices;
+  cells = cells_on_stacks numbers cells;
+  family = record { parents = []; parent = seen_cell numbers.cell root; list = list };
   tally = tally;
 }
 

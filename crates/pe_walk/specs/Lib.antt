@@ -42,3 +42,5 @@ pub mod InHand
 pub mod Gridded
 -- corners touched in their slots
 pub mod Corners
+-- a traversal of a grid in depots, and its answer
+pub mod Traversing
