@@ -48,3 +48,5 @@ pub mod Unstuck
 pub mod Traverses
 -- the tally of the walk by address is the one that is foreseen
 pub mod Tallied
+-- with how it closes
+pub mod Answers

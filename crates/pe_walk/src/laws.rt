@@ -19,9 +19,11 @@
 //! `turning_round`, `streams_are_one` and `streams_of_grids` make what is written what is read next. `traffic`,
 //! `stacks_are_short` and `cells_are_few` are the counts, and `tallies` has them in the words in which a traversal counts.
 //!
-//! Last what the values of the walk by address need: `core_keeps` and `kinds_are_found`.
+//! Last the values: `core_keeps` and `kinds_are_found` are what they need, and `stacks_are_addresses` says that a traversal on
+//! stacks is the walk by address.
 ghost use Rattle.pe_walk.specs.CoreKeeps.{CoreKeeps};
 ghost use Rattle.pe_walk.specs.Standing.{KindsAreFound};
+ghost use Rattle.pe_walk.specs.Gridded.{StacksAreAddresses};
 ghost use Rattle.pe_walk.specs.Laws.{NeighboursAgree, FacesAreOneWay, OneFaceOnEach, Composition, BeneathUntouched, StoresAsLoads, Counts, UnwalkedIsEmpty, LeafIsCorners, CellsOfTheTree, StepsCrossFaces, StepsAreCorners, CornersAreSteps, TurnsJoin, StandTogether, CornersCrossOnce, CornersOnStacks};
 ghost use Rattle.pe_walk.specs.TokenLaws.{WalkOfACell, LoadsAreDue, LoadedAround, WholeTraversal, TurningRound, TurningAround};
 ghost use Rattle.pe_walk.specs.Outlooks.{ForecastFits, StoredFits};
@@ -209,4 +211,10 @@ pub fn core_keeps<E: Effects>()
 /// At a load, the kind of a corner is found by the map as the parent's corners in hand have it: it is the one foreseen.
 pub fn kinds_are_found<E: Effects>()
     ensures found { KindsAreFound E.Plan }
+{}
+
+/// A traversal of the machine of lists adds the text of the walk by address and ends alike, with the next grid on its stacks.
+/// Each push leaves its stack short.
+pub fn stacks_are_addresses<E: Effects>()
+    ensures same { StacksAreAddresses E.Plan }
 {}
