@@ -36,3 +36,5 @@ pub mod Simulation
 -- # The walk in code
 -- a cell is counted, entered and left
 pub mod Visiting
+-- a traversal of a grid in depots
+pub mod Traversing

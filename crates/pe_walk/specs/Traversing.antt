@@ -4,7 +4,7 @@
 --     halted       the walk halts by this very cause
 --     unwritten    a part of its text was added, and the sink failed
 --     wanting      a part of its text was added; of a mapping that is sure, some stack lacked room
-use Rattle.std.specs.Prelude.{◌≡◌, ◌≢◌, ◌⊎◌, ℕ, ◌*◌, ◌^◌, ◌<◌, Bool, true, if◌then◌else◌, Result, Ok, Err}
+use Rattle.std.specs.Prelude.{◌≡◌, ◌≢◌, ◌⊎◌, ℕ, ◌+◌, ◌*◌, ◌^◌, ◌<◌, Bool, true, not, if◌then◌else◌, Result, Ok, Err}
 use Rattle.pe_base.specs.declared.tally.Tally.{Tally}
 use Rattle.pe_base.specs.Walk.Course.{Ending, done, halts, Course}
 use Rattle.pe_base.specs.Walk.Core.{Setting}
@@ -27,6 +27,12 @@ pub record HoldIt {Plan V C : Type 0} (numbers : Numbers V C) (mapping : Held Pl
   pub axes : handle.dim ≡ grid.axes
   pub finished : handle.finished ≡ grid.finished
   pub holds : HoldsGrid grid handle.swapped (machine_between numbers vertices cells handle.root mapping.list (no_tally 0))
+
+-- a handle after one more traversal: its output is now the input
+pub record IsAdvanced {C : Type 0} (old new : Handle C) : Type 0 where
+  pub dim : new.dim ≡ old.dim
+  pub finished : new.finished ≡ old.finished + 1
+  pub swapped : new.swapped ≡ not old.swapped
 
 -- a grid that may be traversed, as it is held
 pub record MayTraverse {Plan V C : Type 0} (numbers : Numbers V C) (mapping : Held Plan) (levels : ℕ) (vertices : Holdings (Vertex V)) (cells : Holdings (CellRec C)) (handle : Handle C) (grid : Grid) : Type 0 where

@@ -1,0 +1,106 @@
+-- A traversal of a grid in depots answers by the walk by address.
+use Rattle.std.proofs.Common.{◌≡◌, ◌⊎◌, ℕ, zero, suc, ◌+◌, ◌<◌, ◌≤◌, Bool, true, false, not, ◌==◌, List, [], ◌∷◌, Result, Ok, Err, refl, sym, subst, ap, ◌∙◌, map, length, get_or, arith}
+use Rattle.std.specs.Prelude.{Contains, IfOk, if◌then◌else◌}
+use Rattle.std.specs.List.{AllByRecursion}
+use Rattle.std.proofs.lemmas.Bool.{ne_eqb}
+use Rattle.pe_base.specs.declared.tally.Tally.{Tally}
+use Rattle.pe_base.specs.Walk.Course.{Ending, done, halts, stuck, Push, Course}
+use Rattle.pe_base.specs.Walk.Core.{Setting}
+use Rattle.pe_base.specs.Walk.Working.{no_tally, begun, ended as ended_of}
+use Rattle.pe_base.specs.Walk.Grids.{Grid}
+use Rattle.pe_base.specs.Walk.Walk as model
+use Rattle.pe_base.proofs.Walk.Courses.{mapped-done}
+use Rattle.pe_stacks.specs.declared.record.Vertex.{Vertex}
+use Rattle.pe_stacks.specs.declared.record.CellRec.{CellRec}
+use Rattle.pe_stacks.specs.declared.grid.Grid.{Grid as Handle}
+use Rattle.pe_stacks.specs.Holdings.{Holdings}
+use Rattle.pe_mapping.specs.Held.{Held, Told, Adds, AddsPart}
+use Rattle.pe_mapping.specs.Sights.{Numbers}
+use Rattle.pe_hang.specs.Follows.{Found, IsOverfull, HasOverfull, Failure, halted, unwritten, wanting, unheard_of, Follows, Does, FailsToTell, read_by}
+use Rattle.pe_walk.specs.Machine.{Machine}
+use Rattle.pe_walk.specs.Machine as machine
+use Rattle.pe_walk.specs.Gridded.{HoldsGrid, IsTraversalOf, HasTurned, EndAlike, IsShort, IsWalked, ports_of}
+use Rattle.pe_walk.specs.InHand.{machine_between}
+use Rattle.pe_walk.specs.Traversing.{HoldIt, IsAdvanced, LacksRoom, Traverses, Answers}
+
+-- what holds of all of a log holds of each push
+of_all : (P : Push → Type 0) (log : List Push) (push : Push) → AllByRecursion P log → Contains log push → P push
+of_all P [] push each (k, few, at) = absurd (omega (arith, few))
+of_all P (first ∷ log) push each (zero, few, at) = subst P at each.0
+of_all P (first ∷ log) push each (suc k, few, at) = of_all P log push each.1 (k, omega (arith, few), at)
+
+-- the walk by address is done where the machine is
+done_of : (swapped : Bool) (m : Machine) (ending : Ending (Grid × Tally)) → EndAlike swapped ending (done m) → (after : Grid × Tally) × (ending ≡ done after) × HasTurned swapped after m
+done_of swapped m (done after) alike = (after, refl, alike)
+done_of swapped m (halts cause) alike = absurd alike
+done_of swapped m stuck alike = absurd alike
+
+-- and it halts by the same cause
+halts_of : (swapped : Bool) (cause : _) (ending : Ending (Grid × Tally)) → EndAlike swapped ending (halts cause) → ending ≡ halts cause
+halts_of swapped cause (done after) alike = absurd alike
+halts_of swapped cause (halts other) alike = ap halts alike
+halts_of swapped cause stuck alike = absurd alike
+
+module _ {Plan V C : Type 0} (numbers : Numbers V C) (set : Setting Plan) (grid : Grid) (handle : Handle C) (before : Machine)
+    (is : IsWalked set grid handle.swapped (machine.traverse set (ports_of handle.swapped) grid.greatest before))
+    (old : Found) (mapping : Held Plan) (vertices : Holdings (Vertex V)) (cells : Holdings (CellRec C)) where
+  abbrev after_of : Handle C × Tally → Machine
+  after_of answer = machine_between numbers vertices cells answer.0.root mapping.list answer.1
+
+  abbrev course : Course Machine
+  course = machine.traverse set (ports_of handle.swapped) grid.greatest before
+
+  traverses : (axes : handle.dim ≡ grid.axes) (finished : handle.finished ≡ grid.finished) (answer : Handle C × Tally) → IsAdvanced handle answer.0
+      → Does course (done (after_of answer)) old.told mapping.told → Traverses numbers mapping vertices cells (model.traverse set grid) old.told mapping.told answer
+  traverses axes finished answer advanced does =
+      let found = done_of handle.swapped (after_of answer) (model.traverse set grid).ending (subst (EndAlike handle.swapped (model.traverse set grid).ending) does.ends is.ending) in
+      let from = mapped-done (model.walk_root (record set { traversal = grid.finished + 1 }) grid.greatest (begun (grid.finished + 1) grid)) (λ w. (ended_of w grid, w.tally)) found.0 found.1 in
+      record {
+        next = found.0.0;
+        does = record { ends = found.1 ∙ ap (λ t. done (found.0.0, t)) (sym found.2.tally); told = subst (λ text. Adds old.told text mapping.told) is.text does.told };
+        formed = found.2.formed;
+        holds = record {
+          axes = advanced.dim ∙ axes ∙ ap (λ a. a.0.axes) (sym from.2);
+          finished = advanced.finished ∙ ap (λ n. n + 1) finished ∙ ap (λ a. a.0.finished) (sym from.2);
+          holds = held found.0.0 (subst (λ b. HoldsGrid found.0.0 b (after_of answer)) (sym advanced.swapped) found.2.holds);
+        };
+      }
+    where
+      held : (next : Grid) → HoldsGrid next answer.0.swapped (after_of answer) → HoldsGrid next answer.0.swapped (machine_between numbers vertices cells answer.0.root mapping.list (no_tally 0))
+      held next h = record {
+        stacks = h.stacks;
+        cell_stacks = h.cell_stacks;
+        vertices = h.vertices;
+        cells = h.cells;
+        none_out = h.none_out;
+        no_cell_out = h.no_cell_out;
+        root = h.root;
+        list = h.list;
+      }
+
+  -- a push that had no room
+  lacks : HasOverfull old course.log → LacksRoom set grid handle.swapped old
+  lacks (push, among, over) =
+      let short = of_all (IsShort set grid handle.swapped) course.log push is.log among in
+      record {
+        of_cell = push.of_cell;
+        stack = push.stack;
+        there = short.there;
+        apart = short.apart;
+        within = omega (arith, over, short.within);
+        few = omega (arith, over, short.few);
+      }
+
+  failed : (failure : Failure) → Follows course after_of (Err failure) old mapping.told → Answers numbers set grid handle.swapped (model.traverse set grid) (Err failure) old mapping vertices cells
+  failed (halted cause) does = record {
+    ends = halts_of handle.swapped cause (model.traverse set grid).ending (subst (EndAlike handle.swapped (model.traverse set grid).ending) does.ends is.ending);
+    told = subst (λ text. Adds old.told text mapping.told) is.text does.told;
+  }
+  failed unwritten fails = record { failed = fails.failed; told = subst (λ text. AddsPart old.told text mapping.told) is.text fails.told }
+  failed wanting wants = record { told = subst (λ text. AddsPart old.told text mapping.told) is.text wants.told; room = λ sure. lacks (wants.room sure) }
+  failed unheard_of none = none
+
+  pub answers : {E : Type 0} (axes : handle.dim ≡ grid.axes) (finished : handle.finished ≡ grid.finished) (means : E → Failure) (result : Result (Handle C × Tally) E) → IfOk result (λ answer. IsAdvanced handle answer.0)
+      → Follows course after_of (read_by means result) old mapping.told → Answers numbers set grid handle.swapped (model.traverse set grid) (read_by means result) old mapping vertices cells
+  answers axes finished means (Ok answer) advanced follows = traverses axes finished answer advanced follows
+  answers axes finished means (Err e) advanced follows = failed (means e) follows
