@@ -1,9 +1,11 @@
 -- A traversal of a grid in depots answers by the walk by address.
-use Rattle.std.proofs.Common.{◌≡◌, ◌⊎◌, ℕ, zero, suc, ◌+◌, ◌<◌, ◌≤◌, Bool, true, false, not, ◌==◌, List, [], ◌∷◌, Result, Ok, Err, refl, sym, subst, ap, ◌∙◌, map, length, get_or, arith}
+use Rattle.std.proofs.Common.{◌≡◌, ◌⊎◌, ℕ, zero, suc, ◌+◌, ◌^◌, ◌<◌, ◌≤◌, Bool, true, false, not, ◌==◌, List, [], ◌∷◌, Result, Ok, Err, refl, sym, subst, ap, ◌∙◌, map, length, get_or, arith}
 use Rattle.std.specs.Prelude.{Contains, IfOk, if◌then◌else◌}
 use Rattle.std.specs.List.{AllByRecursion}
 use Rattle.std.proofs.lemmas.Bool.{ne_eqb}
 use Rattle.pe_base.specs.declared.tally.Tally.{Tally}
+use Rattle.pe_base.specs.Acts.Effects.{Rules, AreLawful}
+use Rattle.pe_base.specs.Acts.Settings.{AreLevels, IsCellLimit}
 use Rattle.pe_base.specs.Walk.Course.{Ending, done, halts, stuck, Push, Course}
 use Rattle.pe_base.specs.Walk.Core.{Setting}
 use Rattle.pe_base.specs.Walk.Working.{no_tally, begun, ended as ended_of}
@@ -13,15 +15,71 @@ use Rattle.pe_base.proofs.Walk.Courses.{mapped-done}
 use Rattle.pe_stacks.specs.declared.record.Vertex.{Vertex}
 use Rattle.pe_stacks.specs.declared.record.CellRec.{CellRec}
 use Rattle.pe_stacks.specs.declared.grid.Grid.{Grid as Handle}
-use Rattle.pe_stacks.specs.Holdings.{Holdings}
-use Rattle.pe_mapping.specs.Held.{Held, Told, Adds, AddsPart}
-use Rattle.pe_mapping.specs.Sights.{Numbers}
-use Rattle.pe_hang.specs.Follows.{Found, IsOverfull, HasOverfull, Failure, halted, unwritten, wanting, unheard_of, Follows, Does, FailsToTell, read_by}
+use Rattle.pe_stacks.specs.Holdings.{Holdings, CountsWithin}
+use Rattle.pe_mapping.specs.Held.{Held, Told, Adds, AddsPart, max_level}
+use Rattle.pe_mapping.specs.Sights.{Numbers, seen_vertex, seen_cell}
+use Rattle.pe_hang.specs.InHand.{setting_of, map_holdings}
+use Rattle.pe_hang.specs.Follows.{is_fit, Fits, Found, IsOverfull, HasOverfull, Failure, halted, unwritten, wanting, unheard_of, Follows, Does, FailsToTell, read_by}
+use Rattle.pe_hang.proofs.OnStacks.{stack_at-map}
 use Rattle.pe_walk.specs.Machine.{Machine}
 use Rattle.pe_walk.specs.Machine as machine
-use Rattle.pe_walk.specs.Gridded.{HoldsGrid, IsTraversalOf, HasTurned, EndAlike, IsShort, IsWalked, ports_of}
+use Rattle.pe_walk.specs.Gridded.{HoldsGrid, MayTurn, HasTurned, EndAlike, IsShort, IsWalked, ports_of}
 use Rattle.pe_walk.specs.InHand.{machine_between}
-use Rattle.pe_walk.specs.Traversing.{HoldIt, IsAdvanced, LacksRoom, Traverses, Answers}
+use Rattle.pe_walk.specs.Traversing.{HoldIt, MayTraverse, IsAdvanced, LacksRoom, Traverses, Answers}
+
+-- counts of stacks are those of what is seen of them
+counts_seen : {X Y : Type 0} (f : X → Y) (held : Holdings X) (n : ℕ) → CountsWithin held n → CountsWithin (map_holdings f held) n
+counts_seen f held n counts = record {
+  fresh = counts.fresh;
+  spent = counts.spent;
+  out = counts.out;
+  most = counts.most;
+  pushes = λ s. subst (λ stack. stack.pushes ≤ n) (sym (stack_at-map f held s)) (counts.pushes s);
+  pops = λ s. subst (λ stack. stack.pops ≤ n) (sym (stack_at-map f held s)) (counts.pops s);
+}
+
+-- a traversal of a grid that depots hold may begin
+pub may_turn : {Plan V C : Type 0} (numbers : Numbers V C) (rules : Rules Plan) (mapping : Held Plan) (start_level max_cells levels : ℕ) (vertices : Holdings (Vertex V)) (cells : Holdings (CellRec C)) (handle : Handle C) (grid : Grid)
+    → AreLawful rules → mapping.dim ≡ handle.dim → max_level rules mapping ≡ levels → AreLevels levels start_level → IsCellLimit max_cells → CountsWithin vertices (2 ^ 60) → CountsWithin cells (2 ^ 60)
+    → MayTraverse numbers mapping levels vertices cells handle grid
+    → MayTurn (setting_of rules mapping start_level max_cells (handle.finished + 1)) grid handle.swapped (machine_between numbers vertices cells handle.root mapping.list (no_tally (handle.finished + 1)))
+may_turn numbers rules mapping start_level max_cells levels vertices cells handle grid lawful dim same bounds limit counts cell_counts may = record {
+  fits = record {
+    lawful = lawful;
+    axes = dim ∙ may.holds.axes;
+    greatest = same ∙ sym may.greatest;
+    start_level = subst (λ n. start_level ≤ n) (sym may.greatest) bounds.within;
+    traversal = ap (λ n. n + 1) may.holds.finished;
+    max_cells = limit.few;
+  };
+  formed = may.formed;
+  holds = let h = may.holds.holds in record {
+    stacks = h.stacks;
+    cell_stacks = h.cell_stacks;
+    vertices = h.vertices;
+    cells = h.cells;
+    none_out = h.none_out;
+    no_cell_out = h.no_cell_out;
+    root = h.root;
+    list = h.list;
+  };
+  counts = counts_seen (seen_vertex numbers.vertex) vertices (2 ^ 60) counts;
+  cell_counts = counts_seen (seen_cell numbers.cell) cells (2 ^ 60) cell_counts;
+  tally = refl;
+}
+
+-- the walk on stacks is never stuck
+pub fits_of : {Plan : Type 0} (set : Setting Plan) (grid : Grid) (swapped : Bool) (course : Course Machine) → IsWalked set grid swapped course → Fits course
+fits_of set grid swapped course is = by (model.traverse set grid).ending course.ending is.ending
+  where
+    by : (a : Ending (Grid × Tally)) (b : Ending Machine) → EndAlike swapped a b → is_fit b ≡ true
+    by (done after) (done m) alike = refl
+    by (done after) (halts cause) alike = absurd alike
+    by (done after) stuck alike = absurd alike
+    by (halts cause) (done m) alike = absurd alike
+    by (halts cause) (halts other) alike = refl
+    by (halts cause) stuck alike = absurd alike
+    by stuck other alike = absurd alike
 
 -- what holds of all of a log holds of each push
 of_all : (P : Push → Type 0) (log : List Push) (push : Push) → AllByRecursion P log → Contains log push → P push
