@@ -40,6 +40,8 @@ pub mod Streams
 pub mod InHand
 -- a grid on stacks, and a traversal of it
 pub mod Gridded
+-- what a traversal on stacks counts and moves
+pub mod TurnTraffic
 -- corners touched in their slots
 pub mod Corners
 -- a traversal of a grid in depots, and its answer

@@ -20,7 +20,7 @@
 //! `stacks_are_short` and `cells_are_few` are the counts, and `tallies` has them in the words in which a traversal counts.
 //!
 //! Last the values: `core_keeps` and `kinds_are_found` are what they need, and `stacks_are_addresses` says that a traversal on
-//! stacks is the walk by address.
+//! stacks is the walk by address; `turns_are_exact` says what it counts and moves.
 ghost use Rattle.pe_walk.specs.CoreKeeps.{CoreKeeps};
 ghost use Rattle.pe_walk.specs.Standing.{KindsAreFound};
 ghost use Rattle.pe_walk.specs.Gridded.{StacksAreAddresses};
@@ -32,6 +32,7 @@ ghost use Rattle.pe_walk.specs.Traffic.{TrafficOfACell, TrafficOfATraversal, Loa
 ghost use Rattle.pe_walk.specs.Apart.{StepsKeepApart, BeginsApart, CornersByCounting};
 ghost use Rattle.pe_walk.specs.FewCells.{FewCells, FewCellsOfTraversals, FewCellsOfGrids};
 ghost use Rattle.pe_walk.specs.Tallies.{TallyOfACell, TrafficByTally, KindsForeseen, TrafficOfGrids};
+ghost use Rattle.pe_walk.specs.TurnTraffic.{TallyIsForeseen, TurnsAreExact};
 ghost use Rattle.pe_walk.specs.Frames.{WhatStepsChange, WhatWalksLeave};
 ghost use Rattle.pe_walk.specs.CellsAhead.{WalkedCellsDiffer, StepsKeepAhead, BeginsAhead, MovesItsCells};
 
@@ -217,4 +218,10 @@ pub fn kinds_are_found<E: Effects>()
 /// Each push leaves its stack short.
 pub fn stacks_are_addresses<E: Effects>()
     ensures same { StacksAreAddresses E.Plan }
+{}
+
+/// A traversal counts what is foreseen of it, by address and on stacks, and moves just what it counts.
+pub fn turns_are_exact<E: Effects>()
+    ensures tally { TallyIsForeseen E.Plan }
+    ensures exact { TurnsAreExact E.Plan }
 {}

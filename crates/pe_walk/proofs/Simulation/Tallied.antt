@@ -4,3 +4,5 @@
 pub mod Steps
 -- the walk of a cell
 pub mod Walks
+-- a traversal
+pub mod Traversals

@@ -124,7 +124,7 @@ module _ {Plan : Type 0} (set : Setting Plan) (grid : Grid) (swapped : Bool) (m 
   close x = machine.give_up_all set (ports_of swapped) x.family.parents (with_parents [] x)
 
   -- a traversal of the machine, with its steps grouped
-  machine_is : machine.traverse set (ports_of swapped) grid.greatest m
+  pub machine_is : machine.traverse set (ports_of swapped) grid.greatest m
       ≡ and_then (and_then (machine.plain set (ports_of swapped) BeginIteration (image_of set (outset_of set grid swapped m) root (cornered set grid swapped m may) (start set grid swapped m may)))
           (λ x. and_then (each (machine.walk_cell set (ports_of swapped) (suc (grid.greatest - 1))) (children set.axes (way set) root) x) (machine.plain set (ports_of swapped) EndIteration)))
       (λ x. machine.give_up_all set (ports_of swapped) x.family.parents (with_parents [] x))
@@ -159,7 +159,7 @@ module _ {Plan : Type 0} (set : Setting Plan) (grid : Grid) (swapped : Bool) (m 
       few_corners (suc (suc (suc (suc (suc n))))) h = absurd (omega arith)
 
   -- and the walk by address
-  model_is : model.traverse set grid
+  pub model_is : model.traverse set grid
       ≡ course_map (λ w. (ended_of w grid, w.tally)) (and_then (model.plain set BeginIteration (cornered set grid swapped m may))
           (λ w. and_then (each (model.walk_cell set (grid.greatest - 1) root) (children set.axes (way set) root) w) (model.plain set EndIteration)))
   model_is =

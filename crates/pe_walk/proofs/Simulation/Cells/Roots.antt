@@ -29,7 +29,7 @@ use Rattle.pe_walk.proofs.Simulation.Cells.Walks.{walk_sim}
 
 module _ {Plan : Type 0} (set : Setting Plan) (e : Outset) (walked : Place → Bool) (room : Push → Type 0) (is : IsOutset set e walked) where
   -- the root's children are walked
-  root_goes : e.outlook.walks root ≡ true
+  pub root_goes : e.outlook.walks root ≡ true
   root_goes = is.foresees.walks root ∙ ap (λ kind. not (is_hanging kind)) (is.foresees.root_below root refl) ∙ go (set.traversal == 1)
     where
       go : (b : Bool) → not (is_hanging (if b then Born else Kept)) ≡ true
@@ -37,7 +37,7 @@ module _ {Plan : Type 0} (set : Setting Plan) (e : Outset) (walked : Place → B
       go false = refl
 
   -- the root with its corners in hand
-  abbrev rooted : Stage
+  abbrev pub rooted : Stage
   rooted = record { out = 0; parent = root; cell = root; from = 0; owed = 0; unstored = 0; counted = 0; entered = root ∷ []; ahead = [] }
 
   -- the children of the root

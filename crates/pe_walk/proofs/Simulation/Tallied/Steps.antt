@@ -1,6 +1,6 @@
 -- What each step of the walk by address counts: by the kinds that are foreseen.
-use Rattle.std.proofs.Common.{◌≡◌, inl, ℕ, suc, ◌+◌, ◌^◌, ◌<◌, ◌≤◌, Bool, true, false, not, ◌&&◌, ◌==◌, List, Option, Some, None, refl, sym, ap, ap₂, ◌∙◌, subst, arith}
-use Rattle.std.specs.Prelude.{is_none, nat_lt, nat_le}
+use Rattle.std.proofs.Common.{◌≡◌, inl, ℕ, ◌^◌, ◌<◌, Bool, true, false, Option, Some, refl, sym, ap, ap₂, ◌∙◌, arith}
+use Rattle.std.specs.Prelude.{is_none, nat_lt}
 use Rattle.std.specs.Option.{unwrap_or, option_and_then}
 use Rattle.pe_base.specs.declared.place.Place.{Place}
 use Rattle.pe_base.specs.declared.kind.Kind.{Kind}
@@ -9,25 +9,24 @@ use Rattle.pe_base.specs.declared.event.Event.{Event}
 use Rattle.pe_base.specs.declared.tally.Tally.{Tally}
 use Rattle.pe_base.specs.Tree.Places.{corner}
 use Rattle.pe_base.specs.Steps.Routes.{stack_in, stack_out}
-use Rattle.pe_base.specs.Life.Kinds.{is_hanging}
 use Rattle.pe_base.specs.Acts.Effects.{VertexRecord}
 use Rattle.pe_base.specs.Walk.Maps.{at}
-use Rattle.pe_base.specs.Walk.Course.{Push, Course, done, and_then}
-use Rattle.pe_base.specs.Walk.Core.{Setting, Family, Own, way, plain_event, enter_touch, leave_touch}
-use Rattle.pe_base.specs.Walk.Working.{Working, no_vertex, cell_at, records_of, family_of, own_of, record_at, put_records, put_family, put_own, put_cell}
+use Rattle.pe_base.specs.Walk.Course.{Course, done, and_then}
+use Rattle.pe_base.specs.Walk.Core.{Setting, Family, Own, plain_event, enter_touch, leave_touch}
+use Rattle.pe_base.specs.Walk.Working.{Working, no_vertex, cell_at, records_of, family_of, own_of, record_at, put_family, put_own, put_cell}
 use Rattle.pe_base.specs.Walk.Touches.{tally_load, tally_store, tally_cell, within_limit, put_loaded, put_stored, after_cell, put_left}
 use Rattle.pe_base.specs.Walk.Touches as model
 use Rattle.pe_base.specs.Walk.Walk as walks
 use Rattle.pe_base.proofs.Walk.Courses.{done_same, mapped-done, then-done}
 use Rattle.pe_base.proofs.Walk.Families.{beside-put_records}
-use Rattle.pe_walk.specs.Tokens.{Outlook, Tokens, touch_of, load, store}
+use Rattle.pe_walk.specs.Tokens.{Tokens, touch_of, load, store}
 use Rattle.pe_walk.specs.Standing.{Outset, Stage, Holds, IsOutset, IsStage, IsFair}
 use Rattle.pe_walk.specs.Tallies.{counted_load, counted_store}
-use Rattle.pe_walk.proofs.Simulation.Matching.{Sim, both_some}
+use Rattle.pe_walk.proofs.Simulation.Matching.{both_some}
 use Rattle.pe_walk.proofs.Simulation.LoadedKinds.{found_stored, hangs_if}
 use Rattle.pe_walk.proofs.Simulation.Loads.Places.{loads_place}
 use Rattle.pe_walk.proofs.Simulation.Loads.Cores.{vertex_of, source_of, core_of, working_after, model_is}
-use Rattle.pe_walk.proofs.Simulation.Stores.InHand.{stored_by, counting_free}
+use Rattle.pe_walk.proofs.Simulation.Stores.InHand.{counting_free}
 use Rattle.pe_walk.proofs.Simulation.Stores.Stored as stores
 
 -- a step counts so, where it is done

@@ -1,5 +1,5 @@
 -- What the walk of a cell by address counts, with all below it.
-use Rattle.std.proofs.Common.{◌≡◌, ℕ, zero, suc, ◌+◌, ◌-◌, ◌^◌, ◌<◌, ◌≤◌, Bool, true, false, not, List, [], ◌∷◌, ◌++◌, map, reverse, Option, Some, refl, sym, ap, ap₂, subst, ◌∙◌, append_assoc, arith}
+use Rattle.std.proofs.Common.{◌≡◌, ℕ, zero, suc, ◌+◌, ◌^◌, ◌≤◌, Bool, true, false, not, List, [], ◌∷◌, ◌++◌, map, reverse, Option, Some, refl, sym, ap, ap₂, subst, ◌∙◌, append_assoc, arith}
 use Rattle.std.specs.Prelude.{if◌then◌else◌}
 use Rattle.std.specs.Option.{option_and_then}
 use Rattle.std.specs.List.{range_with_len, flat_map}
@@ -8,9 +8,8 @@ use Rattle.pe_base.specs.declared.kind.Kind.{Kind}
 use Rattle.pe_base.specs.declared.kind.Kind.TheVariants.{Kept, Born, Dying, Hanging}
 use Rattle.pe_base.specs.declared.tally.Tally.{Tally}
 use Rattle.pe_base.specs.Tree.Curve.{children}
-use Rattle.pe_base.specs.Tree.Places.{corner}
 use Rattle.pe_base.specs.Life.Kinds.{is_hanging}
-use Rattle.pe_base.specs.Steps.Faces.{Touch, corner_touches}
+use Rattle.pe_base.specs.Steps.Faces.{corner_touches}
 use Rattle.pe_base.specs.Walk.Course.{Push, Course, done, at_once, and_then, each}
 use Rattle.pe_base.specs.Walk.Core.{Setting, way}
 use Rattle.pe_base.specs.Walk.Working.{Working}
@@ -25,9 +24,7 @@ use Rattle.pe_walk.specs.Tokens.{Outlook, Tokens, given, each_some, touch_of}
 use Rattle.pe_walk.specs.Tokens as tokens
 use Rattle.pe_walk.specs.Standing.{Outset, Stage, IsStage, Holds, HasRoom, IsOutset}
 use Rattle.pe_walk.specs.Tallies.{each_counted, counted_load, counted_store, counted_around, counted_walk}
-use Rattle.pe_walk.proofs.Tokens.Keeping.{given_some}
-use Rattle.pe_walk.proofs.Simulation.Matching.{some_same}
-use Rattle.pe_walk.proofs.Simulation.Leaves.{after_count, after_load, after_enter, after_leave, after_store}
+use Rattle.pe_walk.proofs.Simulation.Leaves.{after_count, after_load, after_leave, after_store}
 use Rattle.pe_walk.proofs.Simulation.Counts.{count_leaf}
 use Rattle.pe_walk.proofs.Simulation.Loads.Leaf.{load_leaf}
 use Rattle.pe_walk.proofs.Simulation.Stores.Leaf.{store_leaf}
@@ -36,7 +33,7 @@ use Rattle.pe_walk.proofs.Simulation.Visits.Leaving.{leave_leaf}
 use Rattle.pe_walk.proofs.Simulation.Cells.Corners.{down_from, reverse-range, stage_of}
 use Rattle.pe_walk.proofs.Simulation.Cells.Inside.{at_child, with_ahead, IsOpen, down-holds, next-holds}
 use Rattle.pe_walk.proofs.Simulation.Cells.Children.{kids, kids_stages, between, children_along, cells_of, model_found, below_none, below_some}
-use Rattle.pe_walk.proofs.Simulation.Cells.Walks.{all_loaded, opened, few, is_open, all_loads_sim}
+use Rattle.pe_walk.proofs.Simulation.Cells.Walks.{all_loaded, opened, is_open, all_loads_sim}
 use Rattle.pe_walk.proofs.Simulation.Cells.Simulated.{cell_simulated}
 use Rattle.pe_walk.proofs.Simulation.Tallied.Steps.{Counted, Leads, counted-then, count_counted, enter_counted, leave_counted, load_counted, store_counted}
 

@@ -1,0 +1,232 @@
+-- What a traversal counts and moves.
+use Rattle.std.proofs.Common.{◌≡◌, ℕ, zero, suc, ◌+◌, ◌-◌, ◌*◌, ◌^◌, ◌≤◌, Bool, true, false, List, [], ◌∷◌, length, Some, refl, sym, ap, ap₂, subst, ◌∙◌, append-nil, arith}
+use Rattle.std.specs.Prelude.{nat_lt}
+use Rattle.std.specs.List.{flat_map, range_with_len}
+use Rattle.std.proofs.lemmas.List.{length-map}
+use Rattle.pe_base.specs.declared.place.Place.{Place}
+use Rattle.pe_base.specs.declared.event.Event.TheVariants.{BeginIteration, EndIteration}
+use Rattle.pe_base.specs.declared.tally.Tally.{Tally}
+use Rattle.pe_base.specs.Tree.Places.{root}
+use Rattle.pe_base.specs.Tree.Curve.{children}
+use Rattle.pe_base.specs.Acts.Effects.{VertexRecord}
+use Rattle.pe_base.specs.Walk.Course.{Ending, done, halts, stuck, Course, at_once, and_then, each}
+use Rattle.pe_base.specs.Walk.Core.{Setting, way}
+use Rattle.pe_base.specs.Walk.Grids.{Grid}
+use Rattle.pe_base.specs.Walk.Foreseen.{walked}
+use Rattle.pe_base.specs.Walk.Working.{Working, cell_at, record_at, no_tally, begun as begun_of, ended as ended_of}
+use Rattle.pe_base.specs.Walk.Walk as walks
+use Rattle.pe_base.specs.Walk.Streams.{walked_cells}
+use Rattle.pe_base.proofs.Walk.Courses.{mapped-done, then-done, done_same}
+use Rattle.pe_stacks.specs.Holdings.{Holdings, stack_at, given_up}
+use Rattle.pe_stacks.specs.Grid.{input_stack, output_stack, cell_input_stack, cell_output_stack}
+use Rattle.pe_hang.specs.InHand.{map_holdings}
+use Rattle.pe_hang.specs.Moves.{allowed}
+use Rattle.pe_hang.proofs.OnStacks.{stack_at-map}
+use Rattle.pe_walk.specs.Machine.{Machine, Ports, with_parents}
+use Rattle.pe_walk.specs.Machine as machine
+use Rattle.pe_walk.specs.Tokens.{Outlook, Tokens, ended, numbers, each_some, given_up_for}
+use Rattle.pe_walk.specs.Tokens as tokens
+use Rattle.pe_walk.specs.Outlooks.{outlook}
+use Rattle.pe_walk.specs.Standing.{Outset, IsOutset, Holds}
+use Rattle.pe_walk.specs.Tallies.{each_counted, counted_walk, foreseen_tally, ExactTraffic}
+use Rattle.pe_walk.specs.Gridded.{MayTurn, ports_of}
+use Rattle.pe_walk.specs.FewCells.{most_cells}
+use Rattle.pe_walk.specs.TurnTraffic.{TallyIsForeseen, TurnsAreExact}
+use Rattle.pe_walk.proofs.Trees.{root_is_cell}
+use Rattle.pe_walk.proofs.GridCells.{traffic_of_grids}
+use Rattle.pe_walk.proofs.Tokens.Apart.{map_some}
+use Rattle.pe_walk.proofs.Tokens.Traversals.{whole_traversal}
+use Rattle.pe_walk.proofs.Simulation.Matching.{ending_map}
+use Rattle.pe_walk.proofs.Simulation.Leaves.{image_of, record_of, at_root}
+use Rattle.pe_walk.proofs.Simulation.Counts.{plain_leaf}
+use Rattle.pe_walk.proofs.Simulation.RootCorners.{has_corners}
+use Rattle.pe_walk.proofs.Simulation.Starts.{tokens_of, outset_of, dim_of, grown_of, may_traverse, image_vertices, image_cells, cornered, start, is_outset, starts}
+use Rattle.pe_walk.proofs.Simulation.Traverses.{machine_is, model_is}
+use Rattle.pe_walk.proofs.Simulation.Cells.Children.{kids, kids_stages, between}
+use Rattle.pe_walk.proofs.Simulation.Cells.Roots.{rooted, root_goes}
+use Rattle.pe_walk.proofs.Simulation.Cells.Simulated.{cell_simulated, traversal_simulated}
+use Rattle.pe_walk.proofs.Simulation.Tallied.Steps.{plain_counted}
+use Rattle.pe_walk.proofs.Simulation.Tallied.Walks.{any_room, roomy, walk_counted, children_counted}
+
+-- what is given up one after another
+abbrev given_times : {X : Type 0} → ℕ → Holdings X → Holdings X
+given_times zero held = held
+given_times (suc n) held = given_times n (given_up held)
+
+given-image : {X Y : Type 0} (f : X → Y) (n : ℕ) (held : Holdings X) → map_holdings f (given_times n held) ≡ given_times n (map_holdings f held)
+given-image f zero held = refl
+given-image f (suc n) held = given-image f n (given_up held)
+
+given-all : (ks : List ℕ) (held : Holdings Place) → given_up_for ks held ≡ given_times (length ks) held
+given-all [] held = refl
+given-all (k ∷ ks) held = given-all ks (given_up held)
+
+-- the machine gives up records, and changes nothing else
+record GaveUp (n : ℕ) (m after : Machine) : Type 0 where
+  vertices : after.vertices ≡ given_times n m.vertices
+  cells : after.cells ≡ m.cells
+  tally : after.tally ≡ m.tally
+
+gave_up : {Plan : Type 0} (set : Setting Plan) (ports : Ports) (its : List VertexRecord) (m after : Machine) → (machine.give_up_all set ports its m).ending ≡ done after → GaveUp (length its) m after
+gave_up set ports [] m after e = let same = done_same m after e in record { vertices = ap (λ (x : Machine). x.vertices) (sym same); cells = ap (λ (x : Machine). x.cells) (sym same); tally = ap (λ (x : Machine). x.tally) (sym same) }
+gave_up set ports (it ∷ its) m after e =
+    let first = then-done (allowed (nat_lt 0 m.vertices.out) (at_once (given_up m.vertices))) (λ vertices. machine.give_up_all set ports its (record m { vertices = vertices })) after e in
+    let same : first.0 ≡ given_up m.vertices = let by = go (nat_lt 0 m.vertices.out) first.0 first.1 in by in
+    let more = gave_up set ports its (record m { vertices = first.0 }) after first.2 in
+    record { vertices = more.vertices ∙ ap (given_times (length its)) same; cells = more.cells; tally = more.tally }
+  where
+    go : (b : Bool) (held : Holdings VertexRecord) → (allowed b (at_once (given_up m.vertices))).ending ≡ done held → held ≡ given_up m.vertices
+    go true held h = sym (done_same (given_up m.vertices) held h)
+    go false held h = absurd cc
+
+-- an image that is done is of something done
+from_image : {W M : Type 0} (f : W → M) (e : Ending W) (x : M) → done x ≡ ending_map f e → (w : W) × (e ≡ done w) × (x ≡ f w)
+from_image f (done w) x h = (w, refl, done_same x (f w) h)
+from_image f (halts cause) x h = absurd cc
+from_image f stuck x h = absurd cc
+
+-- the counts of a depot do not depend on what it holds
+exact-mapped : {X Y V W : Type 0} (o : Outlook) (greatest : ℕ) (f f' : X → V) (g g' : Y → W) (vertices vertices' : Holdings X) (cells cells' : Holdings Y) (tally : Tally)
+    → ExactTraffic o greatest vertices vertices' cells cells' tally → ExactTraffic o greatest (map_holdings f vertices) (map_holdings f' vertices') (map_holdings g cells) (map_holdings g' cells') tally
+exact-mapped {X} {Y} {V} {W} o greatest f f' g g' vertices vertices' cells cells' tally exact = record {
+  read = added _ (pops f' vertices' (input_stack o.swapped)) exact.read (pops f vertices (input_stack o.swapped));
+  written = added _ (pushes f' vertices' (output_stack o.swapped)) exact.written (pushes f vertices (output_stack o.swapped));
+  input_kept = pushes f' vertices' _ ∙ exact.input_kept ∙ sym (pushes f vertices _);
+  output_kept = pops f' vertices' _ ∙ exact.output_kept ∙ sym (pops f vertices _);
+  fresh = exact.fresh;
+  spent = exact.spent;
+  popped = λ axis parity a b. added _ (pops f' vertices' (2 * axis + parity)) (exact.popped axis parity a b) (pops f vertices (2 * axis + parity));
+  pushed = λ axis parity a b. added _ (pushes f' vertices' (2 * axis + parity)) (exact.pushed axis parity a b) (pushes f vertices (2 * axis + parity));
+  idle = λ s beyond below. let still = exact.idle s beyond below in (pops f' vertices' s ∙ still.0 ∙ sym (pops f vertices s), pushes f' vertices' s ∙ still.1 ∙ sym (pushes f vertices s));
+  out = exact.out;
+  most = exact.most;
+  counting = exact.counting;
+  counting_after = exact.counting_after;
+  hanging = exact.hanging;
+  cell_count = exact.cell_count;
+  cells_read = added _ (pops g' cells' (cell_input_stack o.swapped)) exact.cells_read (pops g cells (cell_input_stack o.swapped));
+  cell_input_kept = pushes g' cells' _ ∙ exact.cell_input_kept ∙ sym (pushes g cells _);
+  cell_output_kept = pops g' cells' _ ∙ exact.cell_output_kept ∙ sym (pops g cells _);
+  cells_made = exact.cells_made;
+  cells_written = added _ (pushes g' cells' (cell_output_stack o.swapped)) exact.cells_written (pushes g cells (cell_output_stack o.swapped));
+  cells_gone = exact.cells_gone;
+  cells_out = exact.cells_out;
+  cells_most = exact.cells_most;
+}
+  where
+    added : {a b c d : ℕ} (n : ℕ) → a ≡ b → b ≡ c + n → d ≡ c → a ≡ d + n
+    added n e f g = omega (arith, e, f, g)
+
+    pops : {A B : Type 0} (h : A → B) (held : Holdings A) (s : ℕ) → (stack_at (map_holdings h held) s).pops ≡ (stack_at held s).pops
+    pops h held s = ap (λ stack. stack.pops) (stack_at-map h held s)
+
+    pushes : {A B : Type 0} (h : A → B) (held : Holdings A) (s : ℕ) → (stack_at (map_holdings h held) s).pushes ≡ (stack_at held s).pushes
+    pushes h held s = ap (λ stack. stack.pushes) (stack_at-map h held s)
+
+module _ {Plan : Type 0} (set : Setting Plan) (grid : Grid) (swapped : Bool) (m : Machine) (may : MayTurn set grid swapped m) where
+  abbrev e : Outset
+  e = outset_of set grid swapped m
+
+  abbrev o : Outlook
+  o = outlook set.start_level grid swapped
+
+  is : IsOutset set (outset_of set grid swapped m) (walked set.start_level grid)
+  is = is_outset set grid swapped m may
+
+  -- the steps of the walk by address between making the root's corners and dropping them
+  abbrev middle : Working → Course Working
+  middle w = and_then (walks.plain set BeginIteration w) (λ w. and_then (each (walks.walk_cell set (grid.greatest - 1) root) (children set.axes (way set) root) w) (walks.plain set EndIteration))
+
+  -- the children of the root count so
+  root_counted : (w : Working) (t t' : Tokens) → Holds set (outset_of set grid swapped m) (at_root set (outset_of set grid swapped m) (any_room set (outset_of set grid swapped m) (walked set.start_level grid) is)
+      (flat_map (walked_cells grid.axes (outlook set.start_level grid swapped).way (outlook set.start_level grid swapped).walks (grid.greatest - 1)) (children grid.axes (outlook set.start_level grid swapped).way root))) w t
+      → each_some (tokens.walk (outlook set.start_level grid swapped) (grid.greatest - 1)) (children grid.axes (outlook set.start_level grid swapped).way root) t ≡ Some t'
+      → (v : Working) → (each (walks.walk_cell set (grid.greatest - 1) root) (children set.axes (way set) root) w).ending ≡ done v
+      → v.tally ≡ each_counted (counted_walk (outlook set.start_level grid swapped) (outset_of set grid swapped m).foresight.kind (grid.greatest - 1)) (children grid.axes (outlook set.start_level grid swapped).way root) w.tally
+  root_counted w t t' h k v q =
+      let levels = grid.greatest - 1 in
+      let room = any_room set e (walked set.start_level grid) is in
+      let sim = cell_simulated set e (walked set.start_level grid) room is (roomy set e (walked set.start_level grid) is) levels in
+      let here = kids set e (walked set.start_level grid) room is root in
+      let stages = kids_stages set e (walked set.start_level grid) room is (rooted set e (walked set.start_level grid) room is) (root_is_cell set.axes o.way) (root_goes set e (walked set.start_level grid) room is) in
+      let same : children grid.axes o.way root ≡ kids set e (walked set.start_level grid) room is root = ap (λ axes. children axes o.way root) is.foresees.axes in
+      let stage : at_root set e room (flat_map (walked_cells grid.axes o.way o.walks levels) (children grid.axes o.way root)) ≡ between set e (walked set.start_level grid) room is levels sim (rooted set e (walked set.start_level grid) room is) [] here =
+      ap₂ (λ out ahead. record (at_root set e room []) { out = out; ahead = ahead }) (let z : 2 ^ set.axes ≡ 0 + 2 ^ set.axes = omega arith in z)
+      (ap (flat_map (walked_cells grid.axes o.way o.walks levels)) same ∙ sym (append-nil (flat_map (walked_cells grid.axes o.way o.walks levels) here))) in
+      children_counted set e (walked set.start_level grid) is levels (walk_counted set e (walked set.start_level grid) is levels) (rooted set e (walked set.start_level grid) room is) [] here stages w t t'
+      (subst (λ st. Holds set e st w t) stage h) (ap (λ cells. each_some (tokens.walk o levels) cells t) (sym same) ∙ k) v
+      (ap (λ way. (each (walks.walk_cell set levels root) (children set.axes way root) w).ending) is.foresees.ways ∙ q)
+      ∙ ap (λ cells. each_counted (counted_walk o e.foresight.kind levels) cells w.tally) (sym same)
+
+  -- the tokens run
+  whole : (after : Tokens) × (tokens.traverse (outlook set.start_level grid swapped) grid.greatest (tokens_of grid swapped m) ≡ Some after)
+  whole = let runs = whole_traversal o (walked set.start_level grid) grid.greatest (tokens_of grid swapped m) (dim_of set grid swapped m may) (grown_of set grid swapped m may) (may_traverse set grid swapped m may) in (runs.0, runs.1)
+
+  runs : (t : Tokens) × (each_some (tokens.walk (outlook set.start_level grid swapped) (grid.greatest - 1)) (children grid.axes (outlook set.start_level grid swapped).way root) (start set grid swapped m may) ≡ Some t)
+      × (ended (outlook set.start_level grid swapped) t ≡ whole.0)
+  runs = map_some (ended o) (each_some (tokens.walk o (grid.greatest - 1)) (children grid.axes o.way root) (start set grid swapped m may)) whole.0 whole.1
+
+  -- so the middle counts what is foreseen
+  middle_counted : (w : Working) → (middle (cornered set grid swapped m may)).ending ≡ done w → w.tally ≡ foreseen_tally set.start_level grid swapped
+  middle_counted w q =
+      let begun = cornered set grid swapped m may in
+      let t = start set grid swapped m may in
+      let room = any_room set e (walked set.start_level grid) is in
+      let rest : Working → Course Working = λ w. and_then (each (walks.walk_cell set (grid.greatest - 1) root) (children set.axes (way set) root) w) (walks.plain set EndIteration) in
+      let first = then-done (walks.plain set BeginIteration begun) rest w q in
+      let second = then-done (each (walks.walk_cell set (grid.greatest - 1) root) (children set.axes (way set) root) first.0) (walks.plain set EndIteration) w first.2 in
+      let stage = at_root set e room (flat_map (walked_cells grid.axes o.way o.walks (grid.greatest - 1)) (children grid.axes o.way root)) in
+      let holds = (plain_leaf set e (walked set.start_level grid) is room stage BeginIteration begun t t (starts set grid swapped m may) refl).holds first.0 first.1 in
+      plain_counted set (λ w t. Unit {0}) (λ t. Some t) EndIteration second.0 t t tt refl w second.2
+      ∙ root_counted first.0 t runs.0 holds runs.1 second.0 second.1
+      ∙ ap (each_counted (counted_walk o e.foresight.kind (grid.greatest - 1)) (children grid.axes o.way root))
+      (plain_counted set (λ w t. Unit {0}) (λ t. Some t) BeginIteration begun t t tt refl first.0 first.1
+      ∙ (has_corners set (2 ^ set.axes) (begun_of set.traversal grid)).tally ∙ ap no_tally may.fits.traversal)
+
+pub tally_is_foreseen : {Plan : Type 0} → TallyIsForeseen Plan
+tally_is_foreseen set grid swapped m after may q =
+    let at = mapped-done (middle set grid swapped m may (cornered set grid swapped m may)) (λ w. (ended_of w grid, w.tally)) after (ap (λ (c : Course (Grid × Tally)). c.ending) (sym (model_is set grid swapped m may)) ∙ q) in
+    ap (λ (x : Grid × Tally). x.1) at.2 ∙ middle_counted set grid swapped m may at.0 at.1
+
+-- so does the machine
+pub turns_are_exact : {Plan : Type 0} → TurnsAreExact Plan
+turns_are_exact set grid swapped m after may q =
+    let e = outset_of set grid swapped m in
+    let o = outlook set.start_level grid swapped in
+    let its = is set grid swapped m may in
+    let room = any_room set e (walked set.start_level grid) its in
+    let begun = cornered set grid swapped m may in
+    let begin = start set grid swapped m may in
+    let tokens_run = runs set grid swapped m may in
+    let t = tokens_run.0 in
+    let image : Working → Machine = λ w. image_of set e root w t in
+    let steps = traversal_simulated set e (walked set.start_level grid) room its (roomy set e (walked set.start_level grid) its) (grid.greatest - 1) begun begin t (starts set grid swapped m may) tokens_run.1 in
+    let middle_machine = and_then (machine.plain set (ports_of swapped) BeginIteration (image_of set e root begun begin))
+    (λ x. and_then (each (machine.walk_cell set (ports_of swapped) (suc (grid.greatest - 1))) (children set.axes (way set) root) x) (machine.plain set (ports_of swapped) EndIteration)) in
+    let closed = then-done middle_machine (λ x. machine.give_up_all set (ports_of swapped) x.family.parents (with_parents [] x)) after (ap (λ (c : Course Machine). c.ending) (sym (machine_is set grid swapped m may)) ∙ q) in
+    let seen = from_image image (middle set grid swapped m may begun).ending closed.0 (sym closed.1 ∙ steps.same.ending) in
+    let gave = gave_up set (ports_of swapped) closed.0.family.parents (with_parents [] closed.0) after closed.2 in
+    let places = tokens_of grid swapped m in
+    let tally : after.tally ≡ foreseen_tally set.start_level grid swapped = gave.tally ∙ ap (λ (x : Machine). x.tally) seen.2 ∙ middle_counted set grid swapped m may seen.0 seen.1 in
+    let traverse_places = may_traverse set grid swapped m may in
+    let exact = traffic_of_grids set.start_level grid swapped places (whole set grid swapped m may).0 may.fits.start_level may.formed (record { vertices = traverse_places.stacks; cells = traverse_places.cell_stacks }) (whole set grid swapped m may).1 in
+    let many : length closed.0.family.parents ≡ length (numbers o) =
+    ap (λ (x : Machine). length x.family.parents) seen.2 ∙ length-map (range_with_len 0 (2 ^ set.axes)) (record_at set.axes seen.0 root) ∙ ap (λ axes. length (range_with_len 0 (2 ^ axes))) may.fits.axes in
+    let vertices : after.vertices ≡ map_holdings (record_of set e seen.0 t) (whole set grid swapped m may).0.vertices =
+    gave.vertices ∙ ap₂ given_times many (ap (λ (x : Machine). x.vertices) seen.2)
+    ∙ sym (given-image (record_of set e seen.0 t) (length (numbers o)) t.vertices)
+    ∙ ap (map_holdings (record_of set e seen.0 t)) (sym (given-all (numbers o) t.vertices) ∙ ap (λ (x : Tokens). x.vertices) tokens_run.2) in
+    let cells : after.cells ≡ map_holdings (cell_at seen.0) (whole set grid swapped m may).0.cells =
+    gave.cells ∙ ap (λ (x : Machine). x.cells) seen.2 ∙ ap (λ (x : Tokens). map_holdings (cell_at seen.0) x.cells) tokens_run.2 in
+    let mapped = exact-mapped o grid.greatest (record_of set e (begun_of set.traversal grid) places) (record_of set e seen.0 t) (cell_at (begun_of set.traversal grid)) (cell_at seen.0)
+    places.vertices (whole set grid swapped m may).0.vertices places.cells (whole set grid swapped m may).0.cells (foreseen_tally set.start_level grid swapped) exact.exact in
+    record {
+      tally = tally;
+      traffic = subst (λ (a : Holdings VertexRecord). ExactTraffic o grid.greatest a after.vertices m.cells after.cells after.tally) (image_vertices set grid swapped m may)
+          (subst (λ a. ExactTraffic o grid.greatest (map_holdings (record_of set e (begun_of set.traversal grid) places) places.vertices) a m.cells after.cells after.tally) (sym vertices)
+          (subst (λ a. ExactTraffic o grid.greatest (map_holdings (record_of set e (begun_of set.traversal grid) places) places.vertices) (map_holdings (record_of set e seen.0 t) (whole set grid swapped m may).0.vertices) a after.cells after.tally) (image_cells set grid swapped m may)
+          (subst (λ a. ExactTraffic o grid.greatest (map_holdings (record_of set e (begun_of set.traversal grid) places) places.vertices) (map_holdings (record_of set e seen.0 t) (whole set grid swapped m may).0.vertices) (map_holdings (cell_at (begun_of set.traversal grid)) places.cells) a after.tally) (sym cells)
+          (subst (λ a. ExactTraffic o grid.greatest (map_holdings (record_of set e (begun_of set.traversal grid) places) places.vertices) (map_holdings (record_of set e seen.0 t) (whole set grid swapped m may).0.vertices)
+          (map_holdings (cell_at (begun_of set.traversal grid)) places.cells) (map_holdings (cell_at seen.0) (whole set grid swapped m may).0.cells) a) (sym tally) mapped))));
+      few = subst (λ (a : Tally). a.cells ≤ most_cells grid.axes (a.read + a.created)) (sym tally) exact.few;
+    }

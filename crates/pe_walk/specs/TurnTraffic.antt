@@ -1,0 +1,28 @@
+-- What a traversal on stacks counts, and what it moves.
+use Rattle.std.specs.Prelude.{◌≡◌, ◌+◌, ◌≤◌, Bool}
+use Rattle.pe_base.specs.declared.tally.Tally.{Tally}
+use Rattle.pe_base.specs.Walk.Course.{done}
+use Rattle.pe_base.specs.Walk.Core.{Setting}
+use Rattle.pe_base.specs.Walk.Grids.{Grid}
+use Rattle.pe_base.specs.Walk.Walk as model
+use Rattle.pe_walk.specs.Machine.{Machine}
+use Rattle.pe_walk.specs.Machine as machine
+use Rattle.pe_walk.specs.Outlooks.{outlook}
+use Rattle.pe_walk.specs.FewCells.{most_cells}
+use Rattle.pe_walk.specs.Tallies.{foreseen_tally, ExactTraffic}
+use Rattle.pe_walk.specs.Gridded.{MayTurn, ports_of}
+
+-- The walk by address counts what is foreseen.
+abbrev pub TallyIsForeseen : Type 0 → Type 0
+TallyIsForeseen Plan = (set : Setting Plan) (grid : Grid) (swapped : Bool) (m : Machine) (after : Grid × Tally) → MayTurn set grid swapped m → (model.traverse set grid).ending ≡ done after
+    → after.1 ≡ foreseen_tally set.start_level grid swapped
+
+-- And so a traversal on stacks, which moves just what it counts, and walks no more cells than its vertices allow.
+pub record TurnsExactly {Plan : Type 0} (set : Setting Plan) (grid : Grid) (swapped : Bool) (m after : Machine) : Type 0 where
+  pub tally : after.tally ≡ foreseen_tally set.start_level grid swapped
+  pub traffic : ExactTraffic (outlook set.start_level grid swapped) grid.greatest m.vertices after.vertices m.cells after.cells after.tally
+  pub few : after.tally.cells ≤ most_cells grid.axes (after.tally.read + after.tally.created)
+
+abbrev pub TurnsAreExact : Type 0 → Type 0
+TurnsAreExact Plan = (set : Setting Plan) (grid : Grid) (swapped : Bool) (m after : Machine) → MayTurn set grid swapped m → (machine.traverse set (ports_of swapped) grid.greatest m).ending ≡ done after
+    → TurnsExactly set grid swapped m after
