@@ -34,6 +34,8 @@ pub mod Examples
 pub mod CoreKeeps
 -- what holds between the steps of a traversal
 pub mod Standing
+-- the machine as an image of it
+pub mod Images
 -- the stacks of a traversal's streams
 pub mod Streams
 -- what the calls of a traversal have in hand, as the machine sees it

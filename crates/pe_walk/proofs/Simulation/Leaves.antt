@@ -1,7 +1,5 @@
 -- The steps of a walk that the simulation rests on, as statements: at each stage the machine is the image of the working
 -- state and of the places on stacks, and what holds at the stage holds at the next.
---
--- A place that was not met yet has a record of some kind, which means nothing: its first touch overwrites the kind.
 use Rattle.std.specs.Prelude.{◌≡◌, ℕ, zero, suc, ◌+◌, ◌-◌, ◌^◌, ◌<◌, ◌≤◌, Bool, true, ◌==◌, if◌then◌else◌, List, [], ◌∷◌, ◌++◌, map, Option, Some}
 use Rattle.std.specs.List.{range_with_len, flat_map}
 use Rattle.pe_base.specs.declared.place.Place.{Place}
@@ -24,6 +22,7 @@ use Rattle.pe_walk.specs.Tokens.{Outlook, Tokens, each_some}
 use Rattle.pe_walk.specs.Gridded.{ports_of}
 use Rattle.pe_walk.specs.Tokens as tokens
 use Rattle.pe_walk.specs.Standing.{Outset, Stage, per_cell, Holds, IsStage}
+pub use Rattle.pe_walk.specs.Images.{record_of, image_of}
 use Rattle.pe_walk.proofs.Simulation.Matching.{Sim}
 
 -- # The stages one after another
@@ -43,31 +42,17 @@ abbrev pub after_store : ℕ → Stage → Stage
 after_store k st = record st { from = k + 1; owed = st.owed - 1; unstored = st.unstored - 1 }
 
 module _ {Plan : Type 0} (set : Setting Plan) (e : Outset) where
-  -- # The images
-  -- the record of a place on a stack
-  abbrev pub record_of : Working → Tokens → Place → VertexRecord
-  record_of w t vertex = if t.met vertex == 0 then (record (vertex_at w vertex) { kind = e.stale vertex }) else vertex_at w vertex
-
-  -- the machine, with a cell's corners and numbers for the family
-  abbrev pub image_of : Place → Working → Tokens → Machine
-  image_of parent w t = record {
-    vertices = map_holdings (record_of w t) t.vertices;
-    cells = map_holdings (cell_at w) t.cells;
-    family = family_of set.axes w parent;
-    tally = w.tally;
-  }
-
   -- some corners of a cell, from a number on
   abbrev pub records_from : Working → Place → ℕ → ℕ → List VertexRecord
   records_from w cell from n = map (record_at set.axes w cell) (range_with_len from n)
 
   -- with the corners in hand
   abbrev pub in_hand : Stage → Working → Tokens → List VertexRecord × Machine
-  in_hand st w t = (records_from w st.cell st.from (2 ^ set.axes - st.from), image_of st.parent w t)
+  in_hand st w t = (records_from w st.cell st.from (2 ^ set.axes - st.from), image_of set e st.parent w t)
 
   -- with all corners and the cell's numbers in hand
   abbrev pub own_in_hand : Stage → Working → Tokens → Own × Machine
-  own_in_hand st w t = (own_of set.axes w st.cell, image_of st.parent w t)
+  own_in_hand st w t = (own_of set.axes w st.cell, image_of set e st.parent w t)
 
   -- # The steps
   module _ (room : Push → Type 0) where
@@ -76,7 +61,7 @@ module _ {Plan : Type 0} (set : Setting Plan) (e : Outset) where
 
     -- a cell is counted
     abbrev pub CountSim : Stage → Type 0
-    CountSim st = Sim room (Holds set e st) (image_of st.parent) (Holds set e (after_count set.axes st)) (image_of st.parent)
+    CountSim st = Sim room (Holds set e st) (image_of set e st.parent) (Holds set e (after_count set.axes st)) (image_of set e st.parent)
         (model.count_cell set st.cell) (machine.count_cell set ports st.cell) (λ t. Some t)
 
     abbrev pub CountLeaf : Type 0
@@ -124,14 +109,14 @@ module _ {Plan : Type 0} (set : Setting Plan) (e : Outset) where
 
     -- an event of the traversal as a whole
     abbrev pub PlainLeaf : Type 0
-    PlainLeaf = (st : Stage) (event : Event) → Sim room (Holds set e st) (image_of st.parent) (Holds set e st) (image_of st.parent)
+    PlainLeaf = (st : Stage) (event : Event) → Sim room (Holds set e st) (image_of set e st.parent) (Holds set e st) (image_of set e st.parent)
         (walks.plain set event) (machine.plain set ports event) (λ t. Some t)
 
     -- # The walk of a cell, with some levels below it
     abbrev pub WalkSim : ℕ → Type 0
     WalkSim levels = (st : Stage) (rest : List Place) → IsStage set.axes e.outlook st → st.from ≡ 2 ^ set.axes
         → st.ahead ≡ walked_cells e.outlook.axes e.outlook.way e.outlook.walks levels st.cell ++ rest
-        → Sim room (Holds set e st) (image_of st.parent) (Holds set e (record st { ahead = rest })) (image_of st.parent)
+        → Sim room (Holds set e st) (image_of set e st.parent) (Holds set e (record st { ahead = rest })) (image_of set e st.parent)
         (walks.walk_cell set levels st.parent st.cell) (machine.walk_cell set ports (suc levels) st.cell) (tokens.walk e.outlook levels st.cell)
 
     -- # A traversal, with the root's corners in hand
@@ -142,8 +127,8 @@ module _ {Plan : Type 0} (set : Setting Plan) (e : Outset) where
     -- from its first event to its last
     abbrev pub RootSim : ℕ → Type 0
     RootSim levels = Sim room
-        (Holds set e (at_root (flat_map (walked_cells e.outlook.axes e.outlook.way e.outlook.walks levels) (children e.outlook.axes e.outlook.way root)))) (image_of root)
-        (Holds set e (at_root [])) (image_of root)
+        (Holds set e (at_root (flat_map (walked_cells e.outlook.axes e.outlook.way e.outlook.walks levels) (children e.outlook.axes e.outlook.way root)))) (image_of set e root)
+        (Holds set e (at_root [])) (image_of set e root)
         (λ w. and_then (walks.plain set BeginIteration w) (λ w. and_then (each (walks.walk_cell set levels root) (children set.axes (way set) root) w) (walks.plain set EndIteration)))
         (λ m. and_then (machine.plain set ports BeginIteration m) (λ m. and_then (each (machine.walk_cell set ports (suc levels)) (children set.axes (way set) root) m) (machine.plain set ports EndIteration)))
         (each_some (tokens.walk e.outlook levels) (children e.outlook.axes e.outlook.way root))
