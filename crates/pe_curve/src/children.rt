@@ -19,8 +19,10 @@ pub fn child(dim: Dim, parent: &Place, way: Way, n: u8) -> Place
     child_at(parent, digits_at(dim, way, flips_at(parent), n))
 }
 
-// The child of a cell that lies at these digits.
-fn child_at(parent: &Place, digits: Digits) -> Place
+/// The child of a cell that lies at these digits.
+///
+/// The cell's level is 0 to 19, and no number of its position is `3^20` or more.
+pub fn child_at(parent: &Place, digits: Digits) -> Place
     requires level { parent.now.level < 20 }
     requires pos { (axis : ℕ) → slice_index parent.now.pos axis < 3 ^ 20 }
     requires digits { (axis : ℕ) → slice_index digits.k axis < 3 }

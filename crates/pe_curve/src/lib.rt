@@ -1,6 +1,7 @@
 //! The order of a cell's children along the Peano curve, in both ways of a traversal.
 //!
-//! [`child`] gives one child's place, and [`Cursor`] the digits of all children in turn. Neither takes memory.
+//! [`child`] gives one child's place, and [`Cursor`] the digits of all children in turn, of which [`child_at`] makes places.
+//! None takes memory.
 #![tactic(auto)]
 
 mod children;
@@ -9,5 +10,5 @@ mod digits;
 #[cfg(test)]
 mod rows;
 
-pub use children::child;
+pub use children::{child, child_at};
 pub use cursor::Cursor;

@@ -38,3 +38,5 @@ pub mod Simulation
 pub mod Visiting
 -- a traversal of a grid in depots
 pub mod Traversing
+-- the children of a cell along rows
+pub mod Children

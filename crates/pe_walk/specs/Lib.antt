@@ -48,3 +48,5 @@ pub mod TurnTraffic
 pub mod Corners
 -- a traversal of a grid in depots, and its answer
 pub mod Traversing
+-- the children of a cell along rows
+pub mod Children

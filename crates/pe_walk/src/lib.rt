@@ -1,6 +1,7 @@
 //! The walk of the cells of a grid.
 #![tactic(auto)]
 
+mod child;
 mod count;
 pub mod laws;
 #[cfg(test)]

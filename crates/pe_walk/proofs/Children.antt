@@ -1,0 +1,69 @@
+-- The children of a cell along rows.
+use Rattle.std.proofs.Common.{◌≡◌, ℕ, zero, suc, ◌+◌, ◌-◌, ◌*◌, ◌/◌, ◌^◌, ◌<◌, ◌≤◌, List, [], ◌∷◌, length, map, take, refl, sym, ap, subst, ◌∙◌, arith}
+use Rattle.std.specs.Prelude.{slice_index}
+use Rattle.pe_base.specs.declared.place.Place.{Place}
+use Rattle.pe_base.specs.declared.place.Digits.{Digits}
+use Rattle.pe_base.specs.Tree.Places.{IsCellPlace, IsDigits, finer, child_at, parent_of}
+use Rattle.pe_base.proofs.Tree.PlaceLaws.{IsCellPlace-child_at, digit_below}
+use Rattle.pe_base.specs.Tree.Dim.{IsDim}
+use Rattle.pe_base.specs.Acts.Effects.{VertexRecord}
+use Rattle.pe_states.specs.Marks.{is_old_at, is_new_at, is_first_old, is_first_new, some_carrier}
+use Rattle.pe_states.specs.Sides.{AreSpread, IsRow as IsRowOfMarks}
+use Rattle.pe_adapt.specs.Marked.{AreMarksOf, GiveKinds}
+use Rattle.pe_adapt.proofs.KindLaws.{kind-carried, kind-first}
+use Rattle.pe_walk.specs.Children.{AreInOneRow}
+
+-- a cell is its child's parent
+thirds : (xs ks : List ℕ) → length xs ≡ length ks → ((i : ℕ) → slice_index ks i < 3) → map (λ x. x / 3) (finer xs ks) ≡ xs
+thirds [] ks same small = refl
+thirds (x ∷ xs) [] same small = absurd (omega arith)
+thirds (x ∷ xs) (k ∷ ks) same small =
+    let here : k < 3 = small 0 in
+    let third : (3 * x + k) / 3 ≡ x = omega arith in
+    ap (λ y. y ∷ map (λ z. z / 3) (finer xs ks)) third ∙ ap (λ ys. x ∷ ys) (thirds xs ks (omega arith) (λ i. small (suc i)))
+
+pub parent-child_at : (axes : ℕ) (place : Place) (digits : Digits) → IsCellPlace axes place → IsDigits axes digits → parent_of (child_at place digits) ≡ place
+parent-child_at axes place digits is fit =
+    let up : place.level + 1 - 1 ≡ place.level = omega arith in
+    ap (λ pos. (let p : Place = record { level = place.level + 1 - 1; pos = pos } in p)) (thirds place.pos digits.k (is.pos.four ∙ sym fit.four) (digit_below axes digits fit))
+    ∙ ap (λ level. (let p : Place = record { level = level; pos = place.pos } in p)) up
+
+module _ (axes traversal : ℕ) (place : Place) (digits : Digits) (within : IsDim axes) (is : IsCellPlace axes place) (level : place.level < 20) (fit : IsDigits axes digits) (marks : ℕ) where
+  abbrev child : Place
+  child = child_at place digits
+
+  is-child : IsCellPlace axes child
+  is-child = IsCellPlace-child_at axes place digits is level fit
+
+  of-parent : child ≡ child_at (parent_of child) digits
+  of-parent = ap (λ p. child_at p digits) (sym (parent-child_at axes place digits is fit))
+
+  -- the marks of a child of the root
+  pub first-kinds : (its : List VertexRecord) → place.level ≡ 0
+      → ((k : ℕ) → k < 2 ^ axes → is_old_at marks k ≡ is_first_old axes digits traversal k)
+      → ((k : ℕ) → k < 2 ^ axes → is_new_at marks k ≡ is_first_new axes digits k)
+      → GiveKinds axes traversal child its marks
+  first-kinds its top old new = λ k below.
+      kind-first axes traversal child digits k its marks within is-child (omega (arith, top)) of-parent (old k below) (new k below)
+
+  -- and of one further down
+  pub carried-kinds : (above : ℕ) (its : List VertexRecord) → 0 < place.level → AreMarksOf axes its above
+      → ((k : ℕ) → k < 2 ^ axes → is_old_at marks k ≡ some_carrier axes digits k (is_old_at above))
+      → ((k : ℕ) → k < 2 ^ axes → is_new_at marks k ≡ some_carrier axes digits k (is_new_at above))
+      → GiveKinds axes traversal child its marks
+  carried-kinds above its deep are old new = λ k below.
+      kind-carried axes traversal child digits k its above marks within is-child (omega arith) (λ one. absurd (omega (arith, one, deep))) fit of-parent below are (old k below) (new k below)
+
+-- digits along a row
+front-same : (n : ℕ) (xs ys : List ℕ) → length xs ≡ length ys → ((i : ℕ) → i < n → slice_index xs i ≡ slice_index ys i) → take n xs ≡ take n ys
+front-same zero xs ys same each = refl
+front-same (suc n) [] [] same each = refl
+front-same (suc n) [] (y ∷ ys) same each = absurd (omega arith)
+front-same (suc n) (x ∷ xs) [] same each = absurd (omega arith)
+front-same (suc n) (x ∷ xs) (y ∷ ys) same each =
+    ap (λ z. z ∷ take n xs) (each 0 (omega arith)) ∙ ap (λ zs. y ∷ zs) (front-same n xs ys (omega arith) (λ i below. each (suc i) (omega arith)))
+
+pub row-same : (axes marks row : ℕ) (digits digits' : Digits) → IsDigits axes digits → IsDigits axes digits' → AreInOneRow axes digits digits'
+    → IsRowOfMarks axes digits marks row → IsRowOfMarks axes digits' marks row
+row-same axes marks row digits digits' fit fit' one is =
+    subst (λ ks. AreSpread 1 ks marks row) (front-same (axes - 1) digits.k digits'.k (fit.four ∙ sym fit'.four) one) is

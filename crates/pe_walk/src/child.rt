@@ -1,0 +1,117 @@
+// The children of a cell, one after another along rows: along a row only the digit on the last axis changes.
+ghost use Rattle.std.specs.Prelude.{◌≡◌, ℕ, ◌-◌, ◌<◌, List, slice_index, IsTrue};
+ghost use Rattle.pe_base.specs.Tree.Places.{IsDigits, child_at};
+ghost use Rattle.pe_base.specs.Acts.Effects.{VertexRecord};
+ghost use Rattle.pe_states.specs.Sides.{IsRow as IsRowOfMarks};
+ghost use Rattle.pe_adapt.specs.Marked.{AreMarksOf, GiveKinds};
+ghost use Rattle.pe_walk.specs.Children.{IsAbove, IsChild, AreInOneRow};
+
+use crate::settings::Settings;
+use crate::walked::WalkedCell;
+use pe_access::CellState;
+use pe_base::{Digits, Dim, Place};
+use pe_curve::child_at;
+use pe_states::Marks;
+
+/// What is known of a cell whose children are walked.
+#[derive(Clone, Copy)]
+pub(crate) struct Above {
+    /// Its place.
+    pub place: Place,
+    /// Its state.
+    pub state: CellState,
+    /// Which of its corners are old, and which are new.
+    pub marks: Marks,
+}
+
+/// A child of a cell, and what it shares with the others of its row.
+#[derive(Clone, Copy)]
+pub(crate) struct Child {
+    /// What is known of it.
+    pub cell: WalkedCell,
+    /// Its digits.
+    pub digits: Digits,
+    /// The part of its marks that is the same along the row.
+    pub row_marks: Marks,
+}
+
+// The marks of a child's corners.
+fn child_marks(settings: &Settings, above: &Above, row_marks: Marks, digits: Digits) -> Marks
+    requires above { IsAbove settings.now.setup.dim settings.now above.now }
+    requires digits { IsDigits settings.now.setup.dim digits }
+    requires row { IsRowOfMarks settings.now.setup.dim digits above.now.marks row_marks }
+    ensures { (its : List VertexRecord) → AreMarksOf settings.now.setup.dim its above.now.marks
+        → GiveKinds settings.now.setup.dim settings.now.traversal (child_at above.now.place digits) its result }
+{
+    if above.place.level == 0 {
+        Marks::level_one(settings.setup.dim, digits, settings.traversal)
+    } else {
+        row_marks.of_row(settings.setup.dim, digits)
+    }
+}
+
+/// The child at these digits.
+pub(crate) fn child_of(settings: &Settings, above: &Above, digits: Digits) -> Child
+    requires above { IsAbove settings.now.setup.dim settings.now above.now }
+    requires digits { IsDigits settings.now.setup.dim digits }
+    ensures child { IsChild settings.now.setup.dim settings.now above.now result }
+    ensures digits { result.digits ≡ digits }
+{
+    let dim = settings.setup.dim;
+    let state = above.state.descend(digits);
+    let row_marks = above.marks.row(dim, digits);
+    let marks = child_marks(settings, above, row_marks, digits);
+    Child {
+        cell: WalkedCell {
+            place: child_at(&above.place, digits),
+            state,
+            row: state.row(),
+            marks,
+        },
+        digits,
+        row_marks,
+    }
+}
+
+// Makes a child the one at these digits, of the same row.
+fn step_to(settings: &Settings, above: &Above, child: &mut Child, digits: Digits)
+    requires above { IsAbove settings.now.setup.dim settings.now above.now }
+    requires digits { IsDigits settings.now.setup.dim digits }
+    requires child { IsChild settings.now.setup.dim settings.now above.now child.old }
+    requires row { AreInOneRow settings.now.setup.dim child.old.digits digits }
+    ensures child { IsChild settings.now.setup.dim settings.now above.now child.new }
+    ensures digits { child.new.digits ≡ digits }
+{
+    above.state.step(&mut child.cell.state, digits);
+    child.cell.place = child_at(&above.place, digits);
+    child.cell.marks = child_marks(settings, above, child.row_marks, digits);
+    child.digits = digits;
+}
+
+// Whether digits differ on the last axis alone.
+fn are_in_one_row(dim: Dim, a: &Digits, b: &Digits) -> bool
+    ensures { IsTrue result → AreInOneRow dim a.now b.now }
+{
+    let [i, j, k, _] = a.k;
+    let [x, y, z, _] = b.k;
+    match dim.axes() {
+        2 => i == x,
+        3 => i == x && j == y,
+        _ => i == x && j == y && k == z,
+    }
+}
+
+/// Makes a child the one at these digits: along its row, or the first of another row.
+pub(crate) fn move_to(settings: &Settings, above: &Above, child: &mut Child, digits: Digits)
+    requires above { IsAbove settings.now.setup.dim settings.now above.now }
+    requires digits { IsDigits settings.now.setup.dim digits }
+    requires child { IsChild settings.now.setup.dim settings.now above.now child.old }
+    ensures child { IsChild settings.now.setup.dim settings.now above.now child.new }
+    ensures digits { child.new.digits ≡ digits }
+{
+    if are_in_one_row(settings.setup.dim, &child.digits, &digits) {
+        step_to(settings, above, child, digits);
+    } else {
+        *child = child_of(settings, above, digits);
+    }
+}
