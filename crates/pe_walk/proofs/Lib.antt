@@ -40,3 +40,5 @@ pub mod Visiting
 pub mod Traversing
 -- the children of a cell along rows
 pub mod Children
+-- what the marks of corners tell
+pub mod Markings
