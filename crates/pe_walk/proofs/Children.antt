@@ -11,7 +11,12 @@ use Rattle.pe_states.specs.Marks.{is_old_at, is_new_at, is_first_old, is_first_n
 use Rattle.pe_states.specs.Sides.{AreSpread, IsRow as IsRowOfMarks}
 use Rattle.pe_adapt.specs.Marked.{AreMarksOf, GiveKinds}
 use Rattle.pe_adapt.proofs.KindLaws.{kind-carried, kind-first}
-use Rattle.pe_walk.specs.Children.{AreInOneRow}
+use Rattle.pe_access.specs.States.{StandsFor}
+use Rattle.pe_walk.specs.declared.settings.Settings.{Settings}
+use Rattle.pe_walk.specs.declared.child.Above.{Above}
+use Rattle.pe_walk.specs.declared.child.Child.{Child}
+use Rattle.pe_walk.specs.InHand.{IsWalked}
+use Rattle.pe_walk.specs.Children.{IsAbove, IsChild, AreInOneRow}
 
 -- a cell is its child's parent
 thirds : (xs ks : List ℕ) → length xs ≡ length ks → ((i : ℕ) → slice_index ks i < 3) → map (λ x. x / 3) (finer xs ks) ≡ xs
@@ -67,3 +72,12 @@ pub row-same : (axes marks row : ℕ) (digits digits' : Digits) → IsDigits axe
     → IsRowOfMarks axes digits marks row → IsRowOfMarks axes digits' marks row
 row-same axes marks row digits digits' fit fit' one is =
     subst (λ ks. AreSpread 1 ks marks row) (front-same (axes - 1) digits.k digits'.k (fit.four ∙ sym fit'.four) one) is
+
+-- what is known of a child as it is walked
+pub child-walked : (axes : ℕ) (settings : Settings) (above : Above) (child : Child) → IsAbove axes settings above → IsChild axes settings above child → IsWalked axes settings child.cell
+child-walked axes settings above child over is = record {
+  place = subst (IsCellPlace axes) (sym is.place) (IsCellPlace-child_at axes above.place child.digits over.place over.level is.digits);
+  deep = (let level = ap (λ (p : Place). p.level) is.place in omega (arith, level));
+  state = subst (λ p. StandsFor axes settings.way p child.cell.state) (sym is.place) is.state;
+  row = is.row;
+}

@@ -42,3 +42,15 @@ pub mod Traversing
 pub mod Children
 -- what the marks of corners tell
 pub mod Markings
+-- corners that are taken out of their slots
+pub mod Emptying
+-- calls of a walk, one after another
+pub mod Walking
+-- what is done below a cell
+pub mod Below
+-- the touches of corners look at no cell
+pub mod AnyCells
+-- the walk of a cell, part by part
+pub mod CellWalks
+-- the walks of the children of a cell, one after another
+pub mod ChildWalks

@@ -1,10 +1,12 @@
 -- What the marks of corners in hand tell, and that it stays while the marks do.
-use Rattle.std.proofs.Common.{◌≡◌, ℕ, zero, suc, ◌+◌, ◌^◌, ◌<◌, ◌≤◌, Bool, true, false, List, [], ◌∷◌, length, map, Option, None, Some, ⊎_elim, refl, sym, ap, ap₂, subst, ◌∙◌, arith}
+use Rattle.std.proofs.Common.{◌≡◌, ℕ, ℤ, zero, suc, ◌+◌, ◌^◌, ◌<◌, ◌≤◌, Bool, true, false, List, [], ◌∷◌, length, map, Option, None, Some, ⊎_elim, refl, sym, ap, ap₂, subst, ◌∙◌, arith}
 use Rattle.std.specs.Prelude.{slice_get, ◌||◌, ◌==◌, if◌then◌else◌}
 use Rattle.std.specs.Option.{option_map}
 use Rattle.std.specs.List.{list_any, range_with_len}
 use Rattle.std.proofs.Math.Nat.{pow-le-pow_right}
 use Rattle.std.proofs.lemmas.Bool.{cases_lt}
+use Rattle.std.proofs.lemmas.Bool.Decides.{nat_tests}
+use Rattle.std.proofs.lemmas.List.{length-map}
 use Rattle.std.proofs.lemmas.Option.{slice_get-map}
 use Rattle.pe_base.specs.declared.place.Place.{Place}
 use Rattle.pe_base.specs.declared.state.State.{State}
@@ -15,6 +17,10 @@ use Rattle.pe_base.specs.Life.Kinds.{kind_from}
 use Rattle.pe_base.specs.Life.Carriers.{passes}
 use Rattle.pe_base.specs.Acts.Effects.{VertexRecord}
 use Rattle.pe_base.specs.Walk.Touches.{kind_below}
+use Rattle.pe_stacks.specs.declared.record.Vertex.{Vertex}
+use Rattle.pe_stacks.specs.Corners.{CornerList, IsFull, vertices_of}
+use Rattle.pe_stacks.proofs.FullCorners.{length-vertices_of}
+use Rattle.pe_mapping.specs.Sights.{seen_vertex, seen_corners}
 use Rattle.pe_states.specs.Marks.{is_old_at, is_new_at}
 use Rattle.pe_states.proofs.Tests.{any_map}
 use Rattle.pe_hang.specs.InHand.{marks_of}
@@ -113,3 +119,17 @@ module _ (its its' : List VertexRecord) (same : marks_of its' ≡ marks_of its) 
 
   pub kind_among-kept : (traversal : ℕ) (cell : Place) → kind_among traversal cell its' ≡ kind_among traversal cell its
   kind_among-kept traversal cell = ap (λ kind. if cell.level == 1 then (if traversal == 1 then Born else Kept) else kind) kind_below-kept
+
+-- a cell below level 1
+pub kind_among-deep : (traversal : ℕ) (cell : Place) (parents : List VertexRecord) → 2 ≤ cell.level → kind_among traversal cell parents ≡ kind_below parents
+kind_among-deep traversal cell parents deep =
+    let later : (cell.level == 1) ≡ false = grind (arith, nat_tests) in
+    ap (λ t. if t then (if traversal == 1 then Born else Kept) else kind_below parents) later
+
+-- the kind by two answers
+pub any-kind : (any : Bool × Bool) {a b : Bool} → any ≡ (a, b) → kind_from any.0 any.1 ≡ kind_from a b
+any-kind any same = ap (λ (t : Bool × Bool). kind_from t.0 t.1) same
+
+-- full corners in hand are as many as a cell has
+pub length-seen : {V : Type 0} (numbers : V → List ℤ) (axes : ℕ) (corners : CornerList (Vertex V)) → IsFull axes corners → length (seen_corners numbers corners) ≡ 2 ^ axes
+length-seen numbers axes corners full = length-map (vertices_of corners) (seen_vertex numbers) ∙ length-vertices_of axes corners full

@@ -50,3 +50,7 @@ pub mod Corners
 pub mod Traversing
 -- the children of a cell along rows
 pub mod Children
+-- pieces of the machine's walk of a cell
+pub mod Visits
+-- records that are given up, one after another
+pub mod GivenUp

@@ -3,6 +3,7 @@
 
 mod child;
 mod count;
+mod hand;
 pub mod laws;
 #[cfg(test)]
 mod machine_rows;

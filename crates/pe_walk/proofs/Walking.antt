@@ -1,0 +1,100 @@
+-- Calls of a walk that go along with the machine, one after another.
+use Rattle.std.proofs.Common.{◌≡◌, ℕ, ℤ, ◌≤◌, List, Result, Ok, Err, refl, sym, ap, subst, ◌∙◌, arith}
+use Rattle.pe_base.specs.Acts.Effects.{Rules}
+use Rattle.pe_base.specs.Walk.Course.{Course, and_then, course_map}
+use Rattle.pe_base.specs.Walk.Core.{Setting}
+use Rattle.pe_stacks.specs.declared.record.Vertex.{Vertex}
+use Rattle.pe_stacks.specs.declared.record.CellRec.{CellRec}
+use Rattle.pe_stacks.specs.Corners.{CornerList}
+use Rattle.pe_stacks.specs.Holdings.{Holdings, KeepsRoom}
+use Rattle.pe_mapping.specs.Held.{Held, Keeps}
+use Rattle.pe_mapping.specs.Sights.{Numbers}
+use Rattle.pe_hang.specs.InHand.{cells_on_stacks}
+use Rattle.pe_hang.specs.Follows.{Found, Failure, Follows, Fits, Leads, IsRoomier, found_of, held_by}
+use Rattle.pe_hang.proofs.Leading.{and_then-fits, follows-then, follows-map, leads_start, leads_rest, leads_next, leads_err, setting-kept}
+use Rattle.pe_walk.specs.declared.settings.Settings.{Settings}
+use Rattle.pe_walk.specs.declared.progress.Progress.{Progress}
+use Rattle.pe_walk.specs.Machine.{Machine}
+use Rattle.pe_walk.specs.InHand.{setting_in, machine_in_hand}
+
+-- a mapping that was not called, and one that was called again
+pub keeps-same : {Plan : Type 0} (held : Held Plan) → Keeps held held
+keeps-same held = record { plan = refl; dim = refl; sure = refl; lent = refl }
+
+pub keeps-then : {Plan : Type 0} (a b c : Held Plan) → Keeps a b → Keeps b c → Keeps a c
+keeps-then a b c first second = record {
+  plan = second.plan ∙ first.plan;
+  dim = second.dim ∙ first.dim;
+  sure = second.sure ∙ first.sure;
+  lent = second.lent ∙ first.lent;
+}
+
+-- what a walk has in hand and on stacks
+pub record Hands (Plan V C : Type 0) : Type 0 where
+  pub held : Held Plan
+  pub vertices : Holdings (Vertex V)
+  pub room : ℕ → ℕ
+  pub cells : Holdings (CellRec C)
+  pub cell_room : ℕ → ℕ
+  pub parents : CornerList (Vertex V)
+  pub parent : CellRec C
+  pub progress : Progress
+
+abbrev pub hands : {Plan V C : Type 0} → Held Plan → Holdings (Vertex V) → (ℕ → ℕ) → Holdings (CellRec C) → (ℕ → ℕ) → CornerList (Vertex V) → CellRec C → Progress → Hands Plan V C
+hands held vertices room cells cell_room parents parent progress =
+    record { held = held; vertices = vertices; room = room; cells = cells; cell_room = cell_room; parents = parents; parent = parent; progress = progress }
+
+module _ {Plan V C : Type 0} (rules : Rules Plan) (numbers : Numbers V C) (settings : Settings) where
+  abbrev pub machine_of : Hands Plan V C → Machine
+  machine_of h = machine_in_hand numbers h.vertices (cells_on_stacks numbers h.cells) h.parents h.parent h.held.list h.progress.tally
+
+  abbrev pub found_in : Hands Plan V C → Found
+  found_in h = found_of h.held (held_by h.vertices h.room) (held_by h.cells h.cell_room)
+
+  abbrev pub set_in : Hands Plan V C → Setting Plan
+  set_in h = setting_in rules h.held settings
+
+  -- no room is lost, and the mapping is the same
+  pub record Goes (old new : Hands Plan V C) : Type 0 where
+    pub keeps : Keeps old.held new.held
+    pub vertices : KeepsRoom old.vertices old.room new.vertices new.room
+    pub cells : KeepsRoom old.cells old.cell_room new.cells new.cell_room
+
+  pub goes-roomier : (old new : Hands Plan V C) → Goes old new → IsRoomier (found_in old) (found_in new)
+  goes-roomier old new goes = record { sure = goes.keeps.sure; vertices = goes.vertices; cells = goes.cells }
+
+  pub goes-set : (old new : Hands Plan V C) → Goes old new → set_in new ≡ set_in old
+  goes-set old new goes = setting-kept rules old.held new.held settings.setup.start_level settings.setup.max_cells settings.traversal goes.keeps
+
+  -- a call does what a course does
+  abbrev pub Steps : {X A : Type 0} → (Setting Plan → Course X) → (A → X) → Result A Failure → Hands Plan V C → Hands Plan V C → Type 0
+  Steps course after answer old new = Follows (course (set_in old)) after answer (found_in old) new.held.told
+
+  module _ {X Y : Type 0} (first : Setting Plan → Course X) (next : Setting Plan → X → Course Y) where
+    abbrev pub both : Setting Plan → Course Y
+    both set = and_then (first set) (next set)
+
+    -- after a call that came through, the next one does not get stuck
+    pub steps-may : {A : Type 0} (after : A → X) (a : A) (old mid : Hands Plan V C) → Fits (both (set_in old)) → Steps first after (Ok a) old mid → Goes old mid → Fits (next (set_in mid) (after a))
+    steps-may after a old mid fits is goes =
+        subst (λ s. Fits (next s (after a))) (sym (goes-set old mid goes))
+        (leads_rest (next (set_in old) (after a))
+        (leads_next (first (set_in old)) (next (set_in old)) after a (found_in mid) (leads_start (both (set_in old)) (found_in old)) is (goes-roomier old mid goes)) fits)
+
+    -- and what it does is what both do
+    pub steps-then : {A B : Type 0} (after : A → X) (a : A) (after' : B → Y) (answer : Result B Failure) (old mid new : Hands Plan V C)
+        → Steps first after (Ok a) old mid → Goes old mid → Steps (λ set. next set (after a)) after' answer mid new → Steps both after' answer old new
+    steps-then after a after' answer old mid new is goes then =
+        follows-then (first (set_in old)) (next (set_in old)) after a after' answer (found_in old) (found_in mid) new.held.told is (goes-roomier old mid goes)
+        (subst (λ s. Follows (next s (after a)) after' answer (found_in mid) new.held.told) (goes-set old mid goes) then)
+
+    -- a call that fails is a failure of both
+    pub steps-err : {A B : Type 0} (after : A → X) (after' : B → Y) (failure : Failure) (old new : Hands Plan V C)
+        → Steps first after (Err failure) old new → Steps both after' (Err failure) old new
+    steps-err after after' failure old new is =
+        leads_err (first (set_in old)) (next (set_in old)) after after' failure new.held.told (leads_start (both (set_in old)) (found_in old)) is
+
+  -- one course in place of another
+  pub steps-as : {X A : Type 0} (course course' : Setting Plan → Course X) (after : A → X) (answer : Result A Failure) (old new : Hands Plan V C)
+      → course (set_in old) ≡ course' (set_in old) → Steps course after answer old new → Steps course' after answer old new
+  steps-as course course' after answer old new same is = subst (λ course. Follows course after answer (found_in old) new.held.told) same is
