@@ -1,5 +1,5 @@
 -- A traversal of a grid in depots answers by the walk by address.
-use Rattle.std.proofs.Common.{◌≡◌, ◌⊎◌, ℕ, zero, suc, ◌+◌, ◌^◌, ◌<◌, ◌≤◌, Bool, true, false, not, ◌==◌, List, [], ◌∷◌, Result, Ok, Err, refl, sym, subst, ap, ◌∙◌, map, length, get_or, arith}
+use Rattle.std.proofs.Common.{◌≡◌, ◌⊎◌, ℕ, ℤ, zero, suc, ◌+◌, ◌^◌, ◌<◌, ◌≤◌, Bool, true, false, not, ◌==◌, List, [], ◌∷◌, Result, Ok, Err, refl, sym, subst, ap, ◌∙◌, map, length, get_or, arith}
 use Rattle.std.specs.Prelude.{Contains, IfOk, if◌then◌else◌}
 use Rattle.std.specs.List.{AllByRecursion}
 use Rattle.std.proofs.lemmas.Bool.{ne_eqb}
@@ -25,7 +25,11 @@ use Rattle.pe_walk.specs.Machine.{Machine}
 use Rattle.pe_walk.specs.Machine as machine
 use Rattle.pe_walk.specs.Gridded.{HoldsGrid, MayTurn, HasTurned, EndAlike, IsShort, IsWalked, ports_of}
 use Rattle.pe_walk.specs.InHand.{machine_between}
-use Rattle.pe_walk.specs.Traversing.{HoldIt, MayTraverse, IsAdvanced, LacksRoom, Traverses, Answers}
+use Rattle.pe_walk.specs.Outlooks.{outlook}
+use Rattle.pe_walk.proofs.Simulation.Answers.{stacks_are_addresses}
+use Rattle.pe_walk.proofs.Simulation.Tallied.Alike.{CountAlike, is_seen, alike-sym, exact-alike}
+use Rattle.pe_walk.proofs.Simulation.Tallied.Traversals.{turns_are_exact}
+use Rattle.pe_walk.specs.Traversing.{Stores, HoldIt, MayTraverse, IsAdvanced, LacksRoom, Traverses, Answers}
 
 -- counts of stacks are those of what is seen of them
 counts_seen : {X Y : Type 0} (f : X → Y) (held : Holdings X) (n : ℕ) → CountsWithin held n → CountsWithin (map_holdings f held) n
@@ -39,11 +43,11 @@ counts_seen f held n counts = record {
 }
 
 -- a traversal of a grid that depots hold may begin
-pub may_turn : {Plan V C : Type 0} (numbers : Numbers V C) (rules : Rules Plan) (mapping : Held Plan) (start_level max_cells levels : ℕ) (vertices : Holdings (Vertex V)) (cells : Holdings (CellRec C)) (handle : Handle C) (grid : Grid)
-    → AreLawful rules → mapping.dim ≡ handle.dim → max_level rules mapping ≡ levels → AreLevels levels start_level → IsCellLimit max_cells → CountsWithin vertices (2 ^ 60) → CountsWithin cells (2 ^ 60)
-    → MayTraverse numbers mapping levels vertices cells handle grid
-    → MayTurn (setting_of rules mapping start_level max_cells (handle.finished + 1)) grid handle.swapped (machine_between numbers vertices cells handle.root mapping.list (no_tally (handle.finished + 1)))
-may_turn numbers rules mapping start_level max_cells levels vertices cells handle grid lawful dim same bounds limit counts cell_counts may = record {
+pub may_turn : {Plan V C : Type 0} (numbers : Numbers V C) (rules : Rules Plan) (mapping : Held Plan) (start_level max_cells levels : ℕ) (depots : Stores V C) (handle : Handle C) (grid : Grid)
+    → AreLawful rules → mapping.dim ≡ handle.dim → max_level rules mapping ≡ levels → AreLevels levels start_level → IsCellLimit max_cells → CountsWithin depots.vertices (2 ^ 60) → CountsWithin depots.cells (2 ^ 60)
+    → MayTraverse numbers mapping levels depots handle grid
+    → MayTurn (setting_of rules mapping start_level max_cells (handle.finished + 1)) grid handle.swapped (machine_between numbers depots.vertices depots.cells handle.root mapping.list (no_tally (handle.finished + 1)))
+may_turn numbers rules mapping start_level max_cells levels depots handle grid lawful dim same bounds limit counts cell_counts may = record {
   fits = record {
     lawful = lawful;
     axes = dim ∙ may.holds.axes;
@@ -63,8 +67,8 @@ may_turn numbers rules mapping start_level max_cells levels vertices cells handl
     root = h.root;
     list = h.list;
   };
-  counts = counts_seen (seen_vertex numbers.vertex) vertices (2 ^ 60) counts;
-  cell_counts = counts_seen (seen_cell numbers.cell) cells (2 ^ 60) cell_counts;
+  counts = counts_seen (seen_vertex numbers.vertex) depots.vertices (2 ^ 60) counts;
+  cell_counts = counts_seen (seen_cell numbers.cell) depots.cells (2 ^ 60) cell_counts;
   tally = refl;
 }
 
@@ -99,19 +103,26 @@ halts_of swapped cause (done after) alike = absurd alike
 halts_of swapped cause (halts other) alike = ap halts alike
 halts_of swapped cause stuck alike = absurd alike
 
-module _ {Plan V C : Type 0} (numbers : Numbers V C) (set : Setting Plan) (grid : Grid) (handle : Handle C) (before : Machine)
-    (is : IsWalked set grid handle.swapped (machine.traverse set (ports_of handle.swapped) grid.greatest before))
-    (old : Found) (mapping : Held Plan) (vertices : Holdings (Vertex V)) (cells : Holdings (CellRec C)) where
+module _ {Plan V C : Type 0} (numbers : Numbers V C) (set : Setting Plan) (grid : Grid) (handle : Handle C) (before : Stores V C) (list : List ℤ)
+    (may : MayTurn set grid handle.swapped (machine_between numbers before.vertices before.cells handle.root list (no_tally set.traversal)))
+    (old : Found) (mapping : Held Plan) (after : Stores V C) where
   abbrev after_of : Handle C × Tally → Machine
-  after_of answer = machine_between numbers vertices cells answer.0.root mapping.list answer.1
+  after_of answer = machine_between numbers after.vertices after.cells answer.0.root mapping.list answer.1
+
+  abbrev begins : Machine
+  begins = machine_between numbers before.vertices before.cells handle.root list (no_tally set.traversal)
 
   abbrev course : Course Machine
-  course = machine.traverse set (ports_of handle.swapped) grid.greatest before
+  course = machine.traverse set (ports_of handle.swapped) grid.greatest begins
+
+  is : IsWalked set grid handle.swapped course
+  is = stacks_are_addresses set grid handle.swapped begins may
 
   traverses : (axes : handle.dim ≡ grid.axes) (finished : handle.finished ≡ grid.finished) (answer : Handle C × Tally) → IsAdvanced handle answer.0
-      → Does course (done (after_of answer)) old.told mapping.told → Traverses numbers mapping vertices cells (model.traverse set grid) old.told mapping.told answer
+      → Does course (done (after_of answer)) old.told mapping.told → Traverses numbers set grid handle.swapped (model.traverse set grid) old.told before mapping after answer
   traverses axes finished answer advanced does =
       let found = done_of handle.swapped (after_of answer) (model.traverse set grid).ending (subst (EndAlike handle.swapped (model.traverse set grid).ending) does.ends is.ending) in
+      let exact = turns_are_exact set grid handle.swapped begins (after_of answer) may does.ends in
       let from = mapped-done (model.walk_root (record set { traversal = grid.finished + 1 }) grid.greatest (begun (grid.finished + 1) grid)) (λ w. (ended_of w grid, w.tally)) found.0 found.1 in
       record {
         next = found.0.0;
@@ -122,9 +133,15 @@ module _ {Plan V C : Type 0} (numbers : Numbers V C) (set : Setting Plan) (grid 
           finished = advanced.finished ∙ ap (λ n. n + 1) finished ∙ ap (λ a. a.0.finished) (sym from.2);
           holds = held found.0.0 (subst (λ b. HoldsGrid found.0.0 b (after_of answer)) (sym advanced.swapped) found.2.holds);
         };
+        traffic = exact-alike (outlook set.start_level grid handle.swapped) grid.greatest begins.vertices (after_of answer).vertices begins.cells (after_of answer).cells before.vertices after.vertices before.cells after.cells answer.1
+            (unseen (seen_vertex numbers.vertex) before.vertices) (unseen (seen_vertex numbers.vertex) after.vertices) (unseen (seen_cell numbers.cell) before.cells) (unseen (seen_cell numbers.cell) after.cells) exact.traffic;
+        few = exact.few;
       }
     where
-      held : (next : Grid) → HoldsGrid next answer.0.swapped (after_of answer) → HoldsGrid next answer.0.swapped (machine_between numbers vertices cells answer.0.root mapping.list (no_tally 0))
+      unseen : {X Y : Type 0} (f : X → Y) (held : Holdings X) → CountAlike (map_holdings f held) held
+      unseen f held = alike-sym (is_seen f held)
+
+      held : (next : Grid) → HoldsGrid next answer.0.swapped (after_of answer) → HoldsGrid next answer.0.swapped (machine_between numbers after.vertices after.cells answer.0.root mapping.list (no_tally 0))
       held next h = record {
         stacks = h.stacks;
         cell_stacks = h.cell_stacks;
@@ -149,7 +166,7 @@ module _ {Plan V C : Type 0} (numbers : Numbers V C) (set : Setting Plan) (grid 
         few = omega (arith, over, short.few);
       }
 
-  failed : (failure : Failure) → Follows course after_of (Err failure) old mapping.told → Answers numbers set grid handle.swapped (model.traverse set grid) (Err failure) old mapping vertices cells
+  failed : (failure : Failure) → Follows course after_of (Err failure) old mapping.told → Answers numbers set grid handle.swapped (model.traverse set grid) (Err failure) old before mapping after
   failed (halted cause) does = record {
     ends = halts_of handle.swapped cause (model.traverse set grid).ending (subst (EndAlike handle.swapped (model.traverse set grid).ending) does.ends is.ending);
     told = subst (λ text. Adds old.told text mapping.told) is.text does.told;
@@ -159,6 +176,6 @@ module _ {Plan V C : Type 0} (numbers : Numbers V C) (set : Setting Plan) (grid 
   failed unheard_of none = none
 
   pub answers : {E : Type 0} (axes : handle.dim ≡ grid.axes) (finished : handle.finished ≡ grid.finished) (means : E → Failure) (result : Result (Handle C × Tally) E) → IfOk result (λ answer. IsAdvanced handle answer.0)
-      → Follows course after_of (read_by means result) old mapping.told → Answers numbers set grid handle.swapped (model.traverse set grid) (read_by means result) old mapping vertices cells
+      → Follows course after_of (read_by means result) old mapping.told → Answers numbers set grid handle.swapped (model.traverse set grid) (read_by means result) old before mapping after
   answers axes finished means (Ok answer) advanced follows = traverses axes finished answer advanced follows
   answers axes finished means (Err e) advanced follows = failed (means e) follows

@@ -1,10 +1,10 @@
 -- A traversal of a grid that depots hold, and how its answer follows the walk by address.
 --
---     Ok           the walk is done: the depots hold the grid that comes next, and its tally is answered
+--     Ok           the walk is done: the depots hold the grid that comes next, and its tally is answered, which tells the traffic
 --     halted       the walk halts by this very cause
 --     unwritten    a part of its text was added, and the sink failed
 --     wanting      a part of its text was added; of a mapping that is sure, some stack lacked room
-use Rattle.std.specs.Prelude.{◌≡◌, ◌≢◌, ◌⊎◌, ℕ, ◌+◌, ◌*◌, ◌^◌, ◌<◌, Bool, true, not, if◌then◌else◌, Result, Ok, Err}
+use Rattle.std.specs.Prelude.{◌≡◌, ◌≢◌, ◌⊎◌, ℕ, ◌+◌, ◌*◌, ◌^◌, ◌<◌, ◌≤◌, Bool, true, not, if◌then◌else◌, Result, Ok, Err}
 use Rattle.pe_base.specs.declared.tally.Tally.{Tally}
 use Rattle.pe_base.specs.Walk.Course.{Ending, done, halts, Course}
 use Rattle.pe_base.specs.Walk.Core.{Setting}
@@ -19,14 +19,21 @@ use Rattle.pe_mapping.specs.Held.{Held, Told, AddsPart}
 use Rattle.pe_mapping.specs.Sights.{Numbers}
 use Rattle.pe_hang.specs.Follows.{Found, Failure, halted, unwritten, wanting, unheard_of, Does, FailsToTell}
 use Rattle.pe_walk.specs.Gridded.{HoldsGrid, size}
-use Rattle.pe_walk.specs.Outlooks.{IsNew}
+use Rattle.pe_walk.specs.Outlooks.{IsNew, outlook}
+use Rattle.pe_walk.specs.FewCells.{most_cells}
+use Rattle.pe_walk.specs.Tallies.{ExactTraffic}
 use Rattle.pe_walk.specs.InHand.{machine_between}
 
+-- what depots hold
+pub record Stores (V C : Type 0) : Type 0 where
+  pub vertices : Holdings (Vertex V)
+  pub cells : Holdings (CellRec C)
+
 -- depots and a handle hold a grid
-pub record HoldIt {Plan V C : Type 0} (numbers : Numbers V C) (mapping : Held Plan) (vertices : Holdings (Vertex V)) (cells : Holdings (CellRec C)) (handle : Handle C) (grid : Grid) : Type 0 where
+pub record HoldIt {Plan V C : Type 0} (numbers : Numbers V C) (mapping : Held Plan) (depots : Stores V C) (handle : Handle C) (grid : Grid) : Type 0 where
   pub axes : handle.dim ≡ grid.axes
   pub finished : handle.finished ≡ grid.finished
-  pub holds : HoldsGrid grid handle.swapped (machine_between numbers vertices cells handle.root mapping.list (no_tally 0))
+  pub holds : HoldsGrid grid handle.swapped (machine_between numbers depots.vertices depots.cells handle.root mapping.list (no_tally 0))
 
 -- a handle after one more traversal: its output is now the input
 pub record IsAdvanced {C : Type 0} (old new : Handle C) : Type 0 where
@@ -35,10 +42,10 @@ pub record IsAdvanced {C : Type 0} (old new : Handle C) : Type 0 where
   pub swapped : new.swapped ≡ not old.swapped
 
 -- a grid that may be traversed, as it is held
-pub record MayTraverse {Plan V C : Type 0} (numbers : Numbers V C) (mapping : Held Plan) (levels : ℕ) (vertices : Holdings (Vertex V)) (cells : Holdings (CellRec C)) (handle : Handle C) (grid : Grid) : Type 0 where
+pub record MayTraverse {Plan V C : Type 0} (numbers : Numbers V C) (mapping : Held Plan) (levels : ℕ) (depots : Stores V C) (handle : Handle C) (grid : Grid) : Type 0 where
   pub greatest : grid.greatest ≡ levels
   pub formed : IsNew grid ⊎ IsWellFormed grid
-  pub holds : HoldIt numbers mapping vertices cells handle grid
+  pub holds : HoldIt numbers mapping depots handle grid
 
 -- Some stack, which is no input, holds fewer records without asking for memory than the traversal walks cells, and than it
 -- may have corners.
@@ -50,22 +57,24 @@ pub record LacksRoom {Plan : Type 0} (set : Setting Plan) (grid : Grid) (swapped
   pub within : (if of_cell then found.cells stack else found.vertices stack) < size set.start_level grid
   pub few : (if of_cell then found.cells stack else found.vertices stack) < 2 ^ set.axes * set.max_cells
 
--- the walk is done with this, and the depots hold it
-pub record Traverses {Plan V C : Type 0} (numbers : Numbers V C) (mapping : Held Plan) (vertices : Holdings (Vertex V)) (cells : Holdings (CellRec C)) (course : Course (Grid × Tally)) (old new : Told) (answer : Handle C × Tally) : Type 0 where
+-- The walk is done with this grid, and the depots hold it. They have moved just what the tally counts, and the cells are no
+-- more than the vertices allow.
+pub record Traverses {Plan V C : Type 0} (numbers : Numbers V C) (set : Setting Plan) (grid : Grid) (swapped : Bool) (course : Course (Grid × Tally)) (told : Told) (before : Stores V C) (mapping : Held Plan) (after : Stores V C) (answer : Handle C × Tally) : Type 0 where
   pub next : Grid
-  pub does : Does course (done (next, answer.1)) old new
+  pub does : Does course (done (next, answer.1)) told mapping.told
   pub formed : IsWellFormed next
-  pub holds : HoldIt numbers mapping vertices cells answer.0 next
+  pub holds : HoldIt numbers mapping after answer.0 next
+  pub traffic : ExactTraffic (outlook set.start_level grid swapped) grid.greatest before.vertices after.vertices before.cells after.cells answer.1
+  pub few : answer.1.cells ≤ most_cells grid.axes (answer.1.read + answer.1.created)
 
 -- a part of the text was added, and there was no memory
 pub record WantsRoom {Plan : Type 0} (set : Setting Plan) (grid : Grid) (swapped : Bool) (course : Course (Grid × Tally)) (old : Found) (new : Told) : Type 0 where
   pub told : AddsPart old.told course.text new
   pub room : old.sure ≡ true → LacksRoom set grid swapped old
 
-abbrev pub Answers : {Plan V C : Type 0} → Numbers V C → Setting Plan → Grid → Bool → Course (Grid × Tally) → Result (Handle C × Tally) Failure → Found
-    → Held Plan → Holdings (Vertex V) → Holdings (CellRec C) → Type 0
-Answers numbers set grid swapped course (Ok answer) old mapping vertices cells = Traverses numbers mapping vertices cells course old.told mapping.told answer
-Answers numbers set grid swapped course (Err (halted cause)) old mapping vertices cells = Does course (halts cause) old.told mapping.told
-Answers numbers set grid swapped course (Err unwritten) old mapping vertices cells = FailsToTell course old.told mapping.told
-Answers numbers set grid swapped course (Err wanting) old mapping vertices cells = WantsRoom set grid swapped course old mapping.told
-Answers numbers set grid swapped course (Err unheard_of) old mapping vertices cells = ⊥
+abbrev pub Answers : {Plan V C : Type 0} → Numbers V C → Setting Plan → Grid → Bool → Course (Grid × Tally) → Result (Handle C × Tally) Failure → Found → Stores V C → Held Plan → Stores V C → Type 0
+Answers numbers set grid swapped course (Ok answer) old before mapping after = Traverses numbers set grid swapped course old.told before mapping after answer
+Answers numbers set grid swapped course (Err (halted cause)) old before mapping after = Does course (halts cause) old.told mapping.told
+Answers numbers set grid swapped course (Err unwritten) old before mapping after = FailsToTell course old.told mapping.told
+Answers numbers set grid swapped course (Err wanting) old before mapping after = WantsRoom set grid swapped course old mapping.told
+Answers numbers set grid swapped course (Err unheard_of) old before mapping after = ⊥

@@ -4,5 +4,7 @@
 pub mod Steps
 -- the walk of a cell
 pub mod Walks
+-- depots that have counted alike
+pub mod Alike
 -- a traversal
 pub mod Traversals

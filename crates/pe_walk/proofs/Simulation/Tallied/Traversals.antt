@@ -46,6 +46,7 @@ use Rattle.pe_walk.proofs.Simulation.Cells.Children.{kids, kids_stages, between}
 use Rattle.pe_walk.proofs.Simulation.Cells.Roots.{rooted, root_goes}
 use Rattle.pe_walk.proofs.Simulation.Cells.Simulated.{cell_simulated, traversal_simulated}
 use Rattle.pe_walk.proofs.Simulation.Tallied.Steps.{plain_counted}
+use Rattle.pe_walk.proofs.Simulation.Tallied.Alike.{exact-alike, is_seen}
 use Rattle.pe_walk.proofs.Simulation.Tallied.Walks.{any_room, roomy, walk_counted, children_counted}
 
 -- what is given up one after another
@@ -84,44 +85,6 @@ from_image : {W M : Type 0} (f : W → M) (e : Ending W) (x : M) → done x ≡ 
 from_image f (done w) x h = (w, refl, done_same x (f w) h)
 from_image f (halts cause) x h = absurd cc
 from_image f stuck x h = absurd cc
-
--- the counts of a depot do not depend on what it holds
-exact-mapped : {X Y V W : Type 0} (o : Outlook) (greatest : ℕ) (f f' : X → V) (g g' : Y → W) (vertices vertices' : Holdings X) (cells cells' : Holdings Y) (tally : Tally)
-    → ExactTraffic o greatest vertices vertices' cells cells' tally → ExactTraffic o greatest (map_holdings f vertices) (map_holdings f' vertices') (map_holdings g cells) (map_holdings g' cells') tally
-exact-mapped {X} {Y} {V} {W} o greatest f f' g g' vertices vertices' cells cells' tally exact = record {
-  read = added _ (pops f' vertices' (input_stack o.swapped)) exact.read (pops f vertices (input_stack o.swapped));
-  written = added _ (pushes f' vertices' (output_stack o.swapped)) exact.written (pushes f vertices (output_stack o.swapped));
-  input_kept = pushes f' vertices' _ ∙ exact.input_kept ∙ sym (pushes f vertices _);
-  output_kept = pops f' vertices' _ ∙ exact.output_kept ∙ sym (pops f vertices _);
-  fresh = exact.fresh;
-  spent = exact.spent;
-  popped = λ axis parity a b. added _ (pops f' vertices' (2 * axis + parity)) (exact.popped axis parity a b) (pops f vertices (2 * axis + parity));
-  pushed = λ axis parity a b. added _ (pushes f' vertices' (2 * axis + parity)) (exact.pushed axis parity a b) (pushes f vertices (2 * axis + parity));
-  idle = λ s beyond below. let still = exact.idle s beyond below in (pops f' vertices' s ∙ still.0 ∙ sym (pops f vertices s), pushes f' vertices' s ∙ still.1 ∙ sym (pushes f vertices s));
-  out = exact.out;
-  most = exact.most;
-  counting = exact.counting;
-  counting_after = exact.counting_after;
-  hanging = exact.hanging;
-  cell_count = exact.cell_count;
-  cells_read = added _ (pops g' cells' (cell_input_stack o.swapped)) exact.cells_read (pops g cells (cell_input_stack o.swapped));
-  cell_input_kept = pushes g' cells' _ ∙ exact.cell_input_kept ∙ sym (pushes g cells _);
-  cell_output_kept = pops g' cells' _ ∙ exact.cell_output_kept ∙ sym (pops g cells _);
-  cells_made = exact.cells_made;
-  cells_written = added _ (pushes g' cells' (cell_output_stack o.swapped)) exact.cells_written (pushes g cells (cell_output_stack o.swapped));
-  cells_gone = exact.cells_gone;
-  cells_out = exact.cells_out;
-  cells_most = exact.cells_most;
-}
-  where
-    added : {a b c d : ℕ} (n : ℕ) → a ≡ b → b ≡ c + n → d ≡ c → a ≡ d + n
-    added n e f g = omega (arith, e, f, g)
-
-    pops : {A B : Type 0} (h : A → B) (held : Holdings A) (s : ℕ) → (stack_at (map_holdings h held) s).pops ≡ (stack_at held s).pops
-    pops h held s = ap (λ stack. stack.pops) (stack_at-map h held s)
-
-    pushes : {A B : Type 0} (h : A → B) (held : Holdings A) (s : ℕ) → (stack_at (map_holdings h held) s).pushes ≡ (stack_at held s).pushes
-    pushes h held s = ap (λ stack. stack.pushes) (stack_at-map h held s)
 
 module _ {Plan : Type 0} (set : Setting Plan) (grid : Grid) (swapped : Bool) (m : Machine) (may : MayTurn set grid swapped m) where
   abbrev e : Outset
@@ -218,8 +181,10 @@ turns_are_exact set grid swapped m after may q =
     ∙ ap (map_holdings (record_of set e seen.0 t)) (sym (given-all (numbers o) t.vertices) ∙ ap (λ (x : Tokens). x.vertices) tokens_run.2) in
     let cells : after.cells ≡ map_holdings (cell_at seen.0) (whole set grid swapped m may).0.cells =
     gave.cells ∙ ap (λ (x : Machine). x.cells) seen.2 ∙ ap (λ (x : Tokens). map_holdings (cell_at seen.0) x.cells) tokens_run.2 in
-    let mapped = exact-mapped o grid.greatest (record_of set e (begun_of set.traversal grid) places) (record_of set e seen.0 t) (cell_at (begun_of set.traversal grid)) (cell_at seen.0)
-    places.vertices (whole set grid swapped m may).0.vertices places.cells (whole set grid swapped m may).0.cells (foreseen_tally set.start_level grid swapped) exact.exact in
+    let mapped = exact-alike o grid.greatest places.vertices (whole set grid swapped m may).0.vertices places.cells (whole set grid swapped m may).0.cells
+    (map_holdings (record_of set e (begun_of set.traversal grid) places) places.vertices) (map_holdings (record_of set e seen.0 t) (whole set grid swapped m may).0.vertices)
+    (map_holdings (cell_at (begun_of set.traversal grid)) places.cells) (map_holdings (cell_at seen.0) (whole set grid swapped m may).0.cells) (foreseen_tally set.start_level grid swapped)
+    (is_seen _ _) (is_seen _ _) (is_seen _ _) (is_seen _ _) exact.exact in
     record {
       tally = tally;
       traffic = subst (λ (a : Holdings VertexRecord). ExactTraffic o grid.greatest a after.vertices m.cells after.cells after.tally) (image_vertices set grid swapped m may)
