@@ -56,3 +56,5 @@ pub mod TouchCounts
 pub mod Depths
 -- what a traversal moves, in what it counts
 pub mod ExactTraffic
+-- how much the counts of a traversal rise at most
+pub mod Rises

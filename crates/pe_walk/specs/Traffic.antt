@@ -10,7 +10,7 @@ use Rattle.pe_base.specs.Steps.Routes.{stack_in}
 use Rattle.pe_base.specs.Steps.Faces.{Touch}
 use Rattle.pe_base.specs.Steps.Stacks.{is_stack}
 use Rattle.pe_base.specs.Walk.Streams.{walked_children, walked_cells}
-use Rattle.pe_stacks.specs.Holdings.{Holdings, stack_at, stack_count, items_at, len_at}
+use Rattle.pe_stacks.specs.Holdings.{Holdings, stack_at, stack_count, items_at, len_at, RaisesCounts}
 use Rattle.pe_walk.specs.Laws.{IsCell}
 use Rattle.pe_walk.specs.Tokens.{Outlook, Tokens, source, target, cell_source, cell_target, load, store, walk, begun, traverse}
 use Rattle.pe_walk.specs.Takings.{loads_of, stores_of, left_cells, Grown, MayTraverse}
@@ -108,6 +108,16 @@ abbrev pub TrafficOfATraversal : Type 0
 TrafficOfATraversal = (o : Outlook) (walked : Place → Bool) (greatest : ℕ) (t after : Tokens) → IsDim o.axes → Grown o walked greatest → stack_count t.vertices ≡ 10 → stack_count t.cells ≡ 2 → traverse o greatest t ≡ Some after
     → HasMovedAll o greatest t after
 
+-- Over a traversal no count of the vertices rises by more than 2^d for each cell and for the root, and none of the cells by
+-- more than one for each cell.
+pub record RisesInAll (o : Outlook) (greatest : ℕ) (t after : Tokens) : Type 0 where
+  pub vertices : RaisesCounts t.vertices after.vertices (2 ^ o.axes * (length (entered_cells o greatest) + 1))
+  pub cells : t.cells.out ≤ t.cells.most → RaisesCounts t.cells after.cells (length (entered_cells o greatest))
+
+abbrev pub CountsOfATraversal : Type 0
+CountsOfATraversal = (o : Outlook) (walked : Place → Bool) (greatest : ℕ) (t after : Tokens) → IsDim o.axes → Grown o walked greatest → stack_count t.vertices ≡ 10 → stack_count t.cells ≡ 2 → traverse o greatest t ≡ Some after
+    → RisesInAll o greatest t after
+
 -- Places that count and differ are at most as many as the walked cells below the root, each of which loads 2^d places.
 abbrev pub FewVertices : Type 0
 FewVertices = (o : Outlook) (walked : Place → Bool) (greatest : ℕ) (places : List Place) → IsDim o.axes → Grown o walked greatest
@@ -137,6 +147,11 @@ StacksAreShort = (o : Outlook) (walked : Place → Bool) (greatest : ℕ) (t : T
 -- the vertices that count, in the order of their first loads
 abbrev pub first_vertices : Outlook → ℕ → List Place
 first_vertices o greatest = map (λ touch. touch.vertex) (filter (λ touch. o.counts touch.vertex && is_none (stack_in o.axes o.way touch.vertex touch.cell)) (loads_of o greatest root))
+
+-- Each vertex that counts is among them once, and no other is.
+abbrev pub FirstVerticesCount : Type 0
+FirstVerticesCount = (o : Outlook) (walked : Place → Bool) (greatest : ℕ) (vertex : Place) → IsDim o.axes → Grown o walked greatest
+    → count_by (λ other. is_same other vertex) (first_vertices o greatest) ≡ (if o.counts vertex then 1 else 0)
 
 -- how often a vertex crosses an axis on the stack of a parity
 abbrev pub crosses_on : ℕ → ℕ → ℕ → Place → ℕ

@@ -28,7 +28,7 @@ ghost use Rattle.pe_walk.specs.Laws.{NeighboursAgree, FacesAreOneWay, OneFaceOnE
 ghost use Rattle.pe_walk.specs.TokenLaws.{WalkOfACell, LoadsAreDue, LoadedAround, WholeTraversal, TurningRound, TurningAround};
 ghost use Rattle.pe_walk.specs.Outlooks.{ForecastFits, StoredFits};
 ghost use Rattle.pe_walk.specs.StreamLaws.{FitsTurned, StreamsAreOne, ReadsAreStreams, NextIsFormed, WritesAreStreams, TraversalOfAGrid};
-ghost use Rattle.pe_walk.specs.Traffic.{TrafficOfACell, TrafficOfATraversal, LoadsPerCell, CountsPerCell, TrafficIsCrossings, HangingLoads, FewVertices, StepsKeepCounting, BeginsCounting, StacksAreShort};
+ghost use Rattle.pe_walk.specs.Traffic.{TrafficOfACell, TrafficOfATraversal, LoadsPerCell, CountsPerCell, TrafficIsCrossings, HangingLoads, FirstVerticesCount, CountsOfATraversal, FewVertices, StepsKeepCounting, BeginsCounting, StacksAreShort};
 ghost use Rattle.pe_walk.specs.Apart.{StepsKeepApart, BeginsApart, CornersByCounting};
 ghost use Rattle.pe_walk.specs.FewCells.{FewCells, FewCellsOfTraversals, FewCellsOfGrids};
 ghost use Rattle.pe_walk.specs.Tallies.{TallyOfACell, TrafficByTally, KindsForeseen, TrafficOfGrids};
@@ -171,7 +171,8 @@ pub fn streams_of_grids()
 {}
 
 /// What the walk of a cell and a traversal move, make and give up, by their loads and stores; how much is out at most; and
-/// no count rises by more than one for each corner of each walked cell.
+/// no count rises by more than one for each corner of each walked cell, over a traversal those of the root too. The vertices
+/// whose crossings are the traffic are those that count, each once.
 pub fn traffic()
     ensures cell { TrafficOfACell }
     ensures traversal { TrafficOfATraversal }
@@ -179,6 +180,8 @@ pub fn traffic()
     ensures counts { CountsPerCell }
     ensures crossings { TrafficIsCrossings }
     ensures hanging { HangingLoads }
+    ensures firsts { FirstVerticesCount }
+    ensures in_all { CountsOfATraversal }
 {}
 
 /// Vertices that count are at most as many as the walked cells, and no stack is longer.

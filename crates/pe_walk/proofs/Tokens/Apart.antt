@@ -20,7 +20,7 @@ use Rattle.pe_stacks.specs.Holdings.{Holdings, Stack, new_stack, stack_count, st
 use Rattle.pe_stacks.specs.Grid.{input_stack}
 use Rattle.pe_walk.specs.Laws.{IsCell}
 use Rattle.pe_walk.specs.Tokens.{Outlook, Tokens, one_more, one_less, before, cells_before, is_top, given, first_of, taken, put, source, target, touch_of, load_it, load, store_it, store, enter, leave, cell_target, numbers, begun}
-use Rattle.pe_walk.specs.Takings.{loads_of, is_read, reads_of}
+use Rattle.pe_walk.specs.Takings.{loads_of, is_read, reads_of, Grown}
 use Rattle.pe_walk.specs.Apart.{lies, occurs, IsApart, StepsKeepApart, BeginsApart}
 use Rattle.pe_walk.proofs.Outlooks.{un_map}
 use Rattle.pe_walk.proofs.Tokens.Stacks.{is_stack_of}
@@ -289,9 +289,14 @@ module _ (o : Outlook) (greatest : ℕ) (q : Place) where
       unread true h x = ap (λ y. y && x) h
       unread false h x = refl
 
+-- what counts is read once at most
+pub reads_once : (o : Outlook) (walked : Place → Bool) (greatest : ℕ) → IsDim o.axes → Grown o walked greatest → (q : Place) → o.counts q ≡ true → count_by (λ p. is_same p q) (reads_of o greatest root) ≤ 1
+reads_once o walked greatest dim grown q c =
+    omega (arith, reading o greatest q, firsts o dim.1 q (filter (λ t. is_same t.vertex q) (loads_of o greatest root)) (its_loads o greatest q) (loaded_around o walked greatest dim grown q c))
+
 pub begins_apart : BeginsApart
 begins_apart o walked greatest t dim grown may free = record {
-  once = λ q c. omega (arith, free q, on_input q, reads_once q c);
+  once = λ q c. omega (arith, free q, on_input q, reads_once o walked greatest dim grown q c);
   unmet = λ q c r m. omega (arith, free q, on_input q, not_read o greatest q r);
 }
   where
@@ -303,6 +308,3 @@ begins_apart o walked greatest t dim grown may free = record {
     on_input =
         lies_only (begun o t).vertices (input_stack o.swapped) (reads_of o greatest root) (omega (arith, near o.swapped, lent_stacks (numbers o) t.vertices, may.stacks))
         (λ s. lent_items (numbers o) t.vertices s ∙ may.reads_vertices s)
-
-    reads_once : (q : Place) → o.counts q ≡ true → count_by (λ p. is_same p q) (reads_of o greatest root) ≤ 1
-    reads_once q c = omega (arith, reading o greatest q, firsts o dim.1 q (filter (λ t. is_same t.vertex q) (loads_of o greatest root)) (its_loads o greatest q) (loaded_around o walked greatest dim grown q c))

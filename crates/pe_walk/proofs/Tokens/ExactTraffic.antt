@@ -67,7 +67,7 @@ module _ (o : Outlook) (walked : Place → Bool) (greatest : ℕ) (dim : IsDim o
   all_stores : stores_of o greatest root ≡ flat_map (stores_of o (greatest - 1)) (children o.axes o.way root) ++ corner_touches o.axes root
   all_stores = ap (λ n. stores_of o n root) some_level ∙ ap (λ b. flat_map (stores_of o (greatest - 1)) (if_walks o.axes o.way o.walks b kids) ++ corner_touches o.axes root) (root_walks o walked greatest dim grown)
 
-  all_cells : walked_cells o.axes o.way o.walks greatest root ≡ root ∷ entered_cells o greatest
+  pub all_cells : walked_cells o.axes o.way o.walks greatest root ≡ root ∷ entered_cells o greatest
   all_cells = ap (λ n. walked_cells o.axes o.way o.walks n root) some_level ∙ ap (λ b. root ∷ flat_map (walked_cells o.axes o.way o.walks (greatest - 1)) (if_walks o.axes o.way o.walks b kids)) (root_walks o walked greatest dim grown)
 
   root_height : height o greatest root ≡ suc (tallest (height o (greatest - 1)) (children o.axes o.way root))
@@ -93,7 +93,7 @@ module _ (o : Outlook) (walked : Place → Bool) (greatest : ℕ) (dim : IsDim o
       ∙ sym (count-flat_map (is_hung o) (loads_of o (greatest - 1)) kids)
 
   -- the cells that are left are those that were entered
-  deep_left : (p : Place → Bool) → count_by p (departed_cells o greatest) ≡ count_by p (entered_cells o greatest)
+  pub deep_left : (p : Place → Bool) → count_by p (departed_cells o greatest) ≡ count_by p (entered_cells o greatest)
   deep_left p =
       count-flat_map p (left_cells o (greatest - 1)) kids
       ∙ sum-same (λ c. count_by p (left_cells o (greatest - 1) c)) (λ c. count_by p (walked_cells o.axes o.way o.walks (greatest - 1) c)) kids (Each-all _ (left-walked o p (greatest - 1)) kids)

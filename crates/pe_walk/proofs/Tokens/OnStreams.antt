@@ -1,4 +1,5 @@
--- What is in the streams that a traversal reads: each vertex that counts, and each cell that is walked, where it is read.
+-- What is in the streams that a traversal reads: each vertex that counts, and each cell that is walked, where it is read. So
+-- each vertex that counts is loaded first once.
 use Rattle.std.proofs.Common.{◌≡◌, ℕ, ◌+◌, ◌≤◌, Bool, true, false, cond, ◌&&◌, ◌==◌, List, [], ◌∷◌, map, filter, length, refl, sym, ap, ap₂, ◌∙◌, subst, inl, inr, true≢false, arith}
 use Rattle.std.specs.Prelude.{is_none, if◌then◌else◌}
 use Rattle.pe_base.specs.declared.place.Place.{Place}
@@ -8,7 +9,7 @@ use Rattle.pe_base.specs.Steps.Around.{around}
 use Rattle.pe_base.specs.Steps.Routes.{stack_in}
 use Rattle.pe_base.specs.Steps.Faces.{Touch}
 use Rattle.pe_base.specs.Walk.Streams.{walked_cells}
-use Rattle.pe_base.proofs.Lists.{Each, Each-filter, Each-In, In}
+use Rattle.pe_base.proofs.Lists.{Each, Each-filter, Each-weaker, Each-In, In, filter_none}
 use Rattle.pe_base.proofs.Steps.Counts.{is_same_itself}
 use Rattle.pe_base.proofs.Steps.SlowerLaws.{length-around}
 use Rattle.pe_base.proofs.Faces.Bridge.{same_places}
@@ -16,11 +17,12 @@ use Rattle.pe_walk.specs.Laws.{IsCell}
 use Rattle.pe_walk.specs.Tokens.{Outlook, before}
 use Rattle.pe_walk.specs.Takings.{loads_of, is_read, reads_of, cell_reads_of, Grown}
 use Rattle.pe_walk.specs.CellsAhead.{times}
+use Rattle.pe_walk.specs.Traffic.{first_vertices, FirstVerticesCount}
 use Rattle.pe_walk.proofs.Tests.{some_power}
 use Rattle.pe_walk.proofs.Trees.{root_is_cell}
 use Rattle.pe_walk.proofs.Tokens.Dues.{loaded_around}
 use Rattle.pe_walk.proofs.Tokens.Counting.{first_around}
-use Rattle.pe_walk.proofs.Tokens.Apart.{one_if, reading, its_loads}
+use Rattle.pe_walk.proofs.Tokens.Apart.{one_if, reading, its_loads, reads_once}
 use Rattle.pe_walk.proofs.Tokens.CountLists.{count-cons}
 use Rattle.pe_walk.proofs.Tokens.CellsAhead.{count-filter}
 use Rattle.pe_walk.proofs.Tokens.Streams.{cells_regular, cells_in_tree}
@@ -56,6 +58,14 @@ module _ (o : Outlook) (walked : Place → Bool) (greatest : ℕ) (dim : IsDim o
           kept true e = omega arith
           kept false e = absurd (true≢false (sym e))
 
+  -- a vertex that does not count is not read
+  uncounted : (q : Place) → o.counts q ≡ false → times (reads_of o greatest root) q ≡ 0
+  uncounted q off =
+      let its = filter (λ t. is_same t.vertex q) (loads_of o greatest root) in
+      reading o greatest q
+      ∙ ap length (filter_none (is_read o) its (Each-weaker (λ t. is_same t.vertex q ≡ true) (λ t. is_read o t ≡ false)
+      (λ t same. ap (λ b. b && (o.reads t.vertex && is_none (stack_in o.axes o.way t.vertex t.cell))) (ap o.counts (same_places t.vertex q same) ∙ off)) its (its_loads o greatest q)))
+
   -- a cell of the tree
   pub reads_cell_it : (x : Place) → IsCell o.axes o.way x → walked x ≡ true → x.level ≤ greatest → o.reads_cell x ≡ true → 1 ≤ times (cell_reads_of o greatest root) x
   reads_cell_it x is on low reads =
@@ -70,3 +80,25 @@ module _ (o : Outlook) (walked : Place → Bool) (greatest : ℕ) (dim : IsDim o
       Each-In (λ c. IsCell o.axes o.way c × (o.reads_cell c ≡ true)) x (filter o.reads_cell all)
       (Each-filter (IsCell o.axes o.way) o.reads_cell all (cells_in_tree o walked greatest dim grown greatest root is_cell))
       (times_in x (filter o.reads_cell all) (subst (λ cs. 1 ≤ times cs x) (cells_regular o walked greatest dim grown o.reads_cell within greatest root is_cell) some))
+
+-- each vertex that counts is loaded first once
+pub first_vertices_count : FirstVerticesCount
+first_vertices_count o walked greatest vertex dim grown = by (o.counts vertex) refl
+  where
+    -- as if all were read
+    fits : Grown (record o { reads = λ q. true }) walked greatest
+    fits = record {
+      is_walk = grown.is_walk;
+      below = grown.below;
+      walks_within = grown.walks_within;
+      counts_within = grown.counts_within;
+      root_unread = grown.root_unread;
+      root_unwritten = grown.root_unwritten;
+    }
+
+    by : (b : Bool) → o.counts vertex ≡ b → times (first_vertices o greatest) vertex ≡ (if b then 1 else 0)
+    by true on =
+        let some = reads_it (record o { reads = λ q. true }) walked greatest dim fits vertex on refl in
+        let few = reads_once (record o { reads = λ q. true }) walked greatest dim fits vertex on in
+        omega arith
+    by false off = uncounted (record o { reads = λ q. true }) walked greatest dim fits vertex off

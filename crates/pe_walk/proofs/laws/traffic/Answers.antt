@@ -3,6 +3,8 @@ use Rattle.pe_walk.proofs.laws.traffic.Goals as goal
 use Rattle.pe_walk.proofs.Tokens.Traffic.{traffic_of_a_cell, loads_per_cell, counts_per_cell}
 use Rattle.pe_walk.proofs.Tokens.TraversalTraffic.{traffic_of_a_traversal}
 use Rattle.pe_walk.proofs.Tokens.Crossings.{traffic_is_crossings, hanging_loads}
+use Rattle.pe_walk.proofs.Tokens.OnStreams.{first_vertices_count}
+use Rattle.pe_walk.proofs.Tokens.Rises.{counts_of_a_traversal}
 
 pub returns-clause-cell : goal.returns-clause-cell
 returns-clause-cell c = traffic_of_a_cell
@@ -21,3 +23,9 @@ returns-clause-crossings c = traffic_is_crossings
 
 pub returns-clause-hanging : goal.returns-clause-hanging
 returns-clause-hanging c = hanging_loads
+
+pub returns-clause-firsts : goal.returns-clause-firsts
+returns-clause-firsts c = first_vertices_count
+
+pub returns-clause-in_all : goal.returns-clause-in_all
+returns-clause-in_all c = counts_of_a_traversal
