@@ -50,3 +50,5 @@ pub mod Traverses
 pub mod Tallied
 -- with how it closes
 pub mod Answers
+-- the law of a face
+pub mod FaceLaw

@@ -54,3 +54,5 @@ pub mod Children
 pub mod Visits
 -- records that are given up, one after another
 pub mod GivenUp
+-- the walk of a cell on stacks and by address
+pub mod FaceLaw

@@ -24,6 +24,7 @@
 ghost use Rattle.pe_walk.specs.CoreKeeps.{CoreKeeps};
 ghost use Rattle.pe_walk.specs.Standing.{KindsAreFound};
 ghost use Rattle.pe_walk.specs.Gridded.{StacksAreAddresses};
+ghost use Rattle.pe_walk.specs.FaceLaw.{LawOfAFace};
 ghost use Rattle.pe_walk.specs.Laws.{NeighboursAgree, FacesAreOneWay, OneFaceOnEach, Composition, BeneathUntouched, StoresAsLoads, Counts, UnwalkedIsEmpty, LeafIsCorners, CellsOfTheTree, StepsCrossFaces, StepsAreCorners, CornersAreSteps, TurnsJoin, StandTogether, CornersCrossOnce, CornersOnStacks};
 ghost use Rattle.pe_walk.specs.TokenLaws.{WalkOfACell, LoadsAreDue, LoadedAround, WholeTraversal, TurningRound, TurningAround};
 ghost use Rattle.pe_walk.specs.Outlooks.{ForecastFits, StoredFits};
@@ -215,6 +216,12 @@ pub fn core_keeps<E: Effects>()
 /// At a load, the kind of a corner is found by the map as the parent's corners in hand have it: it is the one foreseen.
 pub fn kinds_are_found<E: Effects>()
     ensures found { KindsAreFound E.Plan }
+{}
+
+/// The walk of a cell of the machine of lists adds the text of the walk by address and ends alike: what it takes was on top of
+/// each stack, what it gives is, and all beneath is as it was. Each push leaves its stack short.
+pub fn law_of_a_face<E: Effects>()
+    ensures same { LawOfAFace E.Plan }
 {}
 
 /// A traversal of the machine of lists adds the text of the walk by address and ends alike, with the next grid on its stacks.

@@ -121,7 +121,7 @@ module _ {Plan : Type 0} (set : Setting Plan) where
       then-fits (leave_cell set parent cell w) _ (leave_cell-fits parent cell w)
       (each-fits (store_corner set parent cell) (store_corner-fits parent cell) (corner_numbers set))))))
 
-  walk-fits : (levels : ℕ) (parent cell : Place) (w : Working) → Fits (walk_cell set levels parent cell w)
+  pub walk-fits : (levels : ℕ) (parent cell : Place) (w : Working) → Fits (walk_cell set levels parent cell w)
   walk-fits zero parent cell w = around-fits at_once (λ w. refl) parent cell w
   walk-fits (suc levels) parent cell w =
       around-fits (λ w. if_walked set (kind_of_children set w cell) (each (walk_cell set levels cell) (children set.axes (way set) cell)) w)

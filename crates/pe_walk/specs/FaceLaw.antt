@@ -1,0 +1,77 @@
+-- The law of a face: the walk of a cell with all below it, on stacks, is the walk by address. What arrives at the cell's faces
+-- comes off their stacks, and what leaves at its faces goes on them; so with the streams; all beneath is as it was.
+use Rattle.std.specs.Prelude.{◌≡◌, ◌≢◌, ℕ, suc, ◌+◌, ◌*◌, ◌^◌, ◌<◌, ◌≤◌, Bool, List, ◌++◌, if◌then◌else◌}
+use Rattle.std.specs.List.{AllByRecursion}
+use Rattle.pe_base.specs.declared.place.Place.{Place}
+use Rattle.pe_base.specs.Walk.Course.{Ending, done, halts, stuck, Push, Course}
+use Rattle.pe_base.specs.Walk.Core.{Setting}
+use Rattle.pe_base.specs.Walk.Working.{Working}
+use Rattle.pe_base.specs.Walk.Streams.{walked_cells}
+use Rattle.pe_base.specs.Walk.Walk as model
+use Rattle.pe_stacks.specs.Grid.{input_stack, cell_input_stack}
+use Rattle.pe_walk.specs.Machine.{Machine}
+use Rattle.pe_walk.specs.Machine as machine
+use Rattle.pe_walk.specs.Tokens.{Tokens}
+use Rattle.pe_walk.specs.Takings.{MayBegin, HasEnded}
+use Rattle.pe_walk.specs.Standing.{Outset, Stage, Holds, IsOutset, IsStage}
+use Rattle.pe_walk.specs.Images.{image_of}
+use Rattle.pe_walk.specs.Gridded.{ports_of}
+
+-- Where a traversal stands as a cell is to be walked: what is fixed for it, which cells are walked, the stage, how many
+-- levels may be below the cell, which cells are ahead afterwards, what lies beneath on each stack, the working state by
+-- address, and the places on stacks.
+pub record Moment : Type 0 where
+  pub outset : Outset
+  pub walked : Place → Bool
+  pub stage : Stage
+  pub levels : ℕ
+  pub rest : List Place
+  pub beneath : ℕ → List Place
+  pub cells_beneath : ℕ → List Place
+  pub working : Working
+  pub places : Tokens
+
+-- The cell may be walked: the machine is the image of the working state and of the places, which have what the cell takes on
+-- top of each stack.
+pub record MayWalk {Plan : Type 0} (set : Setting Plan) (at : Moment) (m : Machine) : Type 0 where
+  pub outset : IsOutset set at.outset at.walked
+  pub stage : IsStage set.axes at.outset.outlook at.stage
+  pub unloaded : at.stage.from ≡ 2 ^ set.axes
+  pub deep : set.rules.greatest set.plan ≤ at.stage.cell.level + at.levels
+  pub ahead : at.stage.ahead ≡ walked_cells at.outset.outlook.axes at.outset.outlook.way at.outset.outlook.walks at.levels at.stage.cell ++ at.rest
+  pub holds : Holds set at.outset at.stage at.working at.places
+  pub takes : MayBegin at.outset.outlook at.levels at.stage.cell at.beneath at.cells_beneath at.places
+  pub image : image_of set at.outset at.stage.parent at.working at.places ≡ m
+
+-- It was walked, and left this working state: the machine is its image again, with what the cell gives on top of each stack.
+pub record HasWalked {Plan : Type 0} (set : Setting Plan) (at : Moment) (working : Working) (m : Machine) : Type 0 where
+  pub places : Tokens
+  pub holds : Holds set at.outset (record at.stage { ahead = at.rest }) working places
+  pub gives : HasEnded at.outset.outlook at.levels at.stage.cell at.beneath at.cells_beneath at.places places
+  pub image : image_of set at.outset at.stage.parent working places ≡ m
+
+abbrev pub CellEndsAlike : {Plan : Type 0} → Setting Plan → Moment → Ending Working → Ending Machine → Type 0
+CellEndsAlike set at (done working) (done m) = HasWalked set at working m
+CellEndsAlike set at (done working) (halts cause) = ⊥
+CellEndsAlike set at (done working) stuck = ⊥
+CellEndsAlike set at (halts cause) (done m) = ⊥
+CellEndsAlike set at (halts cause) (halts other) = cause ≡ other
+CellEndsAlike set at (halts cause) stuck = ⊥
+CellEndsAlike set at stuck other = ⊥
+
+-- A push of the walk of a cell is on a stack that is no input, and leaves it no longer than it was as the traversal began,
+-- with the corners of as many cells as may be walked.
+pub record IsBrief {Plan : Type 0} (set : Setting Plan) (at : Moment) (push : Push) : Type 0 where
+  pub there : push.stack < (if push.of_cell then 2 else 10)
+  pub apart : push.stack ≢ (if push.of_cell then cell_input_stack at.outset.outlook.swapped else input_stack at.outset.outlook.swapped)
+  pub few : push.length ≤ (if push.of_cell then at.outset.cell_lens push.stack else at.outset.lens push.stack) + 2 ^ set.axes * set.max_cells + 1
+
+-- the walk of a cell on stacks is the walk by address: it adds the same text, and ends alike
+pub record IsCellWalked {Plan : Type 0} (set : Setting Plan) (at : Moment) (course : Course Machine) : Type 0 where
+  pub text : course.text ≡ (model.walk_cell set at.levels at.stage.parent at.stage.cell at.working).text
+  pub ending : CellEndsAlike set at (model.walk_cell set at.levels at.stage.parent at.stage.cell at.working).ending course.ending
+  pub log : AllByRecursion (IsBrief set at) course.log
+
+abbrev pub LawOfAFace : Type 0 → Type 0
+LawOfAFace Plan = (set : Setting Plan) (at : Moment) (m : Machine) → MayWalk set at m
+    → IsCellWalked set at (machine.walk_cell set (ports_of at.outset.outlook.swapped) (suc at.levels) at.stage.cell m)
