@@ -1,8 +1,7 @@
 -- A traversal of a grid in depots answers by the walk by address.
-use Rattle.std.proofs.Common.{◌≡◌, ◌⊎◌, ℕ, ℤ, zero, suc, ◌+◌, ◌^◌, ◌<◌, ◌≤◌, Bool, true, false, not, ◌==◌, List, [], ◌∷◌, Result, Ok, Err, refl, sym, subst, ap, ◌∙◌, map, length, get_or, arith}
-use Rattle.std.specs.Prelude.{Contains, IfOk, if◌then◌else◌}
+use Rattle.std.proofs.Common.{◌≡◌, ℕ, ℤ, zero, suc, ◌+◌, ◌*◌, ◌^◌, ◌≤◌, Bool, true, List, [], ◌∷◌, Result, Ok, Err, refl, sym, subst, ap, ◌∙◌, arith}
+use Rattle.std.specs.Prelude.{Contains, IfOk}
 use Rattle.std.specs.List.{AllByRecursion}
-use Rattle.std.proofs.lemmas.Bool.{ne_eqb}
 use Rattle.pe_base.specs.declared.tally.Tally.{Tally}
 use Rattle.pe_base.specs.Acts.Effects.{Rules, AreLawful}
 use Rattle.pe_base.specs.Acts.Settings.{AreLevels, IsCellLimit}
@@ -12,35 +11,21 @@ use Rattle.pe_base.specs.Walk.Working.{no_tally, begun, ended as ended_of}
 use Rattle.pe_base.specs.Walk.Grids.{Grid}
 use Rattle.pe_base.specs.Walk.Walk as model
 use Rattle.pe_base.proofs.Walk.Courses.{mapped-done}
-use Rattle.pe_stacks.specs.declared.record.Vertex.{Vertex}
-use Rattle.pe_stacks.specs.declared.record.CellRec.{CellRec}
 use Rattle.pe_stacks.specs.declared.grid.Grid.{Grid as Handle}
 use Rattle.pe_stacks.specs.Holdings.{Holdings, CountsWithin}
-use Rattle.pe_mapping.specs.Held.{Held, Told, Adds, AddsPart, max_level}
+use Rattle.pe_mapping.specs.Held.{Held, Adds, AddsPart, max_level}
 use Rattle.pe_mapping.specs.Sights.{Numbers, seen_vertex, seen_cell}
 use Rattle.pe_hang.specs.InHand.{setting_of, map_holdings}
-use Rattle.pe_hang.specs.Follows.{is_fit, Fits, Found, IsOverfull, HasOverfull, Failure, halted, unwritten, wanting, unheard_of, Follows, Does, FailsToTell, read_by}
-use Rattle.pe_hang.proofs.OnStacks.{stack_at-map}
+use Rattle.pe_hang.specs.Follows.{is_fit, Fits, Found, HasOverfull, Failure, halted, unwritten, wanting, unheard_of, Follows, Does, read_by}
 use Rattle.pe_walk.specs.Machine.{Machine}
 use Rattle.pe_walk.specs.Machine as machine
 use Rattle.pe_walk.specs.Gridded.{HoldsGrid, MayTurn, HasTurned, EndAlike, IsShort, IsWalked, ports_of}
 use Rattle.pe_walk.specs.InHand.{machine_between}
 use Rattle.pe_walk.specs.Outlooks.{outlook}
 use Rattle.pe_walk.proofs.Simulation.Answers.{stacks_are_addresses}
-use Rattle.pe_walk.proofs.Simulation.Tallied.Alike.{CountAlike, is_seen, alike-sym, exact-alike}
+use Rattle.pe_walk.proofs.Simulation.Tallied.Alike.{CountAlike, is_seen, alike-sym, within-alike, raises-alike, exact-alike}
 use Rattle.pe_walk.proofs.Simulation.Tallied.Traversals.{turns_are_exact}
-use Rattle.pe_walk.specs.Traversing.{Stores, HoldIt, MayTraverse, IsAdvanced, LacksRoom, Traverses, Answers}
-
--- counts of stacks are those of what is seen of them
-counts_seen : {X Y : Type 0} (f : X → Y) (held : Holdings X) (n : ℕ) → CountsWithin held n → CountsWithin (map_holdings f held) n
-counts_seen f held n counts = record {
-  fresh = counts.fresh;
-  spent = counts.spent;
-  out = counts.out;
-  most = counts.most;
-  pushes = λ s. subst (λ stack. stack.pushes ≤ n) (sym (stack_at-map f held s)) (counts.pushes s);
-  pops = λ s. subst (λ stack. stack.pops ≤ n) (sym (stack_at-map f held s)) (counts.pops s);
-}
+use Rattle.pe_walk.specs.Traversing.{Stores, MayTraverse, IsAdvanced, LacksRoom, Traverses, Answers}
 
 -- a traversal of a grid that depots hold may begin
 pub may_turn : {Plan V C : Type 0} (numbers : Numbers V C) (rules : Rules Plan) (mapping : Held Plan) (start_level max_cells levels : ℕ) (depots : Stores V C) (handle : Handle C) (grid : Grid)
@@ -67,8 +52,8 @@ may_turn numbers rules mapping start_level max_cells levels depots handle grid l
     root = h.root;
     list = h.list;
   };
-  counts = counts_seen (seen_vertex numbers.vertex) depots.vertices (2 ^ 60) counts;
-  cell_counts = counts_seen (seen_cell numbers.cell) depots.cells (2 ^ 60) cell_counts;
+  counts = within-alike depots.vertices (map_holdings (seen_vertex numbers.vertex) depots.vertices) (2 ^ 60) (is_seen (seen_vertex numbers.vertex) depots.vertices) counts;
+  cell_counts = within-alike depots.cells (map_holdings (seen_cell numbers.cell) depots.cells) (2 ^ 60) (is_seen (seen_cell numbers.cell) depots.cells) cell_counts;
   tally = refl;
 }
 
@@ -136,6 +121,8 @@ module _ {Plan V C : Type 0} (numbers : Numbers V C) (set : Setting Plan) (grid 
         traffic = exact-alike (outlook set.start_level grid handle.swapped) grid.greatest begins.vertices (after_of answer).vertices begins.cells (after_of answer).cells before.vertices after.vertices before.cells after.cells answer.1
             (unseen (seen_vertex numbers.vertex) before.vertices) (unseen (seen_vertex numbers.vertex) after.vertices) (unseen (seen_cell numbers.cell) before.cells) (unseen (seen_cell numbers.cell) after.cells) exact.traffic;
         few = exact.few;
+        rises = raises-alike begins.vertices (after_of answer).vertices before.vertices after.vertices (64 * (answer.1.cells + 1)) (unseen (seen_vertex numbers.vertex) before.vertices) (unseen (seen_vertex numbers.vertex) after.vertices) exact.rises;
+        cells_rise = raises-alike begins.cells (after_of answer).cells before.cells after.cells (64 * (answer.1.cells + 1)) (unseen (seen_cell numbers.cell) before.cells) (unseen (seen_cell numbers.cell) after.cells) exact.cells_rise;
       }
     where
       unseen : {X Y : Type 0} (f : X → Y) (held : Holdings X) → CountAlike (map_holdings f held) held

@@ -6,14 +6,14 @@
 --     wanting      a part of its text was added; of a mapping that is sure, some stack lacked room
 use Rattle.std.specs.Prelude.{◌≡◌, ◌≢◌, ◌⊎◌, ℕ, ◌+◌, ◌*◌, ◌^◌, ◌<◌, ◌≤◌, Bool, true, not, if◌then◌else◌, Result, Ok, Err}
 use Rattle.pe_base.specs.declared.tally.Tally.{Tally}
-use Rattle.pe_base.specs.Walk.Course.{Ending, done, halts, Course}
+use Rattle.pe_base.specs.Walk.Course.{done, halts, Course}
 use Rattle.pe_base.specs.Walk.Core.{Setting}
 use Rattle.pe_base.specs.Walk.Working.{no_tally}
 use Rattle.pe_base.specs.Walk.Grids.{Grid, IsWellFormed}
 use Rattle.pe_stacks.specs.declared.record.Vertex.{Vertex}
 use Rattle.pe_stacks.specs.declared.record.CellRec.{CellRec}
 use Rattle.pe_stacks.specs.declared.grid.Grid.{Grid as Handle}
-use Rattle.pe_stacks.specs.Holdings.{Holdings}
+use Rattle.pe_stacks.specs.Holdings.{Holdings, RaisesCounts}
 use Rattle.pe_stacks.specs.Grid.{input_stack, cell_input_stack}
 use Rattle.pe_mapping.specs.Held.{Held, Told, AddsPart}
 use Rattle.pe_mapping.specs.Sights.{Numbers}
@@ -58,7 +58,7 @@ pub record LacksRoom {Plan : Type 0} (set : Setting Plan) (grid : Grid) (swapped
   pub few : (if of_cell then found.cells stack else found.vertices stack) < 2 ^ set.axes * set.max_cells
 
 -- The walk is done with this grid, and the depots hold it. They have moved just what the tally counts, and the cells are no
--- more than the vertices allow.
+-- more than the vertices allow. No count rises by more than 64 for each cell, and once more.
 pub record Traverses {Plan V C : Type 0} (numbers : Numbers V C) (set : Setting Plan) (grid : Grid) (swapped : Bool) (course : Course (Grid × Tally)) (told : Told) (before : Stores V C) (mapping : Held Plan) (after : Stores V C) (answer : Handle C × Tally) : Type 0 where
   pub next : Grid
   pub does : Does course (done (next, answer.1)) told mapping.told
@@ -66,6 +66,8 @@ pub record Traverses {Plan V C : Type 0} (numbers : Numbers V C) (set : Setting 
   pub holds : HoldIt numbers mapping after answer.0 next
   pub traffic : ExactTraffic (outlook set.start_level grid swapped) grid.greatest before.vertices after.vertices before.cells after.cells answer.1
   pub few : answer.1.cells ≤ most_cells grid.axes (answer.1.read + answer.1.created)
+  pub rises : RaisesCounts before.vertices after.vertices (64 * (answer.1.cells + 1))
+  pub cells_rise : RaisesCounts before.cells after.cells (64 * (answer.1.cells + 1))
 
 -- a part of the text was added, and there was no memory
 pub record WantsRoom {Plan : Type 0} (set : Setting Plan) (grid : Grid) (swapped : Bool) (course : Course (Grid × Tally)) (old : Found) (new : Told) : Type 0 where

@@ -230,7 +230,8 @@ pub fn stacks_are_addresses<E: Effects>()
     ensures same { StacksAreAddresses E.Plan }
 {}
 
-/// A traversal counts what is foreseen of it, by address and on stacks, and moves just what it counts.
+/// A traversal counts what is foreseen of it, by address and on stacks, and moves just what it counts. No count of a depot
+/// rises by more than 64 for each cell, and once more.
 pub fn turns_are_exact<E: Effects>()
     ensures tally { TallyIsForeseen E.Plan }
     ensures exact { TurnsAreExact E.Plan }

@@ -1,7 +1,7 @@
 -- The counts of a depot do not depend on what it holds.
 use Rattle.std.proofs.Common.{◌≡◌, ℕ, ◌+◌, ◌*◌, ◌^◌, max, refl, sym, ap, ap₂, ◌∙◌, arith}
 use Rattle.pe_base.specs.declared.tally.Tally.{Tally}
-use Rattle.pe_stacks.specs.Holdings.{Holdings, stack_at}
+use Rattle.pe_stacks.specs.Holdings.{Holdings, stack_at, CountsWithin, RaisesCounts}
 use Rattle.pe_stacks.specs.Grid.{input_stack, output_stack, cell_input_stack, cell_output_stack}
 use Rattle.pe_hang.specs.InHand.{map_holdings}
 use Rattle.pe_hang.proofs.OnStacks.{stack_at-map}
@@ -36,6 +36,20 @@ alike-sym same = record {
   pops = λ s. sym (same.pops s);
   pushes = λ s. sym (same.pushes s);
 }
+
+-- so the counts of one are bounded where those of the other are, and rise as they do
+pub within-alike : {X Y : Type 0} (a : Holdings X) (b : Holdings Y) (n : ℕ) → CountAlike a b → CountsWithin a n → CountsWithin b n
+within-alike a b n same counts = record {
+  fresh = omega (arith, same.fresh, counts.fresh);
+  spent = omega (arith, same.spent, counts.spent);
+  out = omega (arith, same.out, counts.out);
+  most = omega (arith, same.most, counts.most);
+  pushes = λ s. omega (arith, same.pushes s, counts.pushes s);
+  pops = λ s. omega (arith, same.pops s, counts.pops s);
+}
+
+pub raises-alike : {X Y : Type 0} (a a' : Holdings X) (b b' : Holdings Y) (k : ℕ) → CountAlike a b → CountAlike a' b' → RaisesCounts a a' k → RaisesCounts b b' k
+raises-alike a a' b b' k same same' rises = record { within = λ n counts. within-alike a' b' (n + k) same' (rises.within n (within-alike b a n (alike-sym same) counts)) }
 
 pub exact-alike : {X Y V W : Type 0} (o : Outlook) (greatest : ℕ) (vertices vertices' : Holdings X) (cells cells' : Holdings Y) (seen seen' : Holdings V) (seen_cells seen_cells' : Holdings W) (tally : Tally)
     → CountAlike vertices seen → CountAlike vertices' seen' → CountAlike cells seen_cells → CountAlike cells' seen_cells'

@@ -1,5 +1,5 @@
 -- What a traversal counts and moves.
-use Rattle.std.proofs.Common.{◌≡◌, ℕ, zero, suc, ◌+◌, ◌-◌, ◌*◌, ◌^◌, ◌≤◌, Bool, true, false, List, [], ◌∷◌, length, Some, refl, sym, ap, ap₂, subst, ◌∙◌, append-nil, arith}
+use Rattle.std.proofs.Common.{◌≡◌, ℕ, ℤ, zero, suc, ◌+◌, ◌-◌, ◌*◌, ◌^◌, ◌≤◌, Bool, true, false, List, [], ◌∷◌, length, Some, refl, sym, ap, ap₂, subst, ◌∙◌, append-nil, arith}
 use Rattle.std.specs.Prelude.{nat_lt}
 use Rattle.std.specs.List.{flat_map, range_with_len}
 use Rattle.std.proofs.lemmas.List.{length-map}
@@ -17,11 +17,9 @@ use Rattle.pe_base.specs.Walk.Working.{Working, cell_at, record_at, no_tally, be
 use Rattle.pe_base.specs.Walk.Walk as walks
 use Rattle.pe_base.specs.Walk.Streams.{walked_cells}
 use Rattle.pe_base.proofs.Walk.Courses.{mapped-done, then-done, done_same}
-use Rattle.pe_stacks.specs.Holdings.{Holdings, stack_at, given_up}
-use Rattle.pe_stacks.specs.Grid.{input_stack, output_stack, cell_input_stack, cell_output_stack}
+use Rattle.pe_stacks.specs.Holdings.{Holdings, given_up}
 use Rattle.pe_hang.specs.InHand.{map_holdings}
 use Rattle.pe_hang.specs.Moves.{allowed}
-use Rattle.pe_hang.proofs.OnStacks.{stack_at-map}
 use Rattle.pe_walk.specs.Machine.{Machine, Ports, with_parents}
 use Rattle.pe_walk.specs.Machine as machine
 use Rattle.pe_walk.specs.Tokens.{Outlook, Tokens, ended, numbers, each_some, given_up_for}
@@ -34,7 +32,10 @@ use Rattle.pe_walk.specs.FewCells.{most_cells}
 use Rattle.pe_walk.specs.TurnTraffic.{TallyIsForeseen, TurnsAreExact}
 use Rattle.pe_walk.proofs.Trees.{root_is_cell}
 use Rattle.pe_walk.proofs.GridCells.{traffic_of_grids}
+use Rattle.pe_stacks.proofs.Raising.{raises_at_most}
+use Rattle.pe_walk.specs.Traffic.{entered_cells}
 use Rattle.pe_walk.proofs.Tokens.Apart.{map_some}
+use Rattle.pe_walk.proofs.Tokens.Rises.{counts_of_a_traversal}
 use Rattle.pe_walk.proofs.Tokens.Traversals.{whole_traversal}
 use Rattle.pe_walk.proofs.Simulation.Matching.{ending_map}
 use Rattle.pe_walk.proofs.Simulation.Leaves.{image_of, record_of, at_root}
@@ -46,7 +47,7 @@ use Rattle.pe_walk.proofs.Simulation.Cells.Children.{kids, kids_stages, between}
 use Rattle.pe_walk.proofs.Simulation.Cells.Roots.{rooted, root_goes}
 use Rattle.pe_walk.proofs.Simulation.Cells.Simulated.{cell_simulated, traversal_simulated}
 use Rattle.pe_walk.proofs.Simulation.Tallied.Steps.{plain_counted}
-use Rattle.pe_walk.proofs.Simulation.Tallied.Alike.{exact-alike, is_seen}
+use Rattle.pe_walk.proofs.Simulation.Tallied.Alike.{CountAlike, is_seen, exact-alike, raises-alike}
 use Rattle.pe_walk.proofs.Simulation.Tallied.Walks.{any_room, roomy, walk_counted, children_counted}
 
 -- what is given up one after another
@@ -151,9 +152,17 @@ tally_is_foreseen set grid swapped m after may q =
     let at = mapped-done (middle set grid swapped m may (cornered set grid swapped m may)) (λ w. (ended_of w grid, w.tally)) after (ap (λ (c : Course (Grid × Tally)). c.ending) (sym (model_is set grid swapped m may)) ∙ q) in
     ap (λ (x : Grid × Tally). x.1) at.2 ∙ middle_counted set grid swapped m may at.0 at.1
 
--- so does the machine
-pub turns_are_exact : {Plan : Type 0} → TurnsAreExact Plan
-turns_are_exact set grid swapped m after may q =
+-- The depots that a machine has after a traversal are the images of the places' depots, and its tally is the one foreseen.
+record EndsAs {Plan : Type 0} (set : Setting Plan) (grid : Grid) (swapped : Bool) (places : Tokens) (after : Machine) : Type 0 where
+  seen_vertex : Place → VertexRecord
+  seen_cell : Place → List ℤ
+  vertices : after.vertices ≡ map_holdings seen_vertex places.vertices
+  cells : after.cells ≡ map_holdings seen_cell places.cells
+  tally : after.tally ≡ foreseen_tally set.start_level grid swapped
+
+ends_as : {Plan : Type 0} (set : Setting Plan) (grid : Grid) (swapped : Bool) (m after : Machine) (may : MayTurn set grid swapped m) → (machine.traverse set (ports_of swapped) grid.greatest m).ending ≡ done after
+    → EndsAs set grid swapped (whole set grid swapped m may).0 after
+ends_as set grid swapped m after may q =
     let e = outset_of set grid swapped m in
     let o = outlook set.start_level grid swapped in
     let its = is set grid swapped m may in
@@ -169,29 +178,51 @@ turns_are_exact set grid swapped m after may q =
     let closed = then-done middle_machine (λ x. machine.give_up_all set (ports_of swapped) x.family.parents (with_parents [] x)) after (ap (λ (c : Course Machine). c.ending) (sym (machine_is set grid swapped m may)) ∙ q) in
     let seen = from_image image (middle set grid swapped m may begun).ending closed.0 (sym closed.1 ∙ steps.same.ending) in
     let gave = gave_up set (ports_of swapped) closed.0.family.parents (with_parents [] closed.0) after closed.2 in
-    let places = tokens_of grid swapped m in
-    let tally : after.tally ≡ foreseen_tally set.start_level grid swapped = gave.tally ∙ ap (λ (x : Machine). x.tally) seen.2 ∙ middle_counted set grid swapped m may seen.0 seen.1 in
-    let traverse_places = may_traverse set grid swapped m may in
-    let exact = traffic_of_grids set.start_level grid swapped places (whole set grid swapped m may).0 may.fits.start_level may.formed (record { vertices = traverse_places.stacks; cells = traverse_places.cell_stacks }) (whole set grid swapped m may).1 in
     let many : length closed.0.family.parents ≡ length (numbers o) =
     ap (λ (x : Machine). length x.family.parents) seen.2 ∙ length-map (range_with_len 0 (2 ^ set.axes)) (record_at set.axes seen.0 root) ∙ ap (λ axes. length (range_with_len 0 (2 ^ axes))) may.fits.axes in
-    let vertices : after.vertices ≡ map_holdings (record_of set e seen.0 t) (whole set grid swapped m may).0.vertices =
-    gave.vertices ∙ ap₂ given_times many (ap (λ (x : Machine). x.vertices) seen.2)
-    ∙ sym (given-image (record_of set e seen.0 t) (length (numbers o)) t.vertices)
-    ∙ ap (map_holdings (record_of set e seen.0 t)) (sym (given-all (numbers o) t.vertices) ∙ ap (λ (x : Tokens). x.vertices) tokens_run.2) in
-    let cells : after.cells ≡ map_holdings (cell_at seen.0) (whole set grid swapped m may).0.cells =
-    gave.cells ∙ ap (λ (x : Machine). x.cells) seen.2 ∙ ap (λ (x : Tokens). map_holdings (cell_at seen.0) x.cells) tokens_run.2 in
-    let mapped = exact-alike o grid.greatest places.vertices (whole set grid swapped m may).0.vertices places.cells (whole set grid swapped m may).0.cells
-    (map_holdings (record_of set e (begun_of set.traversal grid) places) places.vertices) (map_holdings (record_of set e seen.0 t) (whole set grid swapped m may).0.vertices)
-    (map_holdings (cell_at (begun_of set.traversal grid)) places.cells) (map_holdings (cell_at seen.0) (whole set grid swapped m may).0.cells) (foreseen_tally set.start_level grid swapped)
-    (is_seen _ _) (is_seen _ _) (is_seen _ _) (is_seen _ _) exact.exact in
     record {
-      tally = tally;
-      traffic = subst (λ (a : Holdings VertexRecord). ExactTraffic o grid.greatest a after.vertices m.cells after.cells after.tally) (image_vertices set grid swapped m may)
-          (subst (λ a. ExactTraffic o grid.greatest (map_holdings (record_of set e (begun_of set.traversal grid) places) places.vertices) a m.cells after.cells after.tally) (sym vertices)
-          (subst (λ a. ExactTraffic o grid.greatest (map_holdings (record_of set e (begun_of set.traversal grid) places) places.vertices) (map_holdings (record_of set e seen.0 t) (whole set grid swapped m may).0.vertices) a after.cells after.tally) (image_cells set grid swapped m may)
-          (subst (λ a. ExactTraffic o grid.greatest (map_holdings (record_of set e (begun_of set.traversal grid) places) places.vertices) (map_holdings (record_of set e seen.0 t) (whole set grid swapped m may).0.vertices) (map_holdings (cell_at (begun_of set.traversal grid)) places.cells) a after.tally) (sym cells)
-          (subst (λ a. ExactTraffic o grid.greatest (map_holdings (record_of set e (begun_of set.traversal grid) places) places.vertices) (map_holdings (record_of set e seen.0 t) (whole set grid swapped m may).0.vertices)
-          (map_holdings (cell_at (begun_of set.traversal grid)) places.cells) (map_holdings (cell_at seen.0) (whole set grid swapped m may).0.cells) a) (sym tally) mapped))));
-      few = subst (λ (a : Tally). a.cells ≤ most_cells grid.axes (a.read + a.created)) (sym tally) exact.few;
+      seen_vertex = record_of set e seen.0 t;
+      seen_cell = cell_at seen.0;
+      vertices = gave.vertices ∙ ap₂ given_times many (ap (λ (x : Machine). x.vertices) seen.2)
+          ∙ sym (given-image (record_of set e seen.0 t) (length (numbers o)) t.vertices)
+          ∙ ap (map_holdings (record_of set e seen.0 t)) (sym (given-all (numbers o) t.vertices) ∙ ap (λ (x : Tokens). x.vertices) tokens_run.2);
+      cells = gave.cells ∙ ap (λ (x : Machine). x.cells) seen.2 ∙ ap (λ (x : Tokens). map_holdings (cell_at seen.0) x.cells) tokens_run.2;
+      tally = gave.tally ∙ ap (λ (x : Machine). x.tally) seen.2 ∙ middle_counted set grid swapped m may seen.0 seen.1;
     }
+
+-- so does the machine
+pub turns_are_exact : {Plan : Type 0} → TurnsAreExact Plan
+turns_are_exact set grid swapped m after may q =
+    let o = outlook set.start_level grid swapped in
+    let places = tokens_of grid swapped m in
+    let places' = (whole set grid swapped m may).0 in
+    let run = (whole set grid swapped m may).1 in
+    let ends = ends_as set grid swapped m after may q in
+    let may_go = may_traverse set grid swapped m may in
+    let dim = dim_of set grid swapped m may in
+    let exact = traffic_of_grids set.start_level grid swapped places places' may.fits.start_level may.formed (record { vertices = may_go.stacks; cells = may_go.cell_stacks }) run in
+    let rises = counts_of_a_traversal o (walked set.start_level grid) grid.greatest places places' dim (grown_of set grid swapped m may) may_go.stacks may_go.cell_stacks run in
+    let entered = length (entered_cells o grid.greatest) in
+    let counted : after.tally.cells ≡ length (entered_cells o grid.greatest) = ap (λ (tally : Tally). tally.cells) ends.tally ∙ exact.exact.cell_count in
+    let before : CountAlike places.vertices m.vertices = subst (CountAlike places.vertices) (image_vertices set grid swapped m may) (is_seen _ places.vertices) in
+    let then_so : CountAlike places'.vertices after.vertices = subst (CountAlike places'.vertices) (sym ends.vertices) (is_seen _ places'.vertices) in
+    let cells_before : CountAlike places.cells m.cells = subst (CountAlike places.cells) (image_cells set grid swapped m may) (is_seen _ places.cells) in
+    let cells_then : CountAlike places'.cells after.cells = subst (CountAlike places'.cells) (sym ends.cells) (is_seen _ places'.cells) in
+    record {
+      tally = ends.tally;
+      traffic = exact-alike o grid.greatest places.vertices places'.vertices places.cells places'.cells m.vertices after.vertices m.cells after.cells after.tally before then_so cells_before cells_then
+          (subst (λ (tally : Tally). ExactTraffic o grid.greatest places.vertices places'.vertices places.cells places'.cells tally) (sym ends.tally) exact.exact);
+      few = subst (λ (a : Tally). a.cells ≤ most_cells grid.axes (a.read + a.created)) (sym ends.tally) exact.few;
+      rises = raises-alike places.vertices places'.vertices m.vertices after.vertices (64 * (after.tally.cells + 1)) before then_so
+          (raises_at_most places.vertices places'.vertices (2 ^ grid.axes * (entered + 1)) (64 * (after.tally.cells + 1)) (few_each grid.axes entered after.tally.cells dim.1 counted) rises.vertices);
+      cells_rise = raises-alike places.cells places'.cells m.cells after.cells (64 * (after.tally.cells + 1)) cells_before cells_then
+          (raises_at_most places.cells places'.cells entered (64 * (after.tally.cells + 1)) (omega (arith, counted)) (rises.cells (omega (arith, may.holds.no_cell_out))));
+    }
+  where
+    few_each : (n a b : ℕ) → n ≤ 4 → b ≡ a → 2 ^ n * (a + 1) ≤ 64 * (b + 1)
+    few_each zero a b few e = omega (arith, e)
+    few_each (suc zero) a b few e = omega (arith, e)
+    few_each (suc (suc zero)) a b few e = omega (arith, e)
+    few_each (suc (suc (suc zero))) a b few e = omega (arith, e)
+    few_each (suc (suc (suc (suc zero)))) a b few e = omega (arith, e)
+    few_each (suc (suc (suc (suc (suc n))))) a b few e = absurd (omega (arith, few))
