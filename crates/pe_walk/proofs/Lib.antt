@@ -54,3 +54,5 @@ pub mod AnyCells
 pub mod CellWalks
 -- the walks of the children of a cell, one after another
 pub mod ChildWalks
+-- the walk of a cell, as a call does it
+pub mod WalkedCells

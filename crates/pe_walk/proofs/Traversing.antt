@@ -71,7 +71,7 @@ fits_of set grid swapped course is = by (model.traverse set grid).ending course.
     by stuck other alike = absurd alike
 
 -- what holds of all of a log holds of each push
-of_all : (P : Push → Type 0) (log : List Push) (push : Push) → AllByRecursion P log → Contains log push → P push
+pub of_all : (P : Push → Type 0) (log : List Push) (push : Push) → AllByRecursion P log → Contains log push → P push
 of_all P [] push each (k, few, at) = absurd (omega (arith, few))
 of_all P (first ∷ log) push each (zero, few, at) = subst P at each.0
 of_all P (first ∷ log) push each (suc k, few, at) = of_all P log push each.1 (k, omega (arith, few), at)

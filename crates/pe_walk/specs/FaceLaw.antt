@@ -1,6 +1,6 @@
 -- The law of a face: the walk of a cell with all below it, on stacks, is the walk by address. What arrives at the cell's faces
 -- comes off their stacks, and what leaves at its faces goes on them; so with the streams; all beneath is as it was.
-use Rattle.std.specs.Prelude.{◌≡◌, ◌≢◌, ℕ, suc, ◌+◌, ◌*◌, ◌^◌, ◌<◌, ◌≤◌, Bool, List, ◌++◌, if◌then◌else◌}
+use Rattle.std.specs.Prelude.{◌≡◌, ◌≢◌, ℕ, suc, ◌+◌, ◌*◌, ◌^◌, ◌<◌, ◌≤◌, Bool, true, List, ◌++◌, if◌then◌else◌, Result, Ok, Err}
 use Rattle.std.specs.List.{AllByRecursion}
 use Rattle.pe_base.specs.declared.place.Place.{Place}
 use Rattle.pe_base.specs.Walk.Course.{Ending, done, halts, stuck, Push, Course}
@@ -9,6 +9,8 @@ use Rattle.pe_base.specs.Walk.Working.{Working}
 use Rattle.pe_base.specs.Walk.Streams.{walked_cells}
 use Rattle.pe_base.specs.Walk.Walk as model
 use Rattle.pe_stacks.specs.Grid.{input_stack, cell_input_stack}
+use Rattle.pe_mapping.specs.Held.{Told, AddsPart}
+use Rattle.pe_hang.specs.Follows.{Found, Failure, halted, unwritten, wanting, unheard_of, IsOverfull, Does, FailsToTell}
 use Rattle.pe_walk.specs.Machine.{Machine}
 use Rattle.pe_walk.specs.Machine as machine
 use Rattle.pe_walk.specs.Tokens.{Tokens}
@@ -75,3 +77,29 @@ pub record IsCellWalked {Plan : Type 0} (set : Setting Plan) (at : Moment) (cour
 abbrev pub LawOfAFace : Type 0 → Type 0
 LawOfAFace Plan = (set : Setting Plan) (at : Moment) (m : Machine) → MayWalk set at m
     → IsCellWalked set at (machine.walk_cell set (ports_of at.outset.outlook.swapped) (suc at.levels) at.stage.cell m)
+
+-- # As a call does it
+-- the moment is that of these settings, at this cell, with the input stacks named
+pub record IsAt (greatest : ℕ) (place : Place) (stream cell_stream : ℕ) (at : Moment) : Type 0 where
+  pub cell : at.stage.cell ≡ place
+  pub levels : place.level + at.levels ≡ greatest
+  pub input : stream ≡ input_stack at.outset.outlook.swapped
+  pub cell_input : cell_stream ≡ cell_input_stack at.outset.outlook.swapped
+
+-- the walk is done, and left this machine
+pub record WalksCell {Plan : Type 0} (set : Setting Plan) (at : Moment) (course : Course Working) (old new : Told) (m : Machine) : Type 0 where
+  pub working : Working
+  pub does : Does course (done working) old new
+  pub walked : HasWalked set at working m
+
+-- a part of the text was added, and there was no memory: of a mapping that is sure, some push had no room
+pub record WantsBriefRoom {Plan : Type 0} (set : Setting Plan) (at : Moment) (course : Course Working) (old : Found) (new : Told) : Type 0 where
+  pub told : AddsPart old.told course.text new
+  pub room : old.sure ≡ true → (push : Push) × IsBrief set at push × IsOverfull old push
+
+abbrev pub CellAnswers : {Plan A : Type 0} → Setting Plan → Moment → Course Working → Result A Failure → Found → Told → Machine → Type 0
+CellAnswers set at course (Ok it) old new m = WalksCell set at course old.told new m
+CellAnswers set at course (Err (halted cause)) old new m = Does course (halts cause) old.told new
+CellAnswers set at course (Err unwritten) old new m = FailsToTell course old.told new
+CellAnswers set at course (Err wanting) old new m = WantsBriefRoom set at course old new
+CellAnswers set at course (Err unheard_of) old new m = ⊥
