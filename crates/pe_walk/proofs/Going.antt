@@ -88,16 +88,16 @@ module _ {Plan V C : Type 0} (rules : Rules Plan) (numbers : Numbers V C) (setti
           (found_in old room) (found_in mid room) new.held.told (before.follows cells room) (goes-roomier before room)
           (subst (λ s. Follows (next s a) end answer (found_in mid room) new.held.told) (setting-same before) (behind.follows cells room));
       left = record {
-            count = behind.left.count ∙ before.left.count;
-            keeps = λ s. omega (arith, before.left.keeps s, behind.left.keeps s);
-            out = omega (arith, before.left.out, behind.left.out);
-          };
+        count = behind.left.count ∙ before.left.count;
+        keeps = λ s. omega (arith, before.left.keeps s, behind.left.keeps s);
+        out = omega (arith, before.left.out, behind.left.out);
+      };
       keeps = record {
-            plan = behind.keeps.plan ∙ before.keeps.plan;
-            dim = behind.keeps.dim ∙ before.keeps.dim;
-            sure = behind.keeps.sure ∙ before.keeps.sure;
-            lent = behind.keeps.lent ∙ before.keeps.lent;
-          };
+        plan = behind.keeps.plan ∙ before.keeps.plan;
+        dim = behind.keeps.dim ∙ before.keeps.dim;
+        sure = behind.keeps.sure ∙ before.keeps.sure;
+        lent = behind.keeps.lent ∙ before.keeps.lent;
+      };
       full = subst (λ axes. IsFull axes new.parents) before.keeps.dim behind.full;
       marks = behind.marks ∙ before.marks;
     }

@@ -84,8 +84,10 @@ module _ {Plan : Type 0} (set : Setting Plan) where
   -- the machine makes them likewise
   pub corners_made : (ports : Ports) (k n : ℕ) (its : List VertexRecord) (w : Working) (m : Machine) → m.family.list ≡ w.list → m.vertices.fresh + k < 2 ^ 63 → its ≡ map (record_at set.axes w root) (range_with_len k n)
       → machine.root_corners set ports k its m
-      ≡ at_once (map (record_at set.axes (model.root_corners set (down_from k) w) root) (range_with_len 0 (k + n)),
-          record m { vertices = lent_times k m.vertices; family = record m.family { list = (model.root_corners set (down_from k) w).list } })
+      ≡ at_once (
+        map (record_at set.axes (model.root_corners set (down_from k) w) root) (range_with_len 0 (k + n)),
+        record m { vertices = lent_times k m.vertices; family = record m.family { list = (model.root_corners set (down_from k) w).list } },
+      )
   corners_made ports zero n its w m list few same =
       ap₂ (λ vs l. at_once (vs, record m { family = record m.family { list = l } })) (same ∙ ap (λ z. map (record_at set.axes w root) (range_with_len 0 z)) (let e : n ≡ zero + n = omega arith in e)) list
   corners_made ports (suc k) n its w m list few same =
@@ -100,5 +102,7 @@ module _ {Plan : Type 0} (set : Setting Plan) where
       (same ∙ ap (λ z. map (record_at set.axes w root) (range_with_len z n)) (let e : suc k ≡ k + 1 = omega arith in e) ∙ map_same (record_at set.axes w root) (record_at set.axes (model.root_corner set k w) root) (range_with_len (k + 1) n) (Each-range (λ j. record_at set.axes w root j ≡ record_at set.axes (model.root_corner set k w) root j) (k + 1) n
       (λ j from to. ap (λ found. unwrap_or found (vertex_at w (corner set.axes root j))) (sym (root_put k w j
       ∙ ap (λ b. if b then Some (fresh_vertex set Hanging root (family_of set.axes w root)).0 else at_corner w.hanging root j) (ne_eqb k j (λ e. absurd (omega (arith, e, from))))))))))
-      ∙ ap (λ z. at_once (map (record_at set.axes (model.root_corners set (down_from k) (model.root_corner set k w)) root) (range_with_len 0 z),
-          record m { vertices = lent_times k (lent m.vertices); family = record m.family { list = (model.root_corners set (down_from k) (model.root_corner set k w)).list } })) (let e : k + suc n ≡ suc k + n = omega arith in e)
+      ∙ ap (λ z. at_once (
+        map (record_at set.axes (model.root_corners set (down_from k) (model.root_corner set k w)) root) (range_with_len 0 z),
+        record m { vertices = lent_times k (lent m.vertices); family = record m.family { list = (model.root_corners set (down_from k) (model.root_corner set k w)).list } },
+      )) (let e : k + suc n ≡ suc k + n = omega arith in e)

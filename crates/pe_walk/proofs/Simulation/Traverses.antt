@@ -126,7 +126,7 @@ module _ {Plan : Type 0} (set : Setting Plan) (grid : Grid) (swapped : Bool) (m 
   -- a traversal of the machine, with its steps grouped
   pub machine_is : machine.traverse set (ports_of swapped) grid.greatest m
       ≡ and_then (and_then (machine.plain set (ports_of swapped) BeginIteration (image_of set (outset_of set grid swapped m) root (cornered set grid swapped m may) (start set grid swapped m may)))
-          (λ x. and_then (each (machine.walk_cell set (ports_of swapped) (suc (grid.greatest - 1))) (children set.axes (way set) root) x) (machine.plain set (ports_of swapped) EndIteration)))
+      (λ x. and_then (each (machine.walk_cell set (ports_of swapped) (suc (grid.greatest - 1))) (children set.axes (way set) root) x) (machine.plain set (ports_of swapped) EndIteration)))
       (λ x. machine.give_up_all set (ports_of swapped) x.family.parents (with_parents [] x))
   machine_is =
       ap (λ n. machine.traverse set (ports_of swapped) n m) (sym deep)
@@ -138,10 +138,10 @@ module _ {Plan : Type 0} (set : Setting Plan) (grid : Grid) (swapped : Bool) (m 
       and_then (each (machine.walk_cell set (ports_of swapped) (suc (grid.greatest - 1))) (children set.axes (way set) root) x) (λ x.
       and_then (machine.plain set (ports_of swapped) EndIteration x) (λ x. machine.give_up_all set (ports_of swapped) x.family.parents (with_parents [] x))))) corners_image
       ∙ sym (
-        then-grouped (machine.plain set (ports_of swapped) BeginIteration first) (λ x. and_then (each (machine.walk_cell set (ports_of swapped) (suc (grid.greatest - 1))) (children set.axes (way set) root) x) (machine.plain set (ports_of swapped) EndIteration))
-            (λ x. machine.give_up_all set (ports_of swapped) x.family.parents (with_parents [] x))
-        ∙ ap (λ (next : Machine → Course Machine). and_then (machine.plain set (ports_of swapped) BeginIteration first) next)
-        (λ i x. (then-grouped (each (machine.walk_cell set (ports_of swapped) (suc (grid.greatest - 1))) (children set.axes (way set) root) x) (machine.plain set (ports_of swapped) EndIteration) (λ x. machine.give_up_all set (ports_of swapped) x.family.parents (with_parents [] x))) i)
+      then-grouped (machine.plain set (ports_of swapped) BeginIteration first) (λ x. and_then (each (machine.walk_cell set (ports_of swapped) (suc (grid.greatest - 1))) (children set.axes (way set) root) x) (machine.plain set (ports_of swapped) EndIteration))
+      (λ x. machine.give_up_all set (ports_of swapped) x.family.parents (with_parents [] x))
+      ∙ ap (λ (next : Machine → Course Machine). and_then (machine.plain set (ports_of swapped) BeginIteration first) next)
+      (λ i x. (then-grouped (each (machine.walk_cell set (ports_of swapped) (suc (grid.greatest - 1))) (children set.axes (way set) root) x) (machine.plain set (ports_of swapped) EndIteration) (λ x. machine.give_up_all set (ports_of swapped) x.family.parents (with_parents [] x))) i)
       )
     where
       first : Machine
@@ -161,11 +161,11 @@ module _ {Plan : Type 0} (set : Setting Plan) (grid : Grid) (swapped : Bool) (m 
   -- and the walk by address
   pub model_is : model.traverse set grid
       ≡ course_map (λ w. (ended_of w grid, w.tally)) (and_then (model.plain set BeginIteration (cornered set grid swapped m may))
-          (λ w. and_then (each (model.walk_cell set (grid.greatest - 1) root) (children set.axes (way set) root) w) (model.plain set EndIteration)))
+      (λ w. and_then (each (model.walk_cell set (grid.greatest - 1) root) (children set.axes (way set) root) w) (model.plain set EndIteration)))
   model_is =
       ap (λ t. course_map (λ w. (ended_of w grid, w.tally)) (model.walk_root (record set { traversal = t }) grid.greatest (begun_of t grid))) (sym may.fits.traversal)
       ∙ ap (λ ks. course_map (λ w. (ended_of w grid, w.tally)) (and_then (model.plain set BeginIteration (model.root_corners set ks (begun_of set.traversal grid)))
-          (λ w. and_then (each (model.walk_cell set (grid.greatest - 1) root) (children set.axes (way set) root) w) (model.plain set EndIteration)))) (reverse-range (2 ^ set.axes))
+      (λ w. and_then (each (model.walk_cell set (grid.greatest - 1) root) (children set.axes (way set) root) w) (model.plain set EndIteration)))) (reverse-range (2 ^ set.axes))
 
   -- how a traversal ends, once the last event has fired
   abbrev pub Closes : (Push → Type 0) → Type 0
@@ -210,18 +210,18 @@ module _ {Plan : Type 0} (set : Setting Plan) (grid : Grid) (swapped : Bool) (m 
       let whole = whole_traversal (outlook set.start_level grid swapped) (walked set.start_level grid) grid.greatest (tokens_of grid swapped m) (dim_of set grid swapped m may) (grown_of set grid swapped m may) (may_traverse set grid swapped m may) in
       let runs = map_some (ended (outlook set.start_level grid swapped)) (each_some (tokens.walk (outlook set.start_level grid swapped) (grid.greatest - 1)) (children grid.axes (outlook set.start_level grid swapped).way root) (start set grid swapped m may)) whole.0 whole.1 in
       let steps = traversal_simulated set (outset_of set grid swapped m) (walked set.start_level grid) (IsShort set grid swapped) (is_outset set grid swapped m may) room_of (grid.greatest - 1)
-          (cornered set grid swapped m may) (start set grid swapped m may) runs.0 (starts set grid swapped m may) runs.1 in
+      (cornered set grid swapped m may) (start set grid swapped m may) runs.0 (starts set grid swapped m may) runs.1 in
       let alike = end-alike swapped (IsShort set grid swapped) (λ w. image_of set (outset_of set grid swapped m) root w runs.0)
-          (and_then (model.plain set BeginIteration (cornered set grid swapped m may)) (λ w. and_then (each (model.walk_cell set (grid.greatest - 1) root) (children set.axes (way set) root) w) (model.plain set EndIteration)))
-          (and_then (machine.plain set (ports_of swapped) BeginIteration (image_of set (outset_of set grid swapped m) root (cornered set grid swapped m may) (start set grid swapped m may)))
-          (λ x. and_then (each (machine.walk_cell set (ports_of swapped) (suc (grid.greatest - 1))) (children set.axes (way set) root) x) (machine.plain set (ports_of swapped) EndIteration)))
-          (λ w. (ended_of w grid, w.tally)) (λ x. machine.give_up_all set (ports_of swapped) x.family.parents (with_parents [] x))
-          (middle-fits set (grid.greatest - 1) (cornered set grid swapped m may)) steps.same
-          (λ w ends. closes w runs.0 (steps.holds w ends) (subst (λ t. HasTraversed (outlook set.start_level grid swapped) grid.greatest (tokens_of grid swapped m) t) (sym runs.2) whole.2)) in
+      (and_then (model.plain set BeginIteration (cornered set grid swapped m may)) (λ w. and_then (each (model.walk_cell set (grid.greatest - 1) root) (children set.axes (way set) root) w) (model.plain set EndIteration)))
+      (and_then (machine.plain set (ports_of swapped) BeginIteration (image_of set (outset_of set grid swapped m) root (cornered set grid swapped m may) (start set grid swapped m may)))
+      (λ x. and_then (each (machine.walk_cell set (ports_of swapped) (suc (grid.greatest - 1))) (children set.axes (way set) root) x) (machine.plain set (ports_of swapped) EndIteration)))
+      (λ w. (ended_of w grid, w.tally)) (λ x. machine.give_up_all set (ports_of swapped) x.family.parents (with_parents [] x))
+      (middle-fits set (grid.greatest - 1) (cornered set grid swapped m may)) steps.same
+      (λ w ends. closes w runs.0 (steps.holds w ends) (subst (λ t. HasTraversed (outlook set.start_level grid swapped) grid.greatest (tokens_of grid swapped m) t) (sym runs.2) whole.2)) in
       record {
-          text = ap (λ c. c.text) machine_is ∙ alike.0 ∙ sym (ap (λ c. c.text) model_is);
-          ending = subst (λ (a : Ending (Grid × Tally)). EndAlike swapped a (machine.traverse set (ports_of swapped) grid.greatest m).ending) (sym (ap (λ c. c.ending) model_is))
-              (subst (λ (b : Ending Machine). EndAlike swapped (course_map (λ w. (ended_of w grid, w.tally)) (and_then (model.plain set BeginIteration (cornered set grid swapped m may))
-              (λ w. and_then (each (model.walk_cell set (grid.greatest - 1) root) (children set.axes (way set) root) w) (model.plain set EndIteration)))).ending b) (sym (ap (λ c. c.ending) machine_is)) alike.1);
+        text = ap (λ c. c.text) machine_is ∙ alike.0 ∙ sym (ap (λ c. c.text) model_is);
+        ending = subst (λ (a : Ending (Grid × Tally)). EndAlike swapped a (machine.traverse set (ports_of swapped) grid.greatest m).ending) (sym (ap (λ c. c.ending) model_is))
+            (subst (λ (b : Ending Machine). EndAlike swapped (course_map (λ w. (ended_of w grid, w.tally)) (and_then (model.plain set BeginIteration (cornered set grid swapped m may))
+            (λ w. and_then (each (model.walk_cell set (grid.greatest - 1) root) (children set.axes (way set) root) w) (model.plain set EndIteration)))).ending b) (sym (ap (λ c. c.ending) machine_is)) alike.1);
         log = by_recursion (IsShort set grid swapped) (machine.traverse set (ports_of swapped) grid.greatest m).log (subst (λ (c : Course Machine). Each (IsShort set grid swapped) c.log) (sym machine_is) alike.2);
       }

@@ -89,7 +89,7 @@ loads_below o walked greatest dim grown =
     let deep : greatest ≡ suc (greatest - 1) = omega (arith, grown.walks_within root walks) in
     let all : loads_of o greatest root ≡ reverse (corner_touches o.axes root) ++ rest = ap (λ n. loads_of o n root) deep in
     let cells : walked_cells o.axes o.way o.walks greatest root ≡ root ∷ entered_cells o greatest =
-            ap (λ n. walked_cells o.axes o.way o.walks n root) deep ∙ ap (λ b. root ∷ flat_map (walked_cells o.axes o.way o.walks (greatest - 1)) (if_walks o.axes o.way o.walks b (children o.axes o.way root))) walks in
+    ap (λ n. walked_cells o.axes o.way o.walks n root) deep ∙ ap (λ b. root ∷ flat_map (walked_cells o.axes o.way o.walks (greatest - 1)) (if_walks o.axes o.way o.walks b (children o.axes o.way root))) walks in
     let count = loads_length o greatest root ∙ ap (λ cs. 2 ^ o.axes * length cs) cells ∙ mul-suc (2 ^ o.axes) (length (entered_cells o greatest)) in
     let own : length (reverse (corner_touches o.axes root)) ≡ 2 ^ o.axes = length-reverse (corner_touches o.axes root) ∙ corners_of o.axes root in
     record { rest = rest; all = all; many = omega (arith, ap length all, length-append (reverse (corner_touches o.axes root)) rest, count, own) }
@@ -99,15 +99,15 @@ few_vertices o walked greatest places dim grown once counting =
     let below = loads_below o walked greatest dim grown in
     let each = Each-weaker (λ p. o.counts p ≡ true) (λ p. 2 ^ o.axes ≡ count_by (λ t. is_same p t.vertex) below.rest) (λ p c. touched_below p c) places (all_of (λ p. o.counts p ≡ true) places counting) in
     le_of_mul-le-mul_left {k = 2 ^ o.axes} (
-      omega (arith, sym (sum-times (2 ^ o.axes) places) ∙ sum-same (λ p. 2 ^ o.axes) (λ p. count_by (λ t. is_same p t.vertex) below.rest) places each, each_touch_once places once below.rest, below.many)
+    omega (arith, sym (sum-times (2 ^ o.axes) places) ∙ sum-same (λ p. 2 ^ o.axes) (λ p. count_by (λ t. is_same p t.vertex) below.rest) places each, each_touch_once places once below.rest, below.many)
     ) (some_power o.axes)
   where
     touched_below : (p : Place) → o.counts p ≡ true → 2 ^ o.axes ≡ count_by (λ t. is_same p t.vertex) (loads_below o walked greatest dim grown).rest
     touched_below p c =
         let below = loads_below o walked greatest dim grown in
         let none : count_by (λ t. is_same p t.vertex) (reverse (corner_touches o.axes root)) ≡ 0 =
-                count_none (λ t. is_same p t.vertex) (reverse (corner_touches o.axes root)) (Each-weaker (λ t. o.counts t.vertex ≡ false) (λ t. is_same p t.vertex ≡ false)
-                (λ t off. false_unless (is_same p t.vertex) (λ k. absurd (true≢false (sym c ∙ ap o.counts (same_places p t.vertex k) ∙ off)))) (reverse (corner_touches o.axes root)) (root_corners o walked greatest dim grown)) in
+        count_none (λ t. is_same p t.vertex) (reverse (corner_touches o.axes root)) (Each-weaker (λ t. o.counts t.vertex ≡ false) (λ t. is_same p t.vertex ≡ false)
+        (λ t off. false_unless (is_same p t.vertex) (λ k. absurd (true≢false (sym c ∙ ap o.counts (same_places p t.vertex k) ∙ off)))) (reverse (corner_touches o.axes root)) (root_corners o walked greatest dim grown)) in
         omega (
           arith,
           touches_of o walked greatest dim grown p c,
