@@ -13,7 +13,7 @@ use Rattle.pe_stacks.specs.Holdings.{Holdings, items_at, lent, popped}
 use Rattle.pe_mapping.specs.Held.{Told, Adds}
 use Rattle.pe_mapping.proofs.Texts.{adds-nothing}
 use Rattle.pe_hang.specs.InHand.{map_holdings}
-use Rattle.pe_hang.specs.Moves.{lend, pop}
+use Rattle.pe_hang.specs.Moves.{lend, pop, MayPop}
 use Rattle.pe_hang.specs.Follows.{Follows, Fits, Failure, unwritten, Found, read_by}
 use Rattle.pe_hang.proofs.Leading.{and_then-fits, follows-map, follows-behind}
 use Rattle.pe_hang.proofs.Moving.{lend-is, pop-may, pop-is}
@@ -131,6 +131,14 @@ module _ {Plan X : Type 0} (f : X → VertexRecord) (set : Setting Plan) (input 
   touch-waiting Born x hangs = refl
   touch-waiting Dying x hangs = refl
   touch-waiting Hanging x hangs = absurd (hangs refl)
+
+  -- it waits there
+  pub waiting-may : (kind : Kind) (from : Option ℕ) (s : ℕ) → (kind ≡ Hanging → ⊥) → from ≡ Some s → Fits (loads kind from) → MayPop held s
+  waiting-may kind from s hangs waits fits =
+      let come = comes-waiting kind s hangs in
+      pop-may f held s
+      (and_then-fits (pop s (map_holdings f held)) _
+      (subst Fits come (and_then-fits (comes set input kind (Some s) (desk f held family)) _ (subst (λ o. Fits (loads kind o)) waits fits))))
 
   -- one that waits on a stack
   pub loaded-waiting : (kind : Kind) (from : Option ℕ) (s : ℕ) (held' : Holdings X) (x : X) (found : Found)

@@ -16,6 +16,6 @@ mod vec_stack;
 pub use corners::Corners;
 pub use depot::{Depot, Shown};
 pub use grid::Grid;
-pub use quad::{Quad, close_slot, fill_slot, filled_mut};
+pub use quad::{Quad, close_slot, fill_slot, filled, filled_mut};
 pub use record::{CellRec, Vertex};
 pub use vec_depot::VecDepot;

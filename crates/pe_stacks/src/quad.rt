@@ -61,6 +61,18 @@ pub fn close_slot<X>(slot: Option<X>)
     }
 }
 
+/// What is in a slot that is full.
+#[inline]
+pub fn filled<X>(slot: &Option<X>) -> &X
+    requires { IsSome slot.now }
+    ensures { slot.now ≡ Some result.now }
+{
+    match slot {
+        Some(x) => x,
+        None => unreachable!(),
+    }
+}
+
 /// Lends what is in a slot that is full.
 #[inline]
 pub fn filled_mut<X>(slot: &mut Option<X>) -> &mut X

@@ -4,6 +4,8 @@
 pub mod Tests
 -- calls that go along with the machine
 pub mod Going
+-- one corner of the cell that is walked
+pub mod CornerTouches
 -- # The laws
 -- cells that are not walked
 pub mod Unwalked

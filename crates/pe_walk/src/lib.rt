@@ -2,6 +2,7 @@
 #![tactic(auto)]
 
 mod child;
+mod corner;
 mod count;
 mod hand;
 pub mod laws;
@@ -13,5 +14,7 @@ mod progress;
 #[cfg(test)]
 mod rows;
 mod settings;
+mod tallies;
+mod touch;
 mod visit;
 mod walked;

@@ -1,0 +1,116 @@
+use Rattle.std.proofs.Common.{ap, refl, sym, subst, ◌∙◌, true, None, Ok, Err, arith}
+use Rattle.std.specs.Prelude.{is_none}
+use Rattle.pe_base.specs.Tree.Places.{corner}
+use Rattle.pe_base.specs.declared.kind.Kind.TheVariants.{Hanging}
+use Rattle.pe_base.specs.Steps.Routes.{stack_in, stack_out}
+use Rattle.pe_base.specs.Walk.Core.{way}
+use Rattle.pe_base.specs.Walk.Touches.{tally_load, tally_store}
+use Rattle.pe_hang.specs.Follows.{Follows, Fits, read_by}
+use Rattle.pe_adapt.specs.Slots.{seen_slot}
+use Rattle.pe_adapt.specs.Spots.{desk_in_hand}
+use Rattle.pe_adapt.specs.Touches.{store_as}
+use Rattle.pe_adapt.proofs.Touching.{load-same, store-same}
+use Rattle.pe_walk.specs.InHand.{setting_in, failure_in, ports_of}
+use Rattle.pe_walk.specs.Machine.{output}
+use Rattle.pe_walk.specs.Corners.{hand_of, found_in}
+use Rattle.pe_walk.proofs.CornerTouches.{walked-pos, goes-load, may-load-rises, may-load-desk, goes-store, may-store-rises, may-store-desk, slot-kind, slot-counts, output-is}
+use Rattle.pe_walk.proofs.touch.store_last.Goals as goal
+
+pub corner_place-at-requires-clause-pos : goal.corner_place-at-requires-clause-pos
+corner_place-at-requires-clause-pos g c = walked-pos _ _ _ c.requires.walked
+
+pub store_last-requires-clause-place : goal.store_last-requires-clause-place
+store_last-requires-clause-place g c = c.corner_place-at.ensures.below (g.M.Mapping.held c.args.m.now).dim c.requires.walked.place
+
+pub count_store-requires : goal.count_store-requires
+count_store-requires g c =
+    let numbers = g.M.Mapping.numbers in
+    let old = hand_of (g.M.Mapping.held c.args.m.now) (g.DV.Depot.holds c.args.dv.now) (g.DV.Depot.room c.args.dv.now) c.args.parents.now c.args.parent.now c.args.progress.now in
+    may-store-rises g.M.Effects.rules numbers c.args.settings.now c.args.cell.now.place c.args.k (Ok tt) old old (seen_slot numbers.vertex c.args.slot.now) c.requires.fits
+
+pub store_last-requires-clause-counts : goal.store_last-requires-clause-counts
+store_last-requires-clause-counts g c = slot-counts c.args.slot.now c.args.kind c.requires.kind c.requires.counts
+
+pub store_last-requires-clause-fits : goal.store_last-requires-clause-fits
+store_last-requires-clause-fits g c =
+    let held = g.M.Mapping.held c.args.m.now in
+    let numbers = g.M.Mapping.numbers in
+    let rules = g.M.Effects.rules in
+    let settings = c.args.settings.now in
+    let place = c.args.cell.now.place in
+    let holds = g.DV.Depot.holds c.args.dv.now in
+    let room = g.DV.Depot.room c.args.dv.now in
+    let old = hand_of held holds room c.args.parents.now c.args.parent.now c.args.progress.now in
+    let desk = desk_in_hand numbers holds c.args.parents.now c.args.parent.now held.list in
+    let set = setting_in rules held settings in
+    let vertex = corner held.dim place c.args.k in
+    let at = c.corner_place-at.ensures.place held.dim c.requires.walked.state.grid c.requires.walked.place c.requires.corner in
+    let it = seen_slot numbers.vertex c.args.slot.now in
+    let out = output-is settings.input settings.output settings.cell_input settings.cell_output settings.streams in
+    let same = ap (λ o. store_as set o None c.corner_place-at.result it desk) out
+    ∙ store-same set held.dim (output (ports_of settings)) place c.args.k it desk None c.corner_place-at.result refl at (λ counts. sym c.requires.last) in
+    subst Fits (sym same) (may-store-desk rules numbers settings place c.args.k (Ok tt) old old it c.requires.fits)
+
+pub returns-in-Ok-clause-goes : goal.returns-in-Ok-clause-goes
+returns-in-Ok-clause-goes g c =
+    let held = g.M.Mapping.held c.args.m.now in
+    let numbers = g.M.Mapping.numbers in
+    let rules = g.M.Effects.rules in
+    let settings = c.args.settings.now in
+    let place = c.args.cell.now.place in
+    let holds = g.DV.Depot.holds c.args.dv.now in
+    let room = g.DV.Depot.room c.args.dv.now in
+    let old = hand_of held holds room c.args.parents.now c.args.parent.now c.args.progress.now in
+    let desk = desk_in_hand numbers holds c.args.parents.now c.args.parent.now held.list in
+    let set = setting_in rules held settings in
+    let vertex = corner held.dim place c.args.k in
+    let at = c.corner_place-at.ensures.place held.dim c.requires.walked.state.grid c.requires.walked.place c.requires.corner in
+    let held' = g.M.Mapping.held c.store_last.new.m in
+    let holds' = g.DV.Depot.holds c.store_last.new.dv in
+    let slot' = c.store_last.new.slot in
+    let new = hand_of held' holds' (g.DV.Depot.room c.store_last.new.dv) c.store_last.new.parents c.store_last.new.parent (record c.args.progress.now { tally = c.count_store.new.tally }) in
+    let desk' = desk_in_hand numbers holds' c.store_last.new.parents c.store_last.new.parent held'.list in
+    let it = seen_slot numbers.vertex c.args.slot.now in
+    let out = output-is settings.input settings.output settings.cell_input settings.cell_output settings.streams in
+    let same = ap (λ o. store_as set o None c.corner_place-at.result it desk) out
+    ∙ store-same set held.dim (output (ports_of settings)) place c.args.k it desk None c.corner_place-at.result refl at (λ counts. sym c.requires.last) in
+    let tally = c.args.progress.now.tally in
+    let last = is_none (stack_out held.dim (way set) vertex place) in
+    goes-store rules numbers settings place c.args.k (Ok tt) old new it c.requires.fits
+    (c.count_store.ensures ∙ ap (λ l. tally_store c.args.kind l tally) (sym (ap is_none c.requires.last))
+    ∙ ap (λ kind. tally_store kind last tally) (sym (slot-kind numbers.vertex c.args.slot.now c.args.kind c.requires.kind)))
+    (λ cells. subst (λ course. Follows course (λ (done : Unit {0}). desk') (read_by (failure_in new.progress) (Ok tt)) (found_in old cells) held'.told)
+    same (c.in-Ok.ensures.follows cells))
+    c.in-Ok.ensures.left c.in-Ok.ensures.keeps c.in-Ok.ensures.full c.in-Ok.ensures.marks
+
+pub returns-in-Err-clause-goes : goal.returns-in-Err-clause-goes
+returns-in-Err-clause-goes g c =
+    let held = g.M.Mapping.held c.args.m.now in
+    let numbers = g.M.Mapping.numbers in
+    let rules = g.M.Effects.rules in
+    let settings = c.args.settings.now in
+    let place = c.args.cell.now.place in
+    let holds = g.DV.Depot.holds c.args.dv.now in
+    let room = g.DV.Depot.room c.args.dv.now in
+    let old = hand_of held holds room c.args.parents.now c.args.parent.now c.args.progress.now in
+    let desk = desk_in_hand numbers holds c.args.parents.now c.args.parent.now held.list in
+    let set = setting_in rules held settings in
+    let vertex = corner held.dim place c.args.k in
+    let at = c.corner_place-at.ensures.place held.dim c.requires.walked.state.grid c.requires.walked.place c.requires.corner in
+    let held' = g.M.Mapping.held c.store_last.new.m in
+    let holds' = g.DV.Depot.holds c.store_last.new.dv in
+    let slot' = c.store_last.new.slot in
+    let new = hand_of held' holds' (g.DV.Depot.room c.store_last.new.dv) c.store_last.new.parents c.store_last.new.parent (record { tally = c.count_store.new.tally; at = c.corner_place-at.result }) in
+    let desk' = desk_in_hand numbers holds' c.store_last.new.parents c.store_last.new.parent held'.list in
+    let it = seen_slot numbers.vertex c.args.slot.now in
+    let out = output-is settings.input settings.output settings.cell_input settings.cell_output settings.streams in
+    let same = ap (λ o. store_as set o None c.corner_place-at.result it desk) out
+    ∙ store-same set held.dim (output (ports_of settings)) place c.args.k it desk None c.corner_place-at.result refl at (λ counts. sym c.requires.last) in
+    let tally = c.args.progress.now.tally in
+    let last = is_none (stack_out held.dim (way set) vertex place) in
+    goes-store rules numbers settings place c.args.k (Err c.in-Err.halt) old new it c.requires.fits
+    (c.count_store.ensures ∙ ap (λ l. tally_store c.args.kind l tally) (sym (ap is_none c.requires.last))
+    ∙ ap (λ kind. tally_store kind last tally) (sym (slot-kind numbers.vertex c.args.slot.now c.args.kind c.requires.kind)))
+    (λ cells. subst (λ course. Follows course (λ (done : Unit {0}). desk') (read_by (failure_in new.progress) (Err c.in-Err.halt)) (found_in old cells) held'.told)
+    same (c.in-Err.ensures.follows cells))
+    c.in-Err.ensures.left c.in-Err.ensures.keeps c.in-Err.ensures.full c.in-Err.ensures.marks
