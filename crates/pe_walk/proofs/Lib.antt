@@ -6,6 +6,8 @@ pub mod Tests
 pub mod Going
 -- one corner of the cell that is walked
 pub mod CornerTouches
+-- four of its corners
+pub mod QuadTouches
 -- # The laws
 -- cells that are not walked
 pub mod Unwalked

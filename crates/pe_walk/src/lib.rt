@@ -11,6 +11,7 @@ mod machine_rows;
 #[cfg(test)]
 mod plain;
 mod progress;
+mod quad;
 #[cfg(test)]
 mod rows;
 mod settings;
