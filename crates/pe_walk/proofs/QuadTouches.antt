@@ -1,5 +1,5 @@
 -- Four corners of the cell that is walked, one after another.
-use Rattle.std.proofs.Common.{◌≡◌, ℕ, ℤ, ◌+◌, ◌^◌, ◌<◌, List, [], ◌∷◌, Option, Some, None, Result, Ok, Err, refl, sym, ap, subst, ◌∙◌, arith, map}
+use Rattle.std.proofs.Common.{◌≡◌, ℕ, ℤ, ◌+◌, ◌^◌, ◌<◌, ◌≤◌, List, [], ◌∷◌, Option, Some, None, Result, Ok, Err, refl, sym, ap, subst, ◌∙◌, arith, map}
 use Rattle.std.specs.Prelude.{slice_get, Bool, true, false, ◌||◌, ◌==◌, if◌then◌else◌}
 use Rattle.std.specs.List.{list_any}
 use Rattle.std.specs.Option.{option_map}
@@ -22,9 +22,9 @@ use Rattle.pe_adapt.specs.declared.stop.Halt.{Halt}
 use Rattle.pe_adapt.specs.Marked.{GiveKinds}
 use Rattle.pe_adapt.specs.Touches.{state_in_hand, corner_number}
 use Rattle.pe_walk.specs.declared.settings.Settings.{Settings}
-use Rattle.pe_walk.specs.Machine.{Machine, load_corner}
+use Rattle.pe_walk.specs.Machine.{Machine, load_corner, store_corner, store_all}
 use Rattle.pe_walk.specs.InHand.{ports_of}
-use Rattle.pe_walk.specs.Corners.{Hand, MayGo, GoesAlong, load_four}
+use Rattle.pe_walk.specs.Corners.{Hand, MayGo, GoesAlong, load_four, filled_in}
 use Rattle.pe_walk.proofs.Going.{may-first, may-next, goes-then, goes-err, goes-map}
 
 module _ {Plan V C : Type 0} (rules : Rules Plan) (numbers : Numbers V C) (settings : Settings) (place : Place) (k : ℕ) where
@@ -158,3 +158,45 @@ module _ (its its' : List VertexRecord) (same : marks_of its' ≡ marks_of its) 
   kinds-kept axes axes' traversal place marks dims gives =
       subst (λ a. GiveKinds a traversal place its' marks) (sym dims)
       (λ n below. gives n below ∙ sym (kind-same axes traversal (parent_of place) (corner axes place n)))
+
+-- four stores
+module _ {Plan V C : Type 0} (rules : Rules Plan) (numbers : Numbers V C) (settings : Settings) (place : Place) where
+  abbrev pub store_one : ℕ → VertexRecord → Setting Plan → Machine → Course Machine
+  store_one j it set machine = store_corner set (ports_of settings) place j it machine
+
+  abbrev pub stores_from : ℕ → List VertexRecord → Setting Plan → Machine → Course Machine
+  stores_from j its set machine = store_all set (ports_of settings) place j its machine
+
+  abbrev pub as_it_is : Machine → Machine
+  as_it_is machine = machine
+
+  module _ (old mid new : Hand Plan V C) (j : ℕ) (it : VertexRecord) (its : List VertexRecord) where
+    -- each store may go
+    pub store-may : MayGo rules numbers settings (stores_from j (it ∷ its)) old → MayGo rules numbers settings (store_one j it) old
+    store-may may = may-first rules numbers settings (store_one j it) (stores_from (j + 1) its) as_it_is old may
+
+    pub store-next : {had has : ℕ} → MayGo rules numbers settings (stores_from j (it ∷ its)) old → GoesAlong rules numbers settings (store_one j it) as_it_is had has (Ok tt) old mid
+        → (j' : ℕ) → j + 1 ≡ j' → MayGo rules numbers settings (stores_from j' its) mid
+    store-next {had} {has} may goes j' same =
+        subst (λ n. MayGo rules numbers settings (stores_from n its) mid) same
+        (may-next rules numbers settings (store_one j it) (stores_from (j + 1) its) as_it_is had has old mid may goes)
+
+    -- each goes along, or fails
+    pub store-goes : {had has had' has' : ℕ} {result : Result (Unit {0}) Halt} (j' : ℕ) → j + 1 ≡ j' → GoesAlong rules numbers settings (store_one j it) as_it_is had has (Ok tt) old mid
+        → GoesAlong rules numbers settings (stores_from j' its) as_it_is had' has' result mid new
+        → GoesAlong rules numbers settings (stores_from j (it ∷ its)) as_it_is (had + had') (has + has') result old new
+    store-goes {had} {has} {had'} {has'} {result} j' same first rest =
+        goes-then rules numbers settings (store_one j it) (stores_from (j + 1) its) as_it_is as_it_is had has had' has' result old mid new first
+        (subst (λ n. GoesAlong rules numbers settings (stores_from n its) as_it_is had' has' result mid new) (sym same) rest)
+
+    pub store-err : {had has : ℕ} (halt : Halt) → GoesAlong rules numbers settings (store_one j it) as_it_is had has (Err halt) old new
+        → GoesAlong rules numbers settings (stores_from j (it ∷ its)) as_it_is had has (Err halt) old new
+    store-err {had} {has} halt goes = goes-err rules numbers settings (store_one j it) (stores_from (j + 1) its) as_it_is as_it_is had has halt old new goes
+
+    pub store-last : {had has : ℕ} {result : Result (Unit {0}) Halt} → GoesAlong rules numbers settings (store_one j it) as_it_is had has result old new
+        → GoesAlong rules numbers settings (stores_from j (it ∷ [])) as_it_is had has result old new
+    store-last {had} {has} {result} goes = goes-map rules numbers settings (store_one j it) as_it_is as_it_is had has result old new goes
+
+pub filled-small : {X : Type 0} (slot : Option X) → filled_in slot ≤ 1
+filled-small None = omega arith
+filled-small (Some x) = omega arith

@@ -88,3 +88,76 @@ pub(crate) fn load_quad<M: Mapping, DV: Depot<Vertex<M::V>>>(
         parent,
     )
 }
+
+// Stores four corners. On an error those behind it stay in their slots.
+#[inline(always)]
+pub(crate) fn store_quad<M: Mapping, DV: Depot<Vertex<M::V>>>(
+    settings: &Settings,
+    cell: &WalkedCell,
+    q: u8,
+    progress: &mut Progress,
+    quad: &mut Quad<Vertex<M::V>>,
+    m: &mut M,
+    dv: &mut DV,
+    parents: &mut Corners<M::V>,
+    parent: &mut CellRec<M::C>,
+) -> Result<(), Halt>
+    requires walked { IsWalked (M.held m.old).dim settings.now cell.now }
+    requires corners { 4 * q + 3 < 2 ^ (M.held m.old).dim }
+    requires full { IsFull (M.held m.old).dim parents.old }
+    requires filled { filled_in_quad quad.old ≡ 4 }
+    requires out { 4 ≤ (DV.holds dv.old).out }
+    requires fits { MayGo M.rules M.numbers settings.now (λ set. store_all set (ports_of settings.now) cell.now.place (4 * q) (seen_quad M.numbers.vertex quad.old))
+        (hand_of (M.held m.old) (DV.holds dv.old) (DV.room dv.old) parents.old parent.old progress.old) }
+    ensures goes { GoesAlong M.rules M.numbers settings.now (λ set. store_all set (ports_of settings.now) cell.now.place (4 * q) (seen_quad M.numbers.vertex quad.old))
+        (λ machine. machine) 4 (filled_in_quad quad.new) result
+        (hand_of (M.held m.old) (DV.holds dv.old) (DV.room dv.old) parents.old parent.old progress.old)
+        (hand_of (M.held m.new) (DV.holds dv.new) (DV.room dv.new) parents.new parent.new progress.new) }
+    ensures emptied { OnOk result (quad.new ≡ no_quad) }
+{
+    let k = 4 * q;
+    store_corner(
+        settings,
+        cell,
+        k,
+        progress,
+        &mut quad.p0,
+        m,
+        dv,
+        parents,
+        parent,
+    )?;
+    store_corner(
+        settings,
+        cell,
+        k + 1,
+        progress,
+        &mut quad.p1,
+        m,
+        dv,
+        parents,
+        parent,
+    )?;
+    store_corner(
+        settings,
+        cell,
+        k + 2,
+        progress,
+        &mut quad.p2,
+        m,
+        dv,
+        parents,
+        parent,
+    )?;
+    store_corner(
+        settings,
+        cell,
+        k + 3,
+        progress,
+        &mut quad.p3,
+        m,
+        dv,
+        parents,
+        parent,
+    )
+}
