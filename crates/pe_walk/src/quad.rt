@@ -42,51 +42,18 @@ pub(crate) fn load_quad<M: Mapping, DV: Depot<Vertex<M::V>>>(
         (hand_of (M.held m.new) (DV.holds dv.new) (DV.room dv.new) parents.new parent.new progress.new) }
     ensures loaded { OnOk result (filled_in_quad quad.new ≡ 4) }
 {
+    let k = 4 * q + 3;
+    let slot = &mut quad.p3;
+    load_corner(settings, cell, k, progress, slot, m, dv, parents, parent)?;
+    let k = 4 * q + 2;
+    let slot = &mut quad.p2;
+    load_corner(settings, cell, k, progress, slot, m, dv, parents, parent)?;
+    let k = 4 * q + 1;
+    let slot = &mut quad.p1;
+    load_corner(settings, cell, k, progress, slot, m, dv, parents, parent)?;
     let k = 4 * q;
-    load_corner(
-        settings,
-        cell,
-        k + 3,
-        progress,
-        &mut quad.p3,
-        m,
-        dv,
-        parents,
-        parent,
-    )?;
-    load_corner(
-        settings,
-        cell,
-        k + 2,
-        progress,
-        &mut quad.p2,
-        m,
-        dv,
-        parents,
-        parent,
-    )?;
-    load_corner(
-        settings,
-        cell,
-        k + 1,
-        progress,
-        &mut quad.p1,
-        m,
-        dv,
-        parents,
-        parent,
-    )?;
-    load_corner(
-        settings,
-        cell,
-        k,
-        progress,
-        &mut quad.p0,
-        m,
-        dv,
-        parents,
-        parent,
-    )
+    let slot = &mut quad.p0;
+    load_corner(settings, cell, k, progress, slot, m, dv, parents, parent)
 }
 
 // Stores four corners. On an error those behind it stay in their slots.
@@ -116,48 +83,15 @@ pub(crate) fn store_quad<M: Mapping, DV: Depot<Vertex<M::V>>>(
     ensures emptied { OnOk result (quad.new ≡ no_quad) }
 {
     let k = 4 * q;
-    store_corner(
-        settings,
-        cell,
-        k,
-        progress,
-        &mut quad.p0,
-        m,
-        dv,
-        parents,
-        parent,
-    )?;
-    store_corner(
-        settings,
-        cell,
-        k + 1,
-        progress,
-        &mut quad.p1,
-        m,
-        dv,
-        parents,
-        parent,
-    )?;
-    store_corner(
-        settings,
-        cell,
-        k + 2,
-        progress,
-        &mut quad.p2,
-        m,
-        dv,
-        parents,
-        parent,
-    )?;
-    store_corner(
-        settings,
-        cell,
-        k + 3,
-        progress,
-        &mut quad.p3,
-        m,
-        dv,
-        parents,
-        parent,
-    )
+    let slot = &mut quad.p0;
+    store_corner(settings, cell, k, progress, slot, m, dv, parents, parent)?;
+    let k = 4 * q + 1;
+    let slot = &mut quad.p1;
+    store_corner(settings, cell, k, progress, slot, m, dv, parents, parent)?;
+    let k = 4 * q + 2;
+    let slot = &mut quad.p2;
+    store_corner(settings, cell, k, progress, slot, m, dv, parents, parent)?;
+    let k = 4 * q + 3;
+    let slot = &mut quad.p3;
+    store_corner(settings, cell, k, progress, slot, m, dv, parents, parent)
 }
