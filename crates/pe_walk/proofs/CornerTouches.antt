@@ -134,6 +134,25 @@ left-stored : {X : Type 0} (result : Result (Unit {0}) Halt) (old new : Holdings
 left-stored (Ok u) old new room room' left = left
 left-stored (Err halt) old new room room' left = record { count = left.count; keeps = left.keeps; out = left.out }
 
+-- cells are not counted
+load-cells : (kind : Kind) (first : Bool) (tally : Tally) → (tally_load kind first tally).cells ≡ tally.cells
+load-cells Hanging first tally = refl
+load-cells Born true tally = refl
+load-cells Kept true tally = refl
+load-cells Dying true tally = refl
+load-cells Born false tally = refl
+load-cells Kept false tally = refl
+load-cells Dying false tally = refl
+
+store-cells : (kind : Kind) (last : Bool) (tally : Tally) → (tally_store kind last tally).cells ≡ tally.cells
+store-cells Hanging last tally = refl
+store-cells Dying true tally = refl
+store-cells Born true tally = refl
+store-cells Kept true tally = refl
+store-cells Born false tally = refl
+store-cells Kept false tally = refl
+store-cells Dying false tally = refl
+
 module _ {Plan V C : Type 0} (rules : Rules Plan) (numbers : Numbers V C) (settings : Settings) (place : Place) (k : ℕ) (result : Result (Unit {0}) Halt) (old new : Hand Plan V C) where
   abbrev set_here : Setting Plan
   set_here = setting_in rules old.held settings
@@ -169,6 +188,8 @@ module _ {Plan V C : Type 0} (rules : Rules Plan) (numbers : Numbers V C) (setti
     keeps = keeps;
     full = full;
     marks = marks;
+    counted = ap (λ tally. tally.cells) counted
+        ∙ load-cells (kind_in_hand set_here place (seen_corners numbers.vertex old.parents) (corner old.held.dim place k)) (is_none (stack_in old.held.dim (way set_here) (corner old.held.dim place k) place)) old.progress.tally;
   }
 
   pub goes-store : (it : VertexRecord)
@@ -185,6 +206,7 @@ module _ {Plan V C : Type 0} (rules : Rules Plan) (numbers : Numbers V C) (setti
     keeps = keeps;
     full = full;
     marks = marks;
+    counted = ap (λ tally. tally.cells) counted ∙ store-cells it.kind (is_none (stack_out old.held.dim (way set_here) (corner old.held.dim place k) place)) old.progress.tally;
   }
 
   -- what a load that may go tells: the tally may rise, and what counts is inside

@@ -1,5 +1,6 @@
 -- Calls that go along with the machine, one after another.
 use Rattle.std.proofs.Common.{◌≡◌, ℕ, ℤ, ◌+◌, true, false, List, Result, Ok, Err, refl, sym, ap, subst, ◌∙◌, arith}
+use Rattle.std.specs.Prelude.{OnOk}
 use Rattle.pe_base.specs.Acts.Effects.{VertexRecord, Rules}
 use Rattle.pe_base.specs.Walk.Course.{Course, and_then, course_map}
 use Rattle.pe_base.specs.Walk.Core.{Setting}
@@ -32,6 +33,7 @@ module _ {Plan V C : Type 0} (rules : Rules Plan) (numbers : Numbers V C) (setti
     keeps = goes.keeps;
     full = goes.full;
     marks = goes.marks;
+    counted = goes.counted;
   }
 
   module _ {A Y : Type 0} (first : Setting Plan → Machine → Course A) (next : Setting Plan → A → Course Y) (reached : Machine → A) where
@@ -71,6 +73,7 @@ module _ {Plan V C : Type 0} (rules : Rules Plan) (numbers : Numbers V C) (setti
       keeps = goes.keeps;
       full = goes.full;
       marks = goes.marks;
+      counted = goes.counted;
     }
 
     -- after a call that came through, what the next one does is what all do
@@ -100,6 +103,7 @@ module _ {Plan V C : Type 0} (rules : Rules Plan) (numbers : Numbers V C) (setti
       };
       full = subst (λ axes. IsFull axes new.parents) before.keeps.dim behind.full;
       marks = behind.marks ∙ before.marks;
+      counted = behind.counted ∙ before.counted;
     }
 
   -- what is made of the result
@@ -113,4 +117,45 @@ module _ {Plan V C : Type 0} (rules : Rules Plan) (numbers : Numbers V C) (setti
     keeps = goes.keeps;
     full = goes.full;
     marks = goes.marks;
+    counted = goes.counted;
+  }
+
+  -- the same course, written otherwise
+  pub may-same : {X : Type 0} (course course' : Setting Plan → Machine → Course X) (old : Hand Plan V C) → ((set : Setting Plan) (machine : Machine) → course set machine ≡ course' set machine)
+      → MayGo rules numbers settings course old → MayGo rules numbers settings course' old
+  may-same course course' old same may cells = subst Fits (same (setting_in rules old.held settings) (machine_of numbers cells old)) (may cells)
+
+  pub goes-same : {X : Type 0} (course course' : Setting Plan → Machine → Course X) (after : Machine → X) (had has : ℕ) (result : Result (Unit {0}) Halt) (old new : Hand Plan V C)
+      → ((set : Setting Plan) (machine : Machine) → course set machine ≡ course' set machine)
+      → GoesAlong rules numbers settings course after had has result old new → GoesAlong rules numbers settings course' after had has result old new
+  goes-same course course' after had has result old new same goes = record {
+    follows = λ cells room. subst (λ c. Follows c (λ (done : Unit {0}). after (machine_of numbers cells new)) (read_by (failure_in new.progress) result) (found_in old room) new.held.told)
+        (same (setting_in rules old.held settings) (machine_of numbers cells old)) (goes.follows cells room);
+    left = goes.left;
+    keeps = goes.keeps;
+    full = goes.full;
+    marks = goes.marks;
+    counted = goes.counted;
+  }
+
+  -- the same results
+  pub goes-after : {X : Type 0} (course : Setting Plan → Machine → Course X) (after after' : Machine → X) (had has : ℕ) (result : Result (Unit {0}) Halt) (old new : Hand Plan V C)
+      → OnOk result ((machine : Machine) → after machine ≡ after' machine)
+      → GoesAlong rules numbers settings course after had has result old new → GoesAlong rules numbers settings course after' had has result old new
+  goes-after course after after' had has (Ok u) old new same goes = record {
+    follows = λ cells room. subst (λ x. Follows (course (setting_in rules old.held settings) (machine_of numbers cells old)) (λ (done : Unit {0}). x) (Ok u) (found_in old room) new.held.told)
+        (same (machine_of numbers cells new)) (goes.follows cells room);
+    left = goes.left;
+    keeps = goes.keeps;
+    full = goes.full;
+    marks = goes.marks;
+    counted = goes.counted;
+  }
+  goes-after course after after' had has (Err halt) old new same goes = record {
+    follows = goes.follows;
+    left = goes.left;
+    keeps = goes.keeps;
+    full = goes.full;
+    marks = goes.marks;
+    counted = goes.counted;
   }

@@ -8,6 +8,8 @@ pub mod Going
 pub mod CornerTouches
 -- four of its corners
 pub mod QuadTouches
+-- all corners, quad by quad
+pub mod CornerLists
 -- # The laws
 -- cells that are not walked
 pub mod Unwalked

@@ -1,5 +1,5 @@
 -- The corners of a cell, touched one by one in their slots, as the machine of lists touches them.
-use Rattle.std.specs.Prelude.{ℕ, ℤ, ◌+◌, false, List, [], ◌∷◌, length, Option, Some, None, Result}
+use Rattle.std.specs.Prelude.{◌≡◌, ℕ, ℤ, ◌+◌, false, List, [], ◌∷◌, map, length, sum_by, ◌^◌, Option, Some, None, Result}
 use Rattle.pe_base.specs.declared.place.Place.{Place}
 use Rattle.pe_base.specs.Acts.Effects.{VertexRecord, Rules}
 use Rattle.pe_base.specs.Walk.Course.{Course, and_then, course_map}
@@ -7,7 +7,7 @@ use Rattle.pe_base.specs.Walk.Core.{Setting}
 use Rattle.pe_stacks.specs.declared.record.Vertex.{Vertex}
 use Rattle.pe_stacks.specs.declared.record.CellRec.{CellRec}
 use Rattle.pe_stacks.specs.declared.quad.Quad.{Quad}
-use Rattle.pe_stacks.specs.Corners.{CornerList, vertices_of, IsFull}
+use Rattle.pe_stacks.specs.Corners.{CornerList, IsFull}
 use Rattle.pe_stacks.specs.Holdings.{Holdings}
 use Rattle.pe_mapping.specs.Held.{Held, Keeps}
 use Rattle.pe_mapping.specs.Sights.{Numbers}
@@ -48,7 +48,16 @@ abbrev pub filled_in_quad : {X : Type 0} → Quad X → ℕ
 filled_in_quad quad = filled_in quad.p0 + filled_in quad.p1 + filled_in quad.p2 + filled_in quad.p3
 
 abbrev pub filled_in_corners : {X : Type 0} → CornerList X → ℕ
-filled_in_corners corners = length (vertices_of corners)
+filled_in_corners corners = sum_by filled_in corners.slots
+
+-- the corners of a cell of so many axes, each slot filled or empty
+pub record AreOf {X : Type 0} (axes : ℕ) (corners : CornerList X) : Type 0 where
+  pub dim : corners.dim ≡ axes
+  pub count : length corners.slots ≡ 2 ^ axes
+
+-- all corners, by their numbers
+abbrev pub seen_slots : {V : Type 0} → (V → List ℤ) → CornerList (Vertex V) → List VertexRecord
+seen_slots numbers corners = map (seen_slot numbers) corners.slots
 
 -- four corners, by their numbers
 abbrev pub seen_quad : {V : Type 0} → (V → List ℤ) → Quad (Vertex V) → List VertexRecord
@@ -68,7 +77,7 @@ MayGo rules numbers settings course hand =
     (cells : Holdings (List ℤ)) → Fits (course (setting_in rules hand.held settings) (machine_of numbers cells hand))
 
 -- A call does what the machine does. `had` and `has` are how many vertices its slots held before and hold afterwards: no
--- other record came out or went.
+-- other record came out or went. It counts vertices, and no cells.
 pub record GoesAlong {Plan V C X : Type 0} (rules : Rules Plan) (numbers : Numbers V C) (settings : Settings) (course : Setting Plan → Machine → Course X) (after : Machine → X) (had has : ℕ) (result : Result (Unit {0}) Halt) (old new : Hand Plan V C) : Type 0 where
   pub follows : (cells : Holdings (List ℤ)) (room : ℕ → ℕ) → Follows
       (course (setting_in rules old.held settings) (machine_of numbers cells old)) (λ (done : Unit {0}). after (machine_of numbers cells new))
@@ -77,3 +86,4 @@ pub record GoesAlong {Plan V C X : Type 0} (rules : Rules Plan) (numbers : Numbe
   pub keeps : Keeps old.held new.held
   pub full : IsFull old.held.dim new.parents
   pub marks : KeepsMarks numbers.vertex old.parents new.parents
+  pub counted : new.progress.tally.cells ≡ old.progress.tally.cells
