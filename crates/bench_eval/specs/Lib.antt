@@ -1,0 +1,2 @@
+-- What the bodies of the bench may speak of.
+pub mod Mill
