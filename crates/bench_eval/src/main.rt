@@ -16,10 +16,14 @@ use pe_io::{StdSink, SureSink};
 use site::Site;
 use std::io::{ErrorKind, Print};
 use std::{env, io};
-use times::measure;
+use times::{measure, measure_often};
 
-const MANY: u32 = 10_000_000;
+/// How often an event is run between two looks at the clock, and how many times that.
+const ROUNDS: u32 = 1_000_000;
 
+const TIMES: u32 = 10;
+
+/// How often it is run where nothing is measured.
 const FEW: u32 = 3;
 
 fn print(rt: &impl Print, site: &Site) -> io::Result<()> {
@@ -43,7 +47,10 @@ fn main(rt: HostRuntime) -> io::Result<()> {
     let mut places = (Site::new(), Site::new());
     if env::args(&rt)?.any(|word| word.as_str() == "time") {
         let mut sink = SureSink::new();
-        return measure(&rt, &bodies, dim, &mut places, &mut sink, MANY)?.print(&rt, MANY);
+        return measure_often(&rt, &bodies, dim, &mut places, &mut sink, TIMES, ROUNDS)?.print(
+            &rt,
+            TIMES * ROUNDS,
+        );
     }
     let mut sink = StdSink::new(io::writer(&rt));
     measure(&rt, &bodies, dim, &mut places, &mut sink, FEW)?;

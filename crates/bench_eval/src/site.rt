@@ -3,7 +3,7 @@ ghost use Rattle.std.specs.Prelude.{◌≡◌, IsTrue};
 ghost use Rattle.pe_stacks.specs.Corners.{IsFull};
 ghost use Rattle.pe_check.specs.Fits.{fits};
 ghost use Rattle.pe_base.specs.declared.event.Event.TheVariants as event;
-ghost use Rattle.pe_eval.specs.Sights.{frame, reach_of, IsReady};
+ghost use Rattle.pe_eval.specs.Sights.{frame, reach_of, IsTraversal, IsBelowRoot, IsReady};
 ghost use Rattle.bench_eval.specs.Mill.{reach_at};
 
 use crate::functions::{end, enter, touch};
@@ -13,20 +13,17 @@ use pe_eval::{View, eval};
 use pe_io::{Sink, SureSink};
 use pe_stacks::{CellRec, Corners, Vertex};
 
-/// A place where a mill with number 6 asks for refinement.
-const PLACE: Place = Place {
-    level: 1,
-    pos: [2, 2, 0, 0],
-};
-
-const MAX_LEVEL: u8 = 6;
-
-/// What the events change: the numbers of the whole grid, a vertex and a cell.
+/// A vertex and a cell at one place of a traversal, and the numbers of the whole grid.
 #[derive(Drop)]
 pub struct Site {
+    t: u64,
+    max_level: u8,
+    at: Place,
     pub globals: Fields,
     pub vertex: Vertex<Fields>,
     pub cell: CellRec<Fields>,
+    ghost traversal: { IsTraversal t },
+    ghost place: { IsBelowRoot at },
 }
 
 fn new_vertex() -> Vertex<Fields> {
@@ -79,9 +76,15 @@ fn evaluate<K: Sink>(body: &Checked, view: &mut View, sink: &mut K, rounds: u32)
 }
 
 impl Site {
-    /// A place where nothing has happened.
+    /// A place where a mill with number 6 asks for refinement, and nothing has happened yet.
     pub fn new() -> Site {
         Site {
+            t: 1,
+            max_level: 6,
+            at: Place {
+                level: 1,
+                pos: [2, 2, 0, 0],
+            },
             globals: Fields::zero(),
             vertex: new_vertex(),
             cell: new_cell(),
@@ -89,9 +92,10 @@ impl Site {
     }
 
     /// Touches the vertex for the last time, by function.
+    #[inline(never)]
     pub fn touch(&mut self, rounds: u32) -> Result<(), Stop> {
         for _round in 0..rounds {
-            match touch(1, MAX_LEVEL, &PLACE, &mut self.vertex) {
+            match touch(self.t, self.max_level, &self.at, &mut self.vertex) {
                 Ok(()) => {}
                 Err(stop) => return Err(stop),
             }
@@ -100,6 +104,7 @@ impl Site {
     }
 
     /// Enters the cell, by function.
+    #[inline(never)]
     pub fn enter(&mut self, rounds: u32) -> Result<(), Stop> {
         for _round in 0..rounds {
             match enter(&mut self.globals, &mut self.cell) {
@@ -111,9 +116,10 @@ impl Site {
     }
 
     /// Ends the traversal, by function.
+    #[inline(never)]
     pub fn end<K: Sink>(&mut self, sink: &mut K, rounds: u32) -> Result<(), Stop> {
         for _round in 0..rounds {
-            match end(1, &self.globals, sink) {
+            match end(self.t as i64, &self.globals, sink) {
                 Ok(()) => {}
                 Err(stop) => return Err(stop),
             }
@@ -129,9 +135,9 @@ impl Site {
         let mut parents = square(dim);
         let mut parent = new_cell();
         let mut view = View::Vertex {
-            t: 1,
-            max_level: MAX_LEVEL,
-            at: PLACE,
+            t: self.t,
+            max_level: self.max_level,
+            at: self.at,
             globals: &mut self.globals,
             vertex: &mut self.vertex,
             parents: &mut parents,
@@ -157,9 +163,9 @@ impl Site {
         let mut parents = square(dim);
         let mut parent = new_cell();
         let mut view = View::Cell {
-            t: 1,
-            max_level: MAX_LEVEL,
-            at: PLACE,
+            t: self.t,
+            max_level: self.max_level,
+            at: self.at,
             globals: &mut self.globals,
             cell: &mut self.cell,
             corners: &mut corners,
@@ -188,7 +194,7 @@ impl Site {
         requires { IsTrue (fits (reach_at event.EndIteration) body.now) }
     {
         let mut view = View::Plain {
-            t: 1,
+            t: self.t,
             globals: &mut self.globals,
         };
         evaluate(body, &mut view, sink, rounds)

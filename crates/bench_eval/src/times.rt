@@ -25,6 +25,11 @@ pub struct Times {
 }
 
 impl Pair {
+    const NONE: Pair = Pair {
+        function: 0.0,
+        body: 0.0,
+    };
+
     fn and(self, other: Pair) -> Pair {
         Pair {
             function: self.function + other.function,
@@ -45,6 +50,22 @@ impl Pair {
 }
 
 impl Times {
+    fn none() -> Times {
+        Times {
+            touch: Pair::NONE,
+            enter: Pair::NONE,
+            end: Pair::NONE,
+        }
+    }
+
+    fn and(self, other: Times) -> Times {
+        Times {
+            touch: self.touch.and(other.touch),
+            enter: self.enter.and(other.enter),
+            end: self.end.and(other.end),
+        }
+    }
+
     /// Prints the times of each event, and of all.
     pub fn print(self, rt: &impl Print, rounds: u32) -> io::Result<()> {
         self.touch.print(rt, "touch", rounds)?;
@@ -93,4 +114,25 @@ pub fn measure<K: Sink>(
     let body = since(rt, &start, other.end_by(&bodies.end, sink, rounds))?;
     let end = Pair { function, body };
     Ok(Times { touch, enter, end })
+}
+
+/// Measures so often, after once that does not count.
+pub fn measure_often<K: Sink>(
+    rt: &impl Clock,
+    bodies: &Bodies,
+    dim: Dim,
+    places: &mut (Site, Site),
+    sink: &mut K,
+    often: u32,
+    rounds: u32,
+) -> io::Result<Times>
+    requires { dim ≡ 2 }
+{
+    measure(rt, bodies, dim, places, sink, rounds)?;
+    let mut all = Times::none();
+    for _time in 0..often {
+        let times = measure(rt, bodies, dim, places, sink, rounds)?;
+        all = all.and(times);
+    }
+    Ok(all)
 }

@@ -1,7 +1,8 @@
 -- The value of an expression at an event.
-use Rattle.std.specs.Prelude.{ℤ, List, [], ◌∷◌, map, Result, Ok, Err}
+use Rattle.std.specs.Prelude.{ℤ, Bool, true, false, List, [], ◌∷◌, map, Result, Ok, Err}
 use Rattle.pe_parse.specs.declared.tree.Sign.{Sign}
 use Rattle.pe_check.specs.declared.checked.Expr.{Expr}
+use Rattle.pe_check.specs.declared.checked.Expr.TheVariants as expr
 use Rattle.pe_check.specs.declared.checked.Expr.TheOpen.{Expr-F}
 use Rattle.pe_check.specs.declared.checked.Expr.TheFolds.{fold-Expr}
 use Rattle.pe_eval.specs.declared.fault.Fault.{Fault}
@@ -21,6 +22,12 @@ expr_step (Expr-F.Unary prefix operand) scene = operand scene >>= λ a. prefixed
 expr_step (Expr-F.Chain first links) scene = chain_value scene (first scene) links
 expr_step (Expr-F.Extreme choice left right) scene = left scene >>= λ a. right scene >>= λ b. Ok (extreme choice a b)
 expr_step (Expr-F.Abs operand) scene = operand scene >>= λ a. absolute a
+
+-- an expression without parts
+abbrev pub is_simple : Expr → Bool
+is_simple (expr.Number n) = true
+is_simple (expr.Name name) = true
+is_simple _ = false
 
 abbrev pub value_of : Expr → Scene → Value
 value_of = fold-Expr (Scene → Value) expr_step

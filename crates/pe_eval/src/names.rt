@@ -10,6 +10,7 @@ use pe_stacks::{CellRec, Vertex};
 
 impl View<'_> {
     /// What a name stands for.
+    #[inline(always)]
     pub(crate) fn named(&self, name: Name) -> i64
         requires fits { IsTrue (name_fits (reach_of self.now) name) }
         requires ready { IsReady self.now }

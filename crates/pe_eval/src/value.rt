@@ -1,7 +1,7 @@
-ghost use Rattle.std.specs.Prelude.{◌≡◌, IsTrue, Ok};
+ghost use Rattle.std.specs.Prelude.{◌≡◌, IsTrue, false, Ok};
 ghost use Rattle.std.specs.List.{list_all};
 ghost use Rattle.pe_check.specs.Fits.{expr_fits};
-ghost use Rattle.pe_eval.specs.Values.{value_of, value_behind};
+ghost use Rattle.pe_eval.specs.Values.{is_simple, value_of, value_behind};
 ghost use Rattle.pe_eval.specs.Sights.{reach_of, IsReady, scene};
 
 use crate::arithmetic::{absolute, combined, extreme, is_decided, prefixed, truth};
@@ -9,7 +9,9 @@ use crate::fault::Fault;
 use crate::view::View;
 use pe_check::Expr;
 
-/// The value of an expression at an event.
+/// The value of an expression at an event. A number and a name are had without a call.
+#[inline(always)]
+#[cycle(value)]
 pub(crate) fn value(expr: &Expr, view: &View) -> Result<i64, Fault>
     requires fits { IsTrue (expr_fits (reach_of view.now) expr.now) }
     requires ready { IsReady view.now }
@@ -18,6 +20,22 @@ pub(crate) fn value(expr: &Expr, view: &View) -> Result<i64, Fault>
     match expr {
         Expr::Number(n) => Ok(*n),
         Expr::Name(name) => Ok(view.named(*name)),
+        Expr::Unary(..) | Expr::Chain(..) | Expr::Extreme(..) | Expr::Abs(..) => {
+            compound(expr, view)
+        }
+    }
+}
+
+/// The value of an expression that has parts.
+#[cycle(value)]
+fn compound(expr: &Expr, view: &View) -> Result<i64, Fault>
+    requires compound { is_simple expr.now ≡ false }
+    requires fits { IsTrue (expr_fits (reach_of view.now) expr.now) }
+    requires ready { IsReady view.now }
+    ensures { result ≡ value_of expr.now (scene view.now) }
+{
+    match expr {
+        Expr::Number(_) | Expr::Name(_) => unreachable!(),
         Expr::Unary(prefix, operand) => prefixed(*prefix, value(operand.get(), view)?),
         Expr::Chain(first, links) => {
             let mut so_far = match value(first.get(), view) {

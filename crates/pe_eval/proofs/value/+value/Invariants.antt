@@ -4,5 +4,5 @@ use Rattle.pe_eval.specs.Sights.{scene}
 use Rattle.pe_eval.proofs.value.+value.Given as goal
 
 -- the links that are left give what the whole chain gives
-abbrev pub invariant-loop-sign : goal.invariant-loop-sign
-invariant-loop-sign l = value_behind (Ok l.so_far) (drop l.sign-index l.sign-items) (scene l.view) ≡ value_of l.expr (scene l.view)
+abbrev pub invariant-compound-loop-sign : goal.invariant-compound-loop-sign
+invariant-compound-loop-sign l = value_behind (Ok l.so_far) (drop l.sign-index l.sign-items) (scene l.view) ≡ value_of l.expr (scene l.view)
