@@ -20,8 +20,6 @@ pub mod TallyLines
 pub mod CornerNumbers
 -- corners by the bits of their numbers
 pub mod Places
--- corners of which the last ones are full, after one more is put or taken
-pub mod FullCorners
 -- # What is done with records, one thing after another
 -- counts and sums over lists that are made of lists
 pub mod Sums

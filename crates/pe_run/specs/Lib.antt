@@ -28,8 +28,6 @@ pub mod LevelOne
 pub mod Traffic
 -- what the walk prints, and what it does with the records
 pub mod Walked
--- corners of which the last ones are full
-pub mod Filled
 -- how many vertices lie on a stack while some cells are walked
 pub mod Flows
 -- how the depots stand between traversals

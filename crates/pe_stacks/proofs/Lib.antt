@@ -14,3 +14,5 @@ pub mod CornerSlots
 pub mod QuadSlots
 -- a cell with a vertex in every slot
 pub mod FullCorners
+-- corners of which the last ones are full, after one more is put or taken
+pub mod Filling

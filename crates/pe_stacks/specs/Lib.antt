@@ -10,6 +10,8 @@ pub mod Streams
 -- # The corners of a cell
 -- for each corner by its number the vertex there, if there is one
 pub mod Corners
+-- corners of which the last ones are full
+pub mod Filled
 -- four corners, and what changing them makes of all
 pub mod Quads
 -- sixteen slots as a list

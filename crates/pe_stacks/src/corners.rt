@@ -117,7 +117,8 @@ impl<P> Corners<P> {
         slots.close();
     }
 
-    fn slot_mut(&mut self, k: u8) -> &mut Option<Vertex<P>>
+    /// The slot of a corner, to be touched in place.
+    pub fn slot_mut(&mut self, k: u8) -> &mut Option<Vertex<P>>
         requires { k < 2 ^ self.old.dim }
         ensures value { vertex_at self.old k ≡ result.now }
         ensures* writes_back { sem 𝓛 (Lends (the_row P.row) (option_row (vertex_row P.row)) self.entry result

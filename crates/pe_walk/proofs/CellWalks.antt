@@ -13,7 +13,7 @@ use Rattle.pe_walk.proofs.Simulation.Matching.{then-grouped}
 use Rattle.pe_walk.proofs.Visiting.{counts-on, counts-past}
 
 -- what goes on alike
-from-alike : {X Y : Type 0} (e : Ending X) (f g : X → Course Y) → ((x : X) → f x ≡ g x) → from e f ≡ from e g
+pub from-alike : {X Y : Type 0} (e : Ending X) (f g : X → Course Y) → ((x : X) → f x ≡ g x) → from e f ≡ from e g
 from-alike (done x) f g same = same x
 from-alike (halts cause) f g same = refl
 from-alike stuck f g same = refl

@@ -12,6 +12,7 @@ use Rattle.pe_stacks.specs.declared.record.Vertex.{Vertex}
 use Rattle.pe_stacks.specs.declared.quad.Quad.{Quad}
 use Rattle.pe_stacks.specs.Corners.{CornerList, vertex_at, vertices_of, with_vertex, no_vertices, IsFull}
 use Rattle.pe_stacks.specs.Quads.{quad_at, with_quad, quad_of, set_quad}
+use Rattle.pe_stacks.proofs.QuadSlots.{length-set_quad}
 use Rattle.pe_mapping.specs.Sights.{seen_vertex, seen_corners}
 use Rattle.pe_adapt.specs.Slots.{seen_slot}
 use Rattle.pe_walk.specs.Machine.{Machine, Ports, load_corner, load_all, store_corner, store_all}
@@ -195,3 +196,37 @@ module _ {V : Type 0} (numbers : V → List ℤ) where
 
   pub seen_corners-full : (axes : ℕ) (corners : CornerList (Vertex V)) → AreOf axes corners → filled_in_corners corners ≡ 2 ^ axes → seen_corners numbers corners ≡ seen_slots numbers corners
   seen_corners-full axes corners are all = seen-full corners.slots (all ∙ sym are.count)
+
+-- # Corners that are given up
+module _ {X : Type 0} where
+  filled-none : (slots : List (Option X)) → ((k : ℕ) → k < length slots → get_or slots k None ≡ None) → sum_by filled_in slots ≡ 0
+  filled-none [] none = refl
+  filled-none (slot ∷ slots) none =
+      let rest = filled-none slots (λ k below. none (suc k) (omega arith)) in
+      let first = ap filled_in (none 0 (omega arith)) in
+      omega (arith, rest, first, sum_by-cons filled_in slot slots)
+
+  -- all are given up
+  pub none-left : (axes n : ℕ) (corners : CornerList X) → AreOf axes corners → n ≡ 2 ^ axes → ((k : ℕ) → k < n → vertex_at corners k ≡ None) → filled_in_corners corners ≡ 0
+  none-left axes n corners are end none = filled-none corners.slots (λ k below. none k (omega (arith, below, are.count, end)))
+
+-- # Corners that are stored
+module _ {X : Type 0} where
+  filled-some : (slot : Option X) → IsSome slot → filled_in slot ≡ 1
+  filled-some None is = absurd (let no : false ≡ true = is in cc)
+  filled-some (Some x) is = refl
+
+  -- a quad of full corners
+  pub quad-full : (axes q : ℕ) (corners : CornerList X) → AreOf axes corners → filled_in_corners corners ≡ 2 ^ axes → 4 * q + 3 < 2 ^ axes → filled_in_quad (quad_at corners q) ≡ 4
+  quad-full axes q corners are all below =
+      let at : (k : ℕ) → k < length corners.slots → filled_in (get_or corners.slots k None) ≡ 1 = λ k here. filled-some (get_or corners.slots k None) (full-at corners.slots (all ∙ sym are.count) k here) in
+      let long = are.count in
+      omega (arith, at (4 * q) (omega arith), at (4 * q + 1) (omega arith), at (4 * q + 2) (omega arith), at (4 * q + 3) (omega arith))
+
+  pub are-with_quad : (axes q : ℕ) (corners : CornerList X) (quad : Quad X) → AreOf axes corners → AreOf axes (with_quad corners q quad)
+  are-with_quad axes q corners quad are = record { dim = are.dim; count = length-set_quad corners.slots q quad ∙ are.count }
+
+  -- a full quad is replaced
+  pub replaced : (axes q : ℕ) (corners : CornerList X) (quad : Quad X) → AreOf axes corners → 4 * q + 3 < 2 ^ axes → filled_in_quad (quad_at corners q) ≡ 4
+      → filled_in_corners (with_quad corners q quad) + 4 ≡ filled_in_corners corners + filled_in_quad quad
+  replaced axes q corners quad are below full = omega (arith, filled-with_quad corners q quad (omega (arith, are.count)), full)

@@ -10,6 +10,7 @@ pub mod CornerTouches
 pub mod QuadTouches
 -- all corners, quad by quad
 pub mod CornerLists
+pub mod CornerWalks
 -- # The laws
 -- cells that are not walked
 pub mod Unwalked
@@ -48,8 +49,8 @@ pub mod Traversing
 pub mod Children
 -- what the marks of corners tell
 pub mod Markings
--- corners that are taken out of their slots
-pub mod Emptying
+-- records that are given up, one after another
+pub mod GivingUp
 -- calls of a walk, one after another
 pub mod Walking
 -- what is done below a cell
@@ -62,3 +63,7 @@ pub mod CellWalks
 pub mod ChildWalks
 -- the walk of a cell, as a call does it
 pub mod WalkedCells
+-- the root's corners are made
+pub mod RootCorners
+-- the walk of the root's children, and a whole traversal, part by part
+pub mod RootWalks

@@ -1,6 +1,8 @@
 -- Pieces of the machine's walk of a cell, as calls do them.
-use Rattle.std.specs.Prelude.{ℕ, List, ◌+◌, ◌≤◌, Bool, if◌then◌else◌}
+use Rattle.std.specs.Prelude.{ℕ, ℤ, List, ◌+◌, ◌≤◌, Bool, if◌then◌else◌}
 use Rattle.pe_base.specs.declared.place.Place.{Place}
+use Rattle.pe_base.specs.declared.event.Event.TheVariants.{BeginIteration, EndIteration}
+use Rattle.pe_base.specs.Tree.Places.{root}
 use Rattle.pe_base.specs.Tree.Curve.{children}
 use Rattle.pe_base.specs.Acts.Effects.{VertexRecord}
 use Rattle.pe_base.specs.Walk.Course.{Course, and_then, course_map, each}
@@ -8,7 +10,7 @@ use Rattle.pe_base.specs.Walk.Core.{Setting, way, Family, Own}
 use Rattle.pe_base.specs.Walk.Touches.{kind_below}
 use Rattle.pe_stacks.specs.Holdings.{Holdings}
 use Rattle.pe_walk.specs.declared.progress.Progress.{Progress}
-use Rattle.pe_walk.specs.Machine.{Machine, Ports, enter_cell, leave_cell, inside, outside, if_walked, walk_cell}
+use Rattle.pe_walk.specs.Machine.{Machine, Ports, enter_cell, leave_cell, inside, outside, if_walked, walk_cell, plain}
 
 module _ {Plan : Type 0} (set : Setting Plan) (ports : Ports) where
   -- the walks of the children of a cell
@@ -24,6 +26,15 @@ module _ {Plan : Type 0} (set : Setting Plan) (ports : Ports) where
   abbrev pub visit_cell : ℕ → Place → List VertexRecord → Machine → Course (List VertexRecord × Machine)
   visit_cell levels cell corners m =
       and_then (enter_cell set ports cell corners m) (λ it. and_then (walk_below levels cell it) (leave_cell set ports cell))
+
+  -- between a traversal's first event and its last
+  abbrev pub walk_root : ℕ → Machine → Course Machine
+  walk_root greatest m =
+      and_then (plain set ports BeginIteration m) (λ m. and_then (walk_children greatest root m) (plain set ports EndIteration))
+
+-- with these vertices on stacks, and this list of the mapping
+abbrev pub with_vertices : Holdings VertexRecord → List ℤ → Machine → Machine
+with_vertices vertices list m = record m { vertices = vertices; family = record m.family { list = list } }
 
 -- with these parents, and the mapping's list as it is
 abbrev pub with_family : Family → Machine → Machine

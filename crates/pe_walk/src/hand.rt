@@ -1,24 +1,26 @@
-ghost use Rattle.std.specs.Prelude.{◌≡◌, ◌≤◌, ◌^◌, false};
-ghost use Rattle.pe_stacks.specs.Corners.{IsFull, no_vertices};
+ghost use Rattle.std.specs.Prelude.{◌≡◌, ◌+◌, ◌-◌, ◌≤◌, ◌^◌, false};
+ghost use Rattle.pe_stacks.specs.Corners.{no_vertices};
+ghost use Rattle.pe_stacks.specs.Filled.{FullFrom};
 ghost use Rattle.pe_hang.specs.Follows.{Left};
 ghost use Rattle.pe_walk.specs.GivenUp.{given_up_times};
 
 use pe_base::Dim;
 use pe_stacks::{Corners, Depot, Vertex};
 
-/// Gives up all corners of a cell.
-pub(crate) fn give_up_corners<V, D: Depot<Vertex<V>>>(
+/// Gives up the corners from a number on, which are all that there are.
+pub(crate) fn give_up_from<V, D: Depot<Vertex<V>>>(
     dim: Dim,
+    first: u8,
     corners: &mut Corners<V>,
     vertices: &mut D,
 )
-    requires full { IsFull dim corners.old }
-    requires out { 2 ^ dim ≤ (D.holds vertices.old).out }
+    requires full { FullFrom dim first corners.old }
+    requires out { 2 ^ dim ≤ (D.holds vertices.old).out + first }
     ensures emptied { corners.new ≡ no_vertices dim }
-    ensures holds { D.holds vertices.new ≡ given_up_times (2 ^ dim) (D.holds vertices.old) }
-    ensures left { Left (2 ^ dim) 0 (D.holds vertices.old) (D.room vertices.old) (D.holds vertices.new) (D.room vertices.new) false }
+    ensures holds { D.holds vertices.new ≡ given_up_times (2 ^ dim - first) (D.holds vertices.old) }
+    ensures left { Left (2 ^ dim - first) 0 (D.holds vertices.old) (D.room vertices.old) (D.holds vertices.new) (D.room vertices.new) false }
 {
-    for k in 0..dim.corners() {
+    for k in first..dim.corners() {
         vertices.give_up(corners.take(k));
     }
 }

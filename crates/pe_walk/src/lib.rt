@@ -1,8 +1,10 @@
 //! The walk of the cells of a grid.
 #![tactic(auto)]
 
+mod cell;
 mod child;
 mod corner;
+mod corners;
 mod count;
 mod hand;
 pub mod laws;
@@ -12,10 +14,15 @@ mod machine_rows;
 mod plain;
 mod progress;
 mod quad;
+mod root;
 #[cfg(test)]
 mod rows;
 mod settings;
 mod tallies;
 mod touch;
+mod traversal;
 mod visit;
 mod walked;
+mod whole;
+
+pub use traversal::traverse;

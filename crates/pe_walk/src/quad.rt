@@ -95,3 +95,61 @@ pub(crate) fn store_quad<M: Mapping, DV: Depot<Vertex<M::V>>>(
     let slot = &mut quad.p3;
     store_corner(settings, cell, k, progress, slot, m, dv, parents, parent)
 }
+
+// Loads four corners, as a call of its own: with four axes sixteen touches in one place are too much code.
+#[inline(never)]
+pub(crate) fn load_quad_apart<M: Mapping, DV: Depot<Vertex<M::V>>>(
+    settings: &Settings,
+    cell: &WalkedCell,
+    q: u8,
+    progress: &mut Progress,
+    quad: &mut Quad<Vertex<M::V>>,
+    m: &mut M,
+    dv: &mut DV,
+    parents: &mut Corners<M::V>,
+    parent: &mut CellRec<M::C>,
+) -> Result<(), Halt>
+    requires walked { IsWalked (M.held m.old).dim settings.now cell.now }
+    requires corners { 4 * q + 3 < 2 ^ (M.held m.old).dim }
+    requires kinds { GiveKinds (M.held m.old).dim settings.now.traversal cell.now.place (seen_corners M.numbers.vertex parents.old) cell.now.marks }
+    requires full { IsFull (M.held m.old).dim parents.old }
+    requires empty { quad.old ≡ no_quad }
+    requires fits { MayGo M.rules M.numbers settings.now (λ set. load_four set (ports_of settings.now) cell.now.place (4 * q))
+        (hand_of (M.held m.old) (DV.holds dv.old) (DV.room dv.old) parents.old parent.old progress.old) }
+    ensures goes { GoesAlong M.rules M.numbers settings.now (λ set. load_four set (ports_of settings.now) cell.now.place (4 * q))
+        (λ machine. (seen_quad M.numbers.vertex quad.new, machine)) 0 (filled_in_quad quad.new) result
+        (hand_of (M.held m.old) (DV.holds dv.old) (DV.room dv.old) parents.old parent.old progress.old)
+        (hand_of (M.held m.new) (DV.holds dv.new) (DV.room dv.new) parents.new parent.new progress.new) }
+    ensures loaded { OnOk result (filled_in_quad quad.new ≡ 4) }
+{
+    load_quad(settings, cell, q, progress, quad, m, dv, parents, parent)
+}
+
+// Stores four corners, as a call of its own.
+#[inline(never)]
+pub(crate) fn store_quad_apart<M: Mapping, DV: Depot<Vertex<M::V>>>(
+    settings: &Settings,
+    cell: &WalkedCell,
+    q: u8,
+    progress: &mut Progress,
+    quad: &mut Quad<Vertex<M::V>>,
+    m: &mut M,
+    dv: &mut DV,
+    parents: &mut Corners<M::V>,
+    parent: &mut CellRec<M::C>,
+) -> Result<(), Halt>
+    requires walked { IsWalked (M.held m.old).dim settings.now cell.now }
+    requires corners { 4 * q + 3 < 2 ^ (M.held m.old).dim }
+    requires full { IsFull (M.held m.old).dim parents.old }
+    requires filled { filled_in_quad quad.old ≡ 4 }
+    requires out { 4 ≤ (DV.holds dv.old).out }
+    requires fits { MayGo M.rules M.numbers settings.now (λ set. store_all set (ports_of settings.now) cell.now.place (4 * q) (seen_quad M.numbers.vertex quad.old))
+        (hand_of (M.held m.old) (DV.holds dv.old) (DV.room dv.old) parents.old parent.old progress.old) }
+    ensures goes { GoesAlong M.rules M.numbers settings.now (λ set. store_all set (ports_of settings.now) cell.now.place (4 * q) (seen_quad M.numbers.vertex quad.old))
+        (λ machine. machine) 4 (filled_in_quad quad.new) result
+        (hand_of (M.held m.old) (DV.holds dv.old) (DV.room dv.old) parents.old parent.old progress.old)
+        (hand_of (M.held m.new) (DV.holds dv.new) (DV.room dv.new) parents.new parent.new progress.new) }
+    ensures emptied { OnOk result (quad.new ≡ no_quad) }
+{
+    store_quad(settings, cell, q, progress, quad, m, dv, parents, parent)
+}

@@ -10,7 +10,7 @@ ghost use Rattle.pe_io.specs.Counts.{Rises};
 ghost use Rattle.pe_io.specs.Sink.{Appends, AppendsPrefix};
 ghost use Rattle.pe_run.specs.LevelOne.{load_firings, store_firings};
 ghost use Rattle.pe_run.specs.Traffic.{lends, gives_up, is_pop_from, DoesAll, Abandons};
-ghost use Rattle.pe_run.specs.Filled.{FullFrom};
+ghost use Rattle.pe_stacks.specs.Filled.{FullFrom};
 ghost use Rattle.pe_run.specs.Walked.{fired, cell_loads, cell_stores};
 
 use crate::status::Stop;

@@ -1,7 +1,7 @@
 use Rattle.std.proofs.Common.{◌≡◌, ◌+◌, ◌-◌, ◌<◌, [], ◌∷◌, replicate, refl, sym, ap, subst, ◌∙◌, arith}
 use Rattle.pe_stacks.specs.Holdings.{stack_count}
 use Rattle.pe_run.specs.Traffic.{gives_up, DoesAll}
-use Rattle.pe_run.proofs.FullCorners.{full_here, full_take}
+use Rattle.pe_stacks.proofs.Filling.{full_here, full_take}
 use Rattle.pe_run.proofs.TrafficLaws.{DoesAll-append}
 use Rattle.pe_run.proofs.CornerNumbers.{replicate_more}
 use Rattle.pe_run.proofs.walk.corners.give_up_from.Goals as goal

@@ -1,6 +1,6 @@
 use Rattle.std.proofs.Common.{◌≡◌, ◌+◌, ◌-◌, replicate}
 use Rattle.pe_stacks.specs.Holdings.{stack_count}
-use Rattle.pe_run.specs.Filled.{FullFrom}
+use Rattle.pe_stacks.specs.Filled.{FullFrom}
 use Rattle.pe_run.specs.Traffic.{gives_up, DoesAll}
 use Rattle.pe_run.proofs.walk.corners.give_up_from.Given as goal
 

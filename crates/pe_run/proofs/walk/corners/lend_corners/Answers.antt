@@ -2,9 +2,9 @@ use Rattle.std.proofs.Common.{◌≡◌, ◌+◌, ◌-◌, ◌^◌, [], ◌∷�
 use Rattle.std.proofs.lemmas.List.{length-replicate}
 use Rattle.pe_stacks.specs.Holdings.{CountsWithin}
 use Rattle.pe_stacks.proofs.CornerSlots.{corners_range}
-use Rattle.pe_run.specs.Filled.{FullFrom}
+use Rattle.pe_stacks.specs.Filled.{FullFrom}
 use Rattle.pe_run.specs.Traffic.{lends, DoesAll}
-use Rattle.pe_run.proofs.FullCorners.{full_put}
+use Rattle.pe_stacks.proofs.Filling.{full_put}
 use Rattle.pe_run.proofs.TrafficLaws.{DoesAll-append, few_after}
 use Rattle.pe_run.proofs.CornerNumbers.{replicate_more}
 use Rattle.pe_run.proofs.walk.corners.lend_corners.Goals as goal

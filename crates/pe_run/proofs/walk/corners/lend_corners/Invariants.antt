@@ -1,5 +1,5 @@
 use Rattle.std.proofs.Common.{◌≡◌, ◌+◌, ◌-◌, ◌^◌, replicate}
-use Rattle.pe_run.specs.Filled.{FullFrom}
+use Rattle.pe_stacks.specs.Filled.{FullFrom}
 use Rattle.pe_run.specs.Traffic.{lends, DoesAll}
 use Rattle.pe_run.proofs.walk.corners.lend_corners.Given as goal
 

@@ -1,12 +1,12 @@
 use Rattle.std.proofs.Common.{◌≡◌, ◌+◌, ◌-◌, ◌^◌, reverse, take, subst, ◌∙◌, arith}
 use Rattle.std.specs.List.{flat_map, range_with_len}
 use Rattle.pe_io.specs.Sink.{Appends}
-use Rattle.pe_run.specs.Filled.{FullFrom}
+use Rattle.pe_stacks.specs.Filled.{FullFrom}
 use Rattle.pe_run.specs.LevelOne.{load_firings}
 use Rattle.pe_run.specs.Traffic.{DoesAll}
 use Rattle.pe_run.specs.Walked.{fired, load_ops}
 use Rattle.pe_run.proofs.FiredTexts.{fired_next, fired_next_part}
-use Rattle.pe_run.proofs.FullCorners.{full_put}
+use Rattle.pe_stacks.proofs.Filling.{full_put}
 use Rattle.pe_run.proofs.TrafficLaws.{DoesAll-next, safe_next, few_after, counted}
 use Rattle.pe_run.proofs.LoadStore.{load_few, few_each}
 use Rattle.pe_run.proofs.CornerNumbers.{descending_at, descending_all, descending_few}

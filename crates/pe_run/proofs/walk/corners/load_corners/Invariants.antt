@@ -1,7 +1,7 @@
 use Rattle.std.proofs.Common.{◌≡◌, ◌≤◌, ◌+◌, ◌-◌, ◌^◌, reverse, take}
 use Rattle.std.specs.List.{flat_map, range_with_len}
 use Rattle.pe_io.specs.Sink.{Appends}
-use Rattle.pe_run.specs.Filled.{FullFrom}
+use Rattle.pe_stacks.specs.Filled.{FullFrom}
 use Rattle.pe_run.specs.LevelOne.{load_firings}
 use Rattle.pe_run.specs.Traffic.{DoesAll}
 use Rattle.pe_run.specs.Walked.{fired, load_ops}

@@ -5,7 +5,7 @@ use Rattle.pe_run.specs.LevelOne.{store_firings}
 use Rattle.pe_run.specs.Traffic.{DoesAll}
 use Rattle.pe_run.specs.Walked.{fired, store_ops}
 use Rattle.pe_run.proofs.FiredTexts.{fired_next, fired_next_part}
-use Rattle.pe_run.proofs.FullCorners.{full_here, full_take}
+use Rattle.pe_stacks.proofs.Filling.{full_here, full_take}
 use Rattle.pe_run.proofs.TrafficLaws.{DoesAll-next, few_after, counted}
 use Rattle.pe_run.proofs.LoadStore.{store_few, few_each}
 use Rattle.pe_run.proofs.CornerNumbers.{ascending_at, ascending_all, ascending_few}

@@ -1,8 +1,10 @@
 -- Corners of which the last ones are full, after one more is put or taken.
-use Rattle.std.proofs.Common.{◌≡◌, ℕ, zero, suc, ◌+◌, ◌^◌, ◌<◌, List, [], ◌∷◌, ◌++◌, map, length, get_or, set, replicate, Option, Some, None, IsSome, refl, sym, ap, subst, ◌∙◌, add-one, rules, arith}
-use Rattle.std.proofs.lemmas.List.{append-nil}
-use Rattle.pe_stacks.specs.Corners.{CornerList, no_vertices, vertex_at, with_vertex}
-use Rattle.pe_run.specs.Filled.{FullFrom}
+use Rattle.std.proofs.Common.{◌≡◌, ℕ, zero, suc, ◌+◌, ◌^◌, ◌<◌, List, [], ◌∷◌, ◌++◌, map, length, get_or, set, replicate, Option, Some, None, IsSome, true, false, refl, sym, ap, subst, ◌∙◌, add-one, rules, arith}
+use Rattle.std.specs.List.{filter_map}
+use Rattle.std.proofs.lemmas.List.{append-nil, length-append, length-map}
+use Rattle.pe_stacks.specs.Corners.{CornerList, no_vertices, vertex_at, with_vertex, vertices_of, IsFull}
+use Rattle.pe_stacks.proofs.FullCorners.{vertices_of-filled, length-vertices_of}
+use Rattle.pe_stacks.specs.Filled.{FullFrom}
 
 module _ {X : Type 0} where
   abbrev slots : ℕ → List X → List (Option X)
@@ -68,3 +70,43 @@ module _ {X : Type 0} where
       go : (vs : List X) → corners ≡ corners_of dim (slots k vs) → k + length vs ≡ 2 ^ dim → IsSome (vertex_at corners k)
       go [] same count = absurd (omega arith)
       go (v ∷ vs) same count = subst IsSome (sym (ap (λ (c : CornerList X). vertex_at c k) same ∙ some_at k v vs)) (search rules)
+
+  -- the vertices that are there
+  pub full_seen : (dim k : ℕ) (corners : CornerList X) → (full : FullFrom dim k corners) → vertices_of corners ≡ full.vertices
+  full_seen dim k corners full = ap vertices_of full.slots ∙ vertices_of-filled k full.vertices
+
+  -- all are there
+  there_at : (vs : List X) (k : ℕ) → k < length vs → IsSome (get_or (map Some vs) k None)
+  there_at [] k inside = absurd (omega arith)
+  there_at (v ∷ vs) zero inside = refl
+  there_at (v ∷ vs) (suc k) inside = there_at vs k (omega arith)
+
+  pub full_all : (dim : ℕ) (corners : CornerList X) → FullFrom dim 0 corners → IsFull dim corners
+  full_all dim corners full = record {
+    dim = ap (λ (c : CornerList X). c.dim) full.slots;
+    count = ap (λ (c : CornerList X). length c.slots) full.slots ∙ length-map full.vertices Some ∙ omega (arith, full.count);
+    full = λ k inside. subst IsSome (sym (ap (λ (c : CornerList X). vertex_at c k) full.slots)) (there_at full.vertices k (omega (arith, full.count)));
+  }
+
+  all_there : (list : List (Option X)) → ((k : ℕ) → k < length list → IsSome (get_or list k None)) → list ≡ map Some (filter_map (λ slot. slot) list)
+  all_there [] each = refl
+  all_there (None ∷ list) each = absurd (let none : false ≡ true = each 0 (omega arith) in cc)
+  all_there (Some v ∷ list) each = ap (λ rest. Some v ∷ rest) (all_there list (λ k inside. each (suc k) (omega arith)))
+
+  pub full_from : (dim : ℕ) (corners : CornerList X) → IsFull dim corners → FullFrom dim 0 corners
+  full_from dim corners full = record {
+    vertices = vertices_of corners;
+    slots = ap (corners_of corners.dim) (all_there corners.slots (λ k inside. full.full k (omega (arith, full.count)))) ∙ ap (λ d. corners_of d (map Some (vertices_of corners))) full.dim;
+    count = (let all = length-vertices_of dim corners full in omega (arith, all));
+  }
+
+  -- after one is put before those that are there
+  pub seen_put : (dim k : ℕ) (v : X) (corners corners' : CornerList X) → corners' ≡ with_vertex corners k (Some v) → FullFrom dim (k + 1) corners → vertices_of corners' ≡ v ∷ vertices_of corners
+  seen_put dim k v corners corners' is full =
+      ap vertices_of (is ∙ ap (λ (c : CornerList X). with_vertex c k (Some v)) full.slots ∙ ap (corners_of dim) (ap (λ n. set (slots n full.vertices) k (Some v)) (add-one k) ∙ put_at k v full.vertices))
+      ∙ vertices_of-filled k (v ∷ full.vertices)
+      ∙ ap (λ vs. v ∷ vs) (sym (full_seen dim (k + 1) corners full))
+
+  -- of none that is there nothing is seen
+  pub seen_none : (dim : ℕ) (corners : CornerList X) → corners ≡ no_vertices dim → vertices_of corners ≡ []
+  seen_none dim corners is = full_seen dim (2 ^ dim) corners (record { vertices = []; slots = is ∙ ap (corners_of dim) (sym (append-nil (replicate (2 ^ dim) None))); count = omega arith })

@@ -1,0 +1,31 @@
+use Rattle.std.proofs.Common.{◌≡◌, ℕ, ◌-◌, ◌^◌, [], false}
+use Rattle.pe_stacks.specs.Filled.{FullFrom}
+use Rattle.pe_mapping.specs.Held.{Keeps}
+use Rattle.pe_mapping.specs.Sights.{seen_corners}
+use Rattle.pe_hang.specs.Follows.{Leads, Left, found_of, held_by}
+use Rattle.pe_walk.specs.Machine.{Machine}
+use Rattle.pe_walk.specs.InHand.{setting_in, ports_of}
+use Rattle.pe_walk.proofs.RootCorners.{roots}
+use Rattle.pe_walk.proofs.root.lend_corners.Given as goal
+
+-- the last corners are made
+abbrev pub invariant-loop-done : goal.invariant-loop-done
+invariant-loop-done g l =
+    let numbers = g.M.Mapping.numbers.vertex in
+    let before = g.M.Mapping.held l.initial.m in
+    let now = g.M.Mapping.held l.m in
+    let vertices = g.DV.Depot.holds l.initial.dv in
+    let room = g.DV.Depot.room l.initial.dv in
+    let vertices' = g.DV.Depot.holds l.dv in
+    let room' = g.DV.Depot.room l.dv in
+    let set = setting_in g.M.Effects.rules before l.settings in
+    let ports = ports_of l.settings in
+    record {
+      count : l.count ≡ 2 ^ l.settings.setup.dim;
+      full : FullFrom l.settings.setup.dim (2 ^ l.settings.setup.dim - l.done) l.corners;
+      leads : (rest : Machine) (cells : ℕ → ℕ) → Leads (roots numbers set ports rest (2 ^ before.dim) [] vertices before.list)
+          (found_of before (held_by vertices room) cells) (found_of now (held_by vertices' room') cells)
+          (roots numbers set ports rest (2 ^ before.dim - l.done) (seen_corners numbers l.corners) vertices' now.list);
+      left : Left 0 l.done vertices room vertices' room' false;
+      keeps : Keeps before now;
+    }

@@ -1,0 +1,99 @@
+use Rattle.std.proofs.Common.{◌≡◌, ℕ, ◌≤◌, Ok, Err, refl, sym, ap, subst, ◌∙◌, arith}
+use Rattle.pe_base.specs.declared.event.Event.TheVariants.{BeginIteration, EndIteration}
+use Rattle.pe_base.specs.declared.tally.Tally.{Tally}
+use Rattle.pe_hang.specs.Follows.{Follows, read_by, held_by}
+use Rattle.pe_hang.proofs.Leading.{and_then-fits}
+use Rattle.pe_walk.specs.InHand.{ports_of, failure_in}
+use Rattle.pe_walk.proofs.Walking.{hands, machine_of, found_in, set_in, Goes, steps-may, steps-then, steps-err}
+use Rattle.pe_walk.proofs.RootWalks.{beginning, walking, finishing, after_begin, plain-follows}
+use Rattle.pe_walk.proofs.root.walk_root.Goals as goal
+
+pub returns-in-Err-clause-follows : goal.returns-in-Err-clause-follows
+returns-in-Err-clause-follows g c =
+    let numbers = g.M.Mapping.numbers in
+    let rules = g.M.Effects.rules in
+    let s = c.args.settings.now in
+    let ports = ports_of s in
+    let greatest = s.setup.max_level in
+    let old = hands (g.M.Mapping.held c.args.m.now) (g.DV.Depot.holds c.args.dv.now) (g.DV.Depot.room c.args.dv.now) (g.DC.Depot.holds c.args.dc.now) (g.DC.Depot.room c.args.dc.now) c.args.corners.now c.args.root.now c.args.progress.now in
+    let new = hands (g.M.Mapping.held c.fire_plain.new.m) old.vertices old.room old.cells old.cell_room old.parents old.parent c.fire_plain.new.progress in
+    let after = λ (u : Unit {0}). machine_of rules numbers s new in
+    let failure = failure_in c.fire_plain.new.progress c.in-Err.halt in
+    steps-err rules numbers s (beginning ports greatest (machine_of rules numbers s old)) (after_begin ports greatest) (λ (u : Unit {0}). machine_of rules numbers s old) after failure old new
+    (plain-follows ports greatest (set_in rules numbers s old) BeginIteration (machine_of rules numbers s old) old.held.list (Err failure) (found_in rules numbers s old) new.held.told
+    (c.in-Err.ensures.follows (held_by old.vertices old.room) (held_by old.cells old.cell_room)))
+
+pub walk_children-requires-clause-fits : goal.walk_children-requires-clause-fits
+walk_children-requires-clause-fits g c =
+    let numbers = g.M.Mapping.numbers in
+    let rules = g.M.Effects.rules in
+    let s = c.args.settings.now in
+    let ports = ports_of s in
+    let greatest = s.setup.max_level in
+    let old = hands (g.M.Mapping.held c.args.m.now) (g.DV.Depot.holds c.args.dv.now) (g.DV.Depot.room c.args.dv.now) (g.DC.Depot.holds c.args.dc.now) (g.DC.Depot.room c.args.dc.now) c.args.corners.now c.args.root.now c.args.progress.now in
+    let begun = hands (g.M.Mapping.held c.fire_plain.new.m) old.vertices old.room old.cells old.cell_room old.parents old.parent c.fire_plain.new.progress in
+    let set = set_in rules numbers s old in
+    let start = machine_of rules numbers s old in
+    let begins = beginning ports greatest start in
+    let to_begin = λ (u : Unit {0}). machine_of rules numbers s begun in
+    let goes : Goes rules numbers s old begun = record { keeps = c.in-Ok.ensures.keeps; vertices = λ n. omega arith; cells = λ n. omega arith } in
+    let fired = plain-follows ports greatest set BeginIteration start begun.held.list (Ok tt) (found_in rules numbers s old) begun.held.told
+    (c.in-Ok.ensures.follows (held_by old.vertices old.room) (held_by old.cells old.cell_room)) in
+    let begin = subst (λ (tally : Tally). Follows (begins set) (λ (u : Unit {0}). record (machine_of rules numbers s begun) { tally = tally }) (Ok tt) (found_in rules numbers s old) begun.held.told) (sym c.fire_plain.ensures.tally) fired in
+    and_then-fits (walking ports greatest (to_begin tt) (set_in rules numbers s begun)) _
+    (steps-may rules numbers s begins (after_begin ports greatest) to_begin tt old begun c.requires.fits begin goes)
+
+pub returns-in-Ok-walk_children-clause-follows : goal.returns-in-Ok-walk_children-clause-follows
+returns-in-Ok-walk_children-clause-follows g c =
+    let numbers = g.M.Mapping.numbers in
+    let rules = g.M.Effects.rules in
+    let s = c.args.settings.now in
+    let ports = ports_of s in
+    let greatest = s.setup.max_level in
+    let old = hands (g.M.Mapping.held c.args.m.now) (g.DV.Depot.holds c.args.dv.now) (g.DV.Depot.room c.args.dv.now) (g.DC.Depot.holds c.args.dc.now) (g.DC.Depot.room c.args.dc.now) c.args.corners.now c.args.root.now c.args.progress.now in
+    let begun = hands (g.M.Mapping.held c.fire_plain.new.m) old.vertices old.room old.cells old.cell_room old.parents old.parent c.fire_plain.new.progress in
+    let walked = hands (g.M.Mapping.held c.walk_children.new.m) (g.DV.Depot.holds c.walk_children.new.dv) (g.DV.Depot.room c.walk_children.new.dv) (g.DC.Depot.holds c.walk_children.new.dc) (g.DC.Depot.room c.walk_children.new.dc) c.walk_children.new.parents c.walk_children.new.parent c.walk_children.new.progress in
+    let new = hands (g.M.Mapping.held c.fire_plain-in-Ok-walk_children.new.m) walked.vertices walked.room walked.cells walked.cell_room walked.parents walked.parent c.fire_plain-in-Ok-walk_children.new.progress in
+    let set = set_in rules numbers s old in
+    let start = machine_of rules numbers s old in
+    let begins = beginning ports greatest start in
+    let to_begin = λ (u : Unit {0}). machine_of rules numbers s begun in
+    let goes : Goes rules numbers s old begun = record { keeps = c.in-Ok.ensures.keeps; vertices = λ n. omega arith; cells = λ n. omega arith } in
+    let fired = plain-follows ports greatest set BeginIteration start begun.held.list (Ok tt) (found_in rules numbers s old) begun.held.told
+    (c.in-Ok.ensures.follows (held_by old.vertices old.room) (held_by old.cells old.cell_room)) in
+    let begin = subst (λ (tally : Tally). Follows (begins set) (λ (u : Unit {0}). record (machine_of rules numbers s begun) { tally = tally }) (Ok tt) (found_in rules numbers s old) begun.held.told) (sym c.fire_plain.ensures.tally) fired in
+    let walks = walking ports greatest (to_begin tt) in
+    let to_walk = λ (u : Unit {0}). machine_of rules numbers s walked in
+    let goes_on : Goes rules numbers s begun walked = record { keeps = c.in-Ok-walk_children.ensures.keeps; vertices = c.in-Ok-walk_children.ensures.left.keeps; cells = c.in-Ok-walk_children.ensures.cells_left.keeps } in
+    let after = λ (u : Unit {0}). machine_of rules numbers s new in
+    let answer = read_by (failure_in c.fire_plain-in-Ok-walk_children.new.progress) c.fire_plain-in-Ok-walk_children.result in
+    let ended = plain-follows ports greatest (set_in rules numbers s walked) EndIteration (to_walk tt) new.held.list answer (found_in rules numbers s walked) new.held.told
+    (c.fire_plain-in-Ok-walk_children.ensures.follows (held_by walked.vertices walked.room) (held_by walked.cells walked.cell_room)) in
+    let end = subst (λ (tally : Tally). Follows (finishing ports greatest (set_in rules numbers s walked) (to_walk tt)) (λ (u : Unit {0}). record (machine_of rules numbers s new) { tally = tally }) answer (found_in rules numbers s walked) new.held.told)
+    (sym c.fire_plain-in-Ok-walk_children.ensures.tally) ended in
+    steps-then rules numbers s begins (after_begin ports greatest) to_begin tt after answer old begun new begin goes
+    (steps-then rules numbers s walks (finishing ports greatest) to_walk tt after answer begun walked new c.in-Ok-walk_children.ensures.follows goes_on end)
+
+pub returns-in-Err-walk_children-clause-follows : goal.returns-in-Err-walk_children-clause-follows
+returns-in-Err-walk_children-clause-follows g c =
+    let numbers = g.M.Mapping.numbers in
+    let rules = g.M.Effects.rules in
+    let s = c.args.settings.now in
+    let ports = ports_of s in
+    let greatest = s.setup.max_level in
+    let old = hands (g.M.Mapping.held c.args.m.now) (g.DV.Depot.holds c.args.dv.now) (g.DV.Depot.room c.args.dv.now) (g.DC.Depot.holds c.args.dc.now) (g.DC.Depot.room c.args.dc.now) c.args.corners.now c.args.root.now c.args.progress.now in
+    let begun = hands (g.M.Mapping.held c.fire_plain.new.m) old.vertices old.room old.cells old.cell_room old.parents old.parent c.fire_plain.new.progress in
+    let new = hands (g.M.Mapping.held c.walk_children.new.m) (g.DV.Depot.holds c.walk_children.new.dv) (g.DV.Depot.room c.walk_children.new.dv) (g.DC.Depot.holds c.walk_children.new.dc) (g.DC.Depot.room c.walk_children.new.dc) c.walk_children.new.parents c.walk_children.new.parent c.walk_children.new.progress in
+    let set = set_in rules numbers s old in
+    let start = machine_of rules numbers s old in
+    let begins = beginning ports greatest start in
+    let to_begin = λ (u : Unit {0}). machine_of rules numbers s begun in
+    let goes : Goes rules numbers s old begun = record { keeps = c.in-Ok.ensures.keeps; vertices = λ n. omega arith; cells = λ n. omega arith } in
+    let fired = plain-follows ports greatest set BeginIteration start begun.held.list (Ok tt) (found_in rules numbers s old) begun.held.told
+    (c.in-Ok.ensures.follows (held_by old.vertices old.room) (held_by old.cells old.cell_room)) in
+    let begin = subst (λ (tally : Tally). Follows (begins set) (λ (u : Unit {0}). record (machine_of rules numbers s begun) { tally = tally }) (Ok tt) (found_in rules numbers s old) begun.held.told) (sym c.fire_plain.ensures.tally) fired in
+    let walks = walking ports greatest (to_begin tt) in
+    let after = λ (u : Unit {0}). machine_of rules numbers s new in
+    let failure = failure_in c.walk_children.new.progress c.in-Err-walk_children.halt in
+    steps-then rules numbers s begins (after_begin ports greatest) to_begin tt after (Err failure) old begun new begin goes
+    (steps-err rules numbers s walks (finishing ports greatest) after after failure begun new c.in-Err-walk_children.ensures.follows)
