@@ -12,7 +12,7 @@ use Rattle.pe_base.specs.declared.way.Way.{Way}
 use Rattle.pe_base.specs.Tree.Places.{IsCellPlace, IsInside, bits, moved, corner, padded, at}
 use Rattle.pe_base.specs.Steps.Routes.{way_turns, waiting_stack, stack_in, stack_out}
 use Rattle.pe_base.proofs.Tree.PlaceLaws.{length-bits, bits-suc}
-use Rattle.pe_base.proofs.Steps.InnerVertices.{length-moved}
+use Rattle.pe_base.proofs.Steps.CornerPlaces.{length-moved}
 use Rattle.pe_base.proofs.Steps.RouteLaws.{Below, Below-front, length-front, padded-front, at-front}
 use Rattle.pe_base.proofs.Steps.Spans.{fits_all, parents}
 use Rattle.pe_base.proofs.Steps.Levels.{entry}

@@ -16,7 +16,7 @@ use Rattle.pe_base.specs.Life.Carriers.{thirds, carriers, carrier_positions, pas
 use Rattle.pe_base.specs.Acts.Effects.{VertexRecord}
 use Rattle.pe_base.proofs.Lists.{Each, Each-weaker, Each-map, Each-flat_map}
 use Rattle.pe_base.proofs.Tree.PlaceLaws.{length-bits}
-use Rattle.pe_base.proofs.Steps.InnerVertices.{length-moved}
+use Rattle.pe_base.proofs.Steps.CornerPlaces.{length-moved}
 use Rattle.pe_states.specs.Carriers.{carrier_numbers}
 use Rattle.pe_states.proofs.CarrierLaws.{carriers_within, carrier_numbers-below}
 use Rattle.pe_adapt.specs.Marked.{IsQuiet}

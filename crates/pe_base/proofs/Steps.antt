@@ -12,8 +12,6 @@ pub mod Rounds
 pub mod RouteLaws
 -- the stacks of a vertex by how its cells are entered and left
 pub mod StackLaws
--- the cells around a vertex of level 1
-pub mod InnerVertices
 -- two cells that follow each other around a vertex share a face
 pub mod Crossing
 -- how often each axis is crossed
@@ -22,5 +20,7 @@ pub mod CrossingLaws
 pub mod SlowerLaws
 -- the loads and stores of one vertex, and its steps
 pub mod Counts
+-- the corners of a cell are places of the grid
+pub mod CornerPlaces
 -- the cells around a vertex, turned round
 pub mod Turned

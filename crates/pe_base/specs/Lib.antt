@@ -12,7 +12,5 @@ pub mod Acts
 pub mod Lines
 -- the walk by address
 pub mod Walk
--- the walk of level 1 alone
-pub mod LevelOne
 -- how a list and a box lie in a type that holds itself through them
 pub mod formers

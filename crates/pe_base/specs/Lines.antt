@@ -4,10 +4,12 @@ use Rattle.std.specs.List.{flat_map}
 use Rattle.std.specs.Char.{is_ascii_alphanumeric}
 use Rattle.pe_base.specs.declared.place.Place.{Place}
 use Rattle.pe_base.specs.declared.event.Event.{Event}
+use Rattle.pe_base.specs.declared.event.Sort.{Sort}
+use Rattle.pe_base.specs.declared.event.Sort.TheVariants.{Plain, Vertex, Cell}
 use Rattle.pe_base.specs.declared.tally.Tally.{Tally}
 use Rattle.pe_base.specs.declared.way.Way.{Way}
 use Rattle.pe_base.specs.declared.way.Way.TheVariants.{Forward, Inverted}
-use Rattle.pe_base.specs.Acts.Events.{name_of}
+use Rattle.pe_base.specs.Acts.Events.{name_of, sort_of}
 
 -- a word, each further part behind one space, and a line feed
 abbrev pub line : List ℕ → List (List ℕ) → List ℕ
@@ -24,6 +26,12 @@ plain_line event traversal = line (name_of event) (decimal traversal ∷ [])
 -- the trace line of an event at a place
 abbrev pub place_line : ℕ → Event → Place → List ℕ
 place_line dim event place = line (name_of event) (place_parts dim place)
+
+-- the trace line of an event of a sort
+abbrev pub line_by : Sort → ℕ → Event → ℕ → Place → List ℕ
+line_by Plain dim event traversal place = plain_line event traversal
+line_by Vertex dim event traversal place = place_line dim event place
+line_by Cell dim event traversal place = place_line dim event place
 
 -- the name of a way
 abbrev pub way_name : Way → List ℕ
@@ -60,12 +68,32 @@ fault_words = fault_line (codes "words" ∷ [])
 abbrev pub fault_shelf_scenario : List ℕ
 fault_shelf_scenario = fault_line (codes "shelf" ∷ codes "scenario" ∷ [])
 
--- the scenario has more bytes than it may have, is no TOML document, or asks for what is not built
-abbrev pub fault_scenario_too_long : List ℕ
-fault_scenario_too_long = fault_line (codes "scenario" ∷ codes "too-long" ∷ [])
+-- a scenario is refused
+abbrev pub fault_scenario : List (List ℕ) → List ℕ
+fault_scenario parts = fault_line (codes "scenario" ∷ parts)
 
-abbrev pub fault_scenario_not_toml : List ℕ
-fault_scenario_not_toml = fault_line (codes "scenario" ∷ codes "not-toml" ∷ [])
+-- for a key, or for what stands there
+abbrev pub fault_at_key : List ℕ → List ℕ → List ℕ
+fault_at_key cause key = fault_scenario (cause ∷ shown_key key ∷ [])
 
-abbrev pub fault_scenario_unbuilt : List ℕ → List ℕ
-fault_scenario_unbuilt key = fault_line (codes "scenario" ∷ codes "unbuilt" ∷ shown_key key ∷ [])
+-- for the body of an event, at an offset
+abbrev pub fault_in_body : Event → ℕ → List ℕ → List ℕ
+fault_in_body event offset cause = fault_scenario (codes "body" ∷ name_of event ∷ decimal offset ∷ cause ∷ [])
+
+-- an event, with its place unless it is plain
+abbrev pub event_parts : Sort → ℕ → Event → Place → List (List ℕ)
+event_parts Plain dim event place = name_of event ∷ []
+event_parts Vertex dim event place = name_of event ∷ place_parts dim place
+event_parts Cell dim event place = name_of event ∷ place_parts dim place
+
+-- a traversal is halted
+abbrev pub fault_in_traversal : List ℕ → ℕ → List (List ℕ) → List ℕ
+fault_in_traversal cause traversal parts = fault_line (cause ∷ codes "traversal" ∷ decimal traversal ∷ parts)
+
+-- at an event
+abbrev pub fault_at_event : List ℕ → ℕ → ℕ → Event → Place → List ℕ
+fault_at_event cause dim traversal event place = fault_in_traversal cause traversal (event_parts (sort_of event) dim event place)
+
+-- at one cell too many
+abbrev pub fault_cells : ℕ → ℕ → Place → List ℕ
+fault_cells dim traversal place = fault_in_traversal (codes "cells") traversal (place_parts dim place)

@@ -12,8 +12,10 @@ pub mod Grids
 pub mod Working
 -- the steps by address
 pub mod Touches
--- the walk of a cell, a traversal, and traversals in turn
+-- the walk of a cell, and a traversal
 pub mod Walk
+-- traversals in turn
+pub mod Turns
 -- what is known of a traversal before it begins
 pub mod Foreseen
 -- the order of a grid between two traversals

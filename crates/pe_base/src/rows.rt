@@ -1,14 +1,11 @@
 //! Worked rows of the definitions and of the calls. A function without a body computes the definitions
 //! that its contract names; the test that calls it has it checked.
-ghost use Rattle.std.specs.Prelude.{◌≡◌, [], ◌∷◌, ◌++◌, map, codes, length, List, Some};
+ghost use Rattle.std.specs.Prelude.{◌≡◌, [], ◌∷◌, map, codes, length};
 ghost use Rattle.pe_base.specs.declared.way.Way.TheVariants.{Forward, Inverted};
-ghost use Rattle.pe_base.specs.declared.event.Event.TheVariants.{EnterCell, BeginIteration, CreateHangingVertex};
+ghost use Rattle.pe_base.specs.declared.event.Event.TheVariants.{EnterCell, BeginIteration, EndIteration, TouchVertexLastTime};
 ghost use Rattle.pe_base.specs.Tree.Places.{root, at};
 ghost use Rattle.pe_base.specs.Tree.Curve.{children, order};
-ghost use Rattle.pe_base.specs.Lines.{place_line, plain_line, done_line, fault_shelf_scenario, fault_scenario_unbuilt};
-ghost use Rattle.pe_base.specs.Acts.Events.{is_among};
-ghost use Rattle.pe_base.specs.LevelOne.Traces.{traversals_text};
-ghost use Rattle.std.specs.Prelude.{take, drop};
+ghost use Rattle.pe_base.specs.Lines.{place_line, plain_line, done_line, fault_shelf_scenario, fault_at_key, fault_in_body, fault_at_event, fault_cells};
 
 use crate::{Dim, Event, List, Sort, Text, Way};
 use std::test::Fail;
@@ -43,26 +40,15 @@ fn lines()
     ensures plain { plain_line BeginIteration 12 ≡ codes "begin_iteration 12\n" }
     ensures done { done_line ≡ codes "done\n" }
     ensures refusal { fault_shelf_scenario ≡ codes "fault shelf scenario\n" }
-    ensures shown { fault_scenario_unbuilt (codes "max cells") ≡ codes "fault scenario unbuilt max?cells\n" }
-{}
-
-fn walks_of_level_one()
-    ensures cells { traversals_text (is_among (EnterCell ∷ [])) 2 1 ≡
-        codes "enter_cell 1 0 0\nenter_cell 1 0 1\nenter_cell 1 0 2\n"
-        ++ codes "enter_cell 1 1 2\nenter_cell 1 1 1\nenter_cell 1 1 0\n"
-        ++ codes "enter_cell 1 2 0\nenter_cell 1 2 1\nenter_cell 1 2 2\n"
-        ++ codes "traversal 1 forward cells 9 in 0 out 4 created 4 destroyed 0 hanging 20\n" }
-    ensures inverted { drop (length (traversals_text (is_among []) 2 1)) (traversals_text (is_among []) 2 2) ≡
-        codes "traversal 2 inverted cells 9 in 4 out 4 created 0 destroyed 0 hanging 20\n" }
-    ensures three_axes { traversals_text (is_among []) 3 1 ≡
-        codes "traversal 1 forward cells 27 in 0 out 8 created 8 destroyed 0 hanging 152\n" }
-    ensures hanging { take 84 (traversals_text (is_among (CreateHangingVertex ∷ [])) 2 1) ≡
-        codes "create_hanging_vertex 1 0 1\ncreate_hanging_vertex 1 1 0\ncreate_hanging_vertex 1 0 0\n" }
+    ensures shown { fault_at_key (codes "unknown-key") (codes "max cells") ≡ codes "fault scenario unknown-key max?cells\n" }
+    ensures body { fault_in_body EnterCell 7 (codes "syntax") ≡ codes "fault scenario body enter_cell 7 syntax\n" }
+    ensures plain_event { fault_at_event (codes "overflow") 2 3 EndIteration root ≡ codes "fault overflow traversal 3 end_iteration\n" }
+    ensures event { fault_at_event (codes "division") 2 1 TouchVertexLastTime (at 2 (3 ∷ 4 ∷ [])) ≡ codes "fault division traversal 1 touch_vertex_last_time 2 3 4\n" }
+    ensures cells { fault_cells 2 2 (at 2 (2 ∷ 2 ∷ [])) ≡ codes "fault cells traversal 2 2 2 2\n" }
 {}
 
 #[test]
 fn the_definitions_give_the_rows() {
-    walks_of_level_one();
     children_of_the_root();
     turn_between_parents();
     lines();

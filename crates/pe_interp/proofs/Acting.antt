@@ -8,6 +8,7 @@ use Rattle.pe_base.specs.Acts.Events.{sort_of}
 use Rattle.pe_base.specs.declared.stop.Stop.{Stop}
 use Rattle.pe_base.specs.declared.stop.Stop.TheVariants.{Overflow, Division, Sink, Memory}
 use Rattle.pe_base.specs.Acts.Effects.{Seen, Outcome}
+use Rattle.pe_base.specs.Lines.{line_by}
 use Rattle.pe_io.specs.Counts.{Rises}
 use Rattle.pe_io.specs.Sink.{Appends, AppendsPrefix}
 use Rattle.pe_mapping.specs.Held.{Told, Held, IsLonger, Adds, AddsPart, SinkFailed}
@@ -21,7 +22,8 @@ use Rattle.pe_eval.specs.Answers as eval
 use Rattle.pe_scene.specs.declared.scenario.Scenario.{Scenario}
 use Rattle.pe_scene.specs.Trace.{traces}
 use Rattle.pe_scene.specs.Bodies.{body_at}
-use Rattle.pe_interp.specs.Effect.{line_by, trace_line, limit_by, setting_at, acted, effect_of}
+use Rattle.pe_scene.specs.SaidView.{said_of}
+use Rattle.pe_interp.specs.Effect.{trace_line, limit_by, setting_at, acted, effect_of}
 
 longer : (old : Option (List ℕ)) (bytes : List ℕ) (new : Option (List ℕ)) → Appends old bytes new → IsLonger old bytes new
 longer None bytes new is = is
@@ -94,31 +96,31 @@ body_acts line outcome old new mid view after (Err Memory) written answer seen l
 
 -- the trace line of an event that is traced
 pub line_traced : (scenario : Scenario) (event : Event) (sort : Sort) (traversal : ℕ) (place : Place) (old mid : Told) → sort_of event ≡ sort → traces scenario.trace event ≡ true
-    → Appends old.text (line_by sort scenario.setup.dim event traversal place) mid.text → old.faults ≤ mid.faults → Adds old (trace_line scenario event traversal place) mid
+    → Appends old.text (line_by sort scenario.setup.dim event traversal place) mid.text → old.faults ≤ mid.faults → Adds old (trace_line (said_of scenario) event traversal place) mid
 line_traced scenario event sort traversal place old mid is traced appends faults =
     rw traced (rw is (line_adds old mid (line_by sort scenario.setup.dim event traversal place) appends faults))
 
 -- and of one that is not
-pub line_untraced : (scenario : Scenario) (event : Event) (traversal : ℕ) (place : Place) (told : Told) → traces scenario.trace event ≡ false → Adds told (trace_line scenario event traversal place) told
+pub line_untraced : (scenario : Scenario) (event : Event) (traversal : ℕ) (place : Place) (told : Told) → traces scenario.trace event ≡ false → Adds told (trace_line (said_of scenario) event traversal place) told
 line_untraced scenario event traversal place told untraced = rw untraced (adds-nothing told)
 
 -- the sink failed at the trace line of an event
 pub event_fails : (scenario : Scenario) (event : Event) (sort : Sort) (traversal : ℕ) (list : List ℤ) (before : Seen) (old new : Held Scenario) → sort_of event ≡ sort → traces scenario.trace event ≡ true
     → AppendsPrefix old.told.text (line_by sort scenario.setup.dim event traversal before.place) new.told.text → old.told.faults ≤ new.told.faults → Rises old.told.faults new.told.faults
-    → IsSinkFault (effect_of scenario event traversal list before) old new
+    → IsSinkFault (effect_of (said_of scenario) event traversal list before) old new
 event_fails scenario event sort traversal list before old new is traced appends faults failed =
     let line = line_by sort scenario.setup.dim event traversal before.place in
-    let outcome = acted (body_at scenario.bodies event) (setting_at scenario event traversal) before list in
-    let same : trace_line scenario event traversal before.place ≡ line = rw traced (ap (λ s. line_by s scenario.setup.dim event traversal before.place) is) in
+    let outcome = acted (body_at scenario.bodies event) (setting_at (said_of scenario) event traversal) before list in
+    let same : trace_line (said_of scenario) event traversal before.place ≡ line = rw traced (ap (λ s. line_by s scenario.setup.dim event traversal before.place) is) in
     subst (λ l. IsSinkFault (behind l outcome) old new) (sym same) (line_fails line outcome old new appends faults failed)
 
 -- an event with a body
 pub event_acts : (scenario : Scenario) (event : Event) (sort : Sort) (traversal : ℕ) (body : List Stmt) (list list' : List ℤ) (before after : Seen) (old new : Held Scenario) (mid : Told) (view : View) (result : Result (Unit {0}) Stop)
-    → sort_of event ≡ sort → body_at scenario.bodies event ≡ Some body → Adds old.told (trace_line scenario event traversal before.place) mid → list' ≡ list
+    → sort_of event ≡ sort → body_at scenario.bodies event ≡ Some body → Adds old.told (trace_line (said_of scenario) event traversal before.place) mid → list' ≡ list
     → eval.Answers (meaning body (record { traversal = traversal; max_level = limit_by sort scenario.setup.max_level }) before list') (as_told mid) (as_told new.told) view result
-    → sight view ≡ after → globals_of view ≡ new.list → Answers (effect_of scenario event traversal list before) old new after result
+    → sight view ≡ after → globals_of view ≡ new.list → Answers (effect_of (said_of scenario) event traversal list before) old new after result
 event_acts scenario event sort traversal body list list' before after old new mid view result is has written same answer seen numbers =
-    let line = trace_line scenario event traversal before.place in
+    let line = trace_line (said_of scenario) event traversal before.place in
     let setting : Sort → Setting = λ s. record { traversal = traversal; max_level = limit_by s scenario.setup.max_level } in
     let P : Option (List Stmt) → Type 0 = λ found. Answers (behind line (acted found (setting (sort_of event)) before list)) old new after result in
     let Q : Sort → Type 0 = λ s. Answers (behind line (meaning body (setting s) before list)) old new after result in

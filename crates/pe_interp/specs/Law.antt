@@ -16,10 +16,11 @@ use Rattle.pe_base.specs.Acts.Effects.{VertexRecord, Seen, MayBecome, IsTriggere
 use Rattle.pe_check.specs.declared.checked.Stmt.{Stmt}
 use Rattle.pe_eval.proofs.Meanings.{meaning_lawful}
 use Rattle.pe_mapping.proofs.Lawful.{leaves_same}
-use Rattle.pe_scene.specs.declared.scenario.Scenario.{Scenario}
+use Rattle.pe_scene.specs.Said.{Said}
+use Rattle.pe_scene.specs.SaidView.{said_of}
 use Rattle.pe_scene.specs.Bodies.{body_at}
 use Rattle.pe_eval.specs.Meaning.{Setting}
-use Rattle.pe_interp.specs.Effect.{limit_by, setting_at, acted, effect_of, scenario_rules}
+use Rattle.pe_interp.specs.Effect.{limit_by, setting_at, acted, effect_of, said_rules, scenario_rules}
 
 -- where no level is below the limit, none is triggered to refine
 refined_state-none : (level : ℕ) (kind : Kind) (state : State) → refined_state level 0 kind state ≡ state
@@ -70,12 +71,19 @@ acted-lawful : (body : Option (List Stmt)) (setting : Setting) (seen : Seen) (li
 acted-lawful None setting seen list = leaves_same setting.max_level seen
 acted-lawful (Some body) setting seen list = meaning_lawful body setting seen list
 
-effect-lawful : (scenario : Scenario) (event : Event) (traversal : ℕ) (list : List ℤ) (seen : Seen) → MayLeave scenario.setup.max_level seen (effect_of scenario event traversal list seen).seen
-effect-lawful scenario event traversal list seen =
-    leaves_limit scenario.setup.max_level (sort_of event) seen _ (acted-lawful (body_at scenario.bodies event) (setting_at scenario event traversal) seen list)
+effect-lawful : (said : Said) (event : Event) (traversal : ℕ) (list : List ℤ) (seen : Seen) → MayLeave said.settings.max_level seen (effect_of said event traversal list seen).seen
+effect-lawful said event traversal list seen =
+    leaves_limit said.settings.max_level (sort_of event) seen _ (acted-lawful (body_at said.bodies event) (setting_at said event traversal) seen list)
 
 all_zeros : All (λ n. n ≡ pos 0) zeros
 all_zeros = All-replicate (λ n. n ≡ pos 0) 8 (pos 0) refl
 
+pub said_lawful : AreLawful said_rules
+said_lawful = record { effect = effect-lawful; fresh_vertex = λ said list. all_zeros; fresh_cell = λ said list. all_zeros }
+
 pub scenario_lawful : AreLawful scenario_rules
-scenario_lawful = record { effect = effect-lawful; fresh_vertex = λ scenario list. all_zeros; fresh_cell = λ scenario list. all_zeros }
+scenario_lawful = record {
+  effect = λ scenario. effect-lawful (said_of scenario);
+  fresh_vertex = λ scenario list. all_zeros;
+  fresh_cell = λ scenario list. all_zeros;
+}

@@ -14,7 +14,7 @@ use Rattle.pe_base.proofs.Tree.Mirrors.{Digits3, digit_lists_below}
 use Rattle.pe_base.proofs.Tree.Children.{child_of, children_are}
 use Rattle.pe_base.proofs.Tree.Ranks.{child_four}
 use Rattle.pe_base.proofs.Faces.Composition.{composes}
-use Rattle.pe_base.proofs.Steps.InnerVertices.{length-moved}
+use Rattle.pe_base.proofs.Steps.CornerPlaces.{length-moved}
 use Rattle.pe_run.proofs.RangeCounts.{eqb-eq}
 
 -- a cell of level 1

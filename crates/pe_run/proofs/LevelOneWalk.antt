@@ -21,7 +21,7 @@ use Rattle.pe_base.specs.Lines.{tally_line}
 use Rattle.pe_base.proofs.Lists.{Each, Each-weaker, Each-append, Each-left, Each-right, flat_map_same, map-reverse}
 use Rattle.pe_base.proofs.Tree.Ranks.{is_same-true}
 use Rattle.pe_base.proofs.Steps.Counts.{OnGrid, is_same_itself, own_touches, touched-append, touched-flat_map, children_on_grid, root_on_grid}
-use Rattle.pe_base.proofs.Steps.InnerVertices.{is_first-none, is_last-all, length-around, corner_is_corner, corner_on_grid}
+use Rattle.pe_base.proofs.Steps.CornerPlaces.{is_first-none, is_last-all, length-around, corner_is_corner, corner_on_grid}
 use Rattle.pe_run.proofs.WalkParts.{raised-swap, raised-fresh, Adds, adds_nothing, adds_then, begins, ends, enters, leaves, counts, birth_adds, birth_loads, load_list, load_adds, load_counts, store_list, store_adds, store_loads}
 use Rattle.pe_run.specs.LevelOne.{is_first, is_last, load_firings, store_firings, birth_firings, cell_firings, traversal_firings, tally_of}
 

@@ -16,7 +16,7 @@ use Rattle.pe_base.specs.LevelOne.Kinds.{is_inside}
 use Rattle.pe_base.specs.Steps.Routes.{stack_in, stack_out}
 use Rattle.pe_base.proofs.Lists.{Each, Each-In}
 use Rattle.pe_base.proofs.Tree.Ranks.{and_left, and_right, same_list}
-use Rattle.pe_base.proofs.Steps.InnerVertices.{corner_on_grid}
+use Rattle.pe_base.proofs.Steps.CornerPlaces.{corner_on_grid}
 use Rattle.pe_access.specs.declared.route.Route.{Route}
 use Rattle.pe_access.specs.States.{route_of}
 use Rattle.pe_walk.proofs.Unwalked.{contains_in}

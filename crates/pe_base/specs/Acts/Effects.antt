@@ -54,6 +54,15 @@ pub record Rules (Plan : Type 0) : Type 0 where
   pub fresh_cell : Plan → List ℤ → Fresh
   pub greatest : Plan → ℕ
 
+-- the rules of plans that are seen through others
+abbrev pub rules_through : {Plan Plain : Type 0} → (Plan → Plain) → Rules Plain → Rules Plan
+rules_through seen rules = record {
+  effect = λ plan. rules.effect (seen plan);
+  fresh_vertex = λ plan. rules.fresh_vertex (seen plan);
+  fresh_cell = λ plan. rules.fresh_cell (seen plan);
+  greatest = λ plan. rules.greatest (seen plan);
+}
+
 -- a state that an event on a grid of that greatest level may leave of a vertex of a level: it stays, or is triggered
 abbrev pub MayBecome : ℕ → ℕ → Kind → State → State → Type 0
 MayBecome greatest level kind before after =

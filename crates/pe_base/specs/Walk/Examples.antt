@@ -10,13 +10,12 @@ use Rattle.pe_base.specs.declared.event.Event.TheVariants.{TouchVertexFirstTime,
 use Rattle.pe_base.specs.Life.States.{refined_state, erased_state}
 use Rattle.pe_base.specs.Acts.Events.{number_of, sort_of, is_among}
 use Rattle.pe_base.specs.Acts.Effects.{VertexRecord, Seen, Outcome, Rules, Fresh}
-use Rattle.pe_base.specs.LevelOne.Working.{fires}
-use Rattle.pe_base.specs.LevelOne.Traces.{trace_line}
+use Rattle.pe_base.specs.Lines.{line_by}
 use Rattle.pe_base.specs.Walk.Maps.{at}
-use Rattle.pe_base.specs.Walk.Course.{Course, Ending, done, halts, stuck}
+use Rattle.pe_base.specs.Walk.Course.{Ending, done, halts, stuck}
 use Rattle.pe_base.specs.Walk.Core.{Setting}
 use Rattle.pe_base.specs.Walk.Grids.{Grid, StoredVertex, new_grid}
-use Rattle.pe_base.specs.Walk.Walk.{traversals}
+use Rattle.pe_base.specs.Walk.Turns.{Turns, in_turn}
 
 pub record Trial : Type 0 where
   pub axes : ℕ
@@ -38,7 +37,7 @@ module _ (trial : Trial) where
       if number_of event == number_of trial.trigger_at then record seen { vertex = option_map (triggered t seen.place) seen.vertex } else seen
 
   abbrev pub trace : Event → ℕ → Place → List ℕ
-  trace event t place = if is_among trial.traced event then trace_line trial.axes t (fires event place place) else []
+  trace event t place = if is_among trial.traced event then line_by (sort_of event) trial.axes event t place else []
 
 abbrev pub trial_effect : Trial → Event → ℕ → List ℤ → Seen → Outcome
 trial_effect trial event t list seen = record { seen = happens trial event t seen; list = list; text = trace trial event t seen.place; fault = None }
@@ -55,8 +54,8 @@ abbrev pub trial_setting : Trial → ℕ → ℕ → Setting Trial
 trial_setting trial start_level max_cells = record { rules = trial_rules; plan = trial; axes = trial.axes; start_level = start_level; max_cells = max_cells; traversal = 1 }
 
 -- some traversals of a trial from the first on
-abbrev pub trial_run : Trial → ℕ → ℕ → ℕ → Course Grid
-trial_run trial start_level max_cells count = traversals (trial_setting trial start_level max_cells) count (new_grid trial.axes trial.greatest [] [])
+abbrev pub trial_run : Trial → ℕ → ℕ → ℕ → Turns
+trial_run trial start_level max_cells count = in_turn (trial_setting trial start_level max_cells) count (new_grid trial.axes trial.greatest [] [])
 
 -- no vertex
 abbrev pub nowhere : ℕ → Place → Bool
@@ -127,9 +126,9 @@ counting_rules = record {
 }
 
 -- some traversals of it from the first on
-abbrev pub counting_run : Trial → ℕ → Course Grid
+abbrev pub counting_run : Trial → ℕ → Turns
 counting_run trial count =
-    traversals (record (trial_setting trial 1 4194304) { rules = counting_rules }) count (new_grid trial.axes trial.greatest (pos 0 ∷ []) (pos 0 ∷ []))
+    in_turn (record (trial_setting trial 1 4194304) { rules = counting_rules }) count (new_grid trial.axes trial.greatest (pos 0 ∷ []) (pos 0 ∷ []))
 
 -- what a run that is done leaves of a vertex, of a cell, of the root and of the list
 abbrev pub left_by : Place → Place → Ending Grid → Option (Option StoredVertex × Option (List ℤ) × List ℤ × List ℤ)
@@ -141,6 +140,6 @@ left_by vertex cell stuck = None
 abbrev pub text_of_start : ℕ → ℕ → List ℕ
 text_of_start start_level count = (trial_run (quiet 2 5 []) start_level 4194304 count).text
 
--- how many lines a course adds, the last bytes of its text, and how it ends
-abbrev pub last_line : {X : Type 0} → ℕ → Course X → ℕ × List ℕ × Ending X
-last_line bytes course = (count_by (λ b. b == 10) course.text, drop (length course.text - bytes) course.text, course.ending)
+-- how many lines a run adds, the last bytes of its text, and how it ends
+abbrev pub last_line : ℕ → Turns → ℕ × List ℕ × Ending Grid
+last_line bytes run = (count_by (λ b. b == 10) run.text, drop (length run.text - bytes) run.text, run.ending)

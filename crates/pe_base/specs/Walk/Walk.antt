@@ -1,4 +1,4 @@
--- The walk by address: of a cell with all below it, a traversal, and traversals in turn.
+-- The walk by address: of a cell with all below it, and a traversal.
 use Rattle.std.specs.Prelude.{ℕ, zero, suc, ◌+◌, ◌-◌, ◌^◌, List, [], ◌∷◌, reverse}
 use Rattle.std.specs.List.{range_with_len}
 use Rattle.pe_base.specs.declared.place.Place.{Place}
@@ -9,9 +9,8 @@ use Rattle.pe_base.specs.declared.event.Event.TheVariants.{BeginIteration, EndIt
 use Rattle.pe_base.specs.declared.tally.Tally.{Tally}
 use Rattle.pe_base.specs.Tree.Places.{root}
 use Rattle.pe_base.specs.Tree.Curve.{children}
-use Rattle.pe_base.specs.Lines.{tally_line}
 use Rattle.pe_base.specs.Walk.Maps.{nothing}
-use Rattle.pe_base.specs.Walk.Course.{Course, done, at_once, and_then, course_map, each}
+use Rattle.pe_base.specs.Walk.Course.{Course, at_once, and_then, course_map, each}
 use Rattle.pe_base.specs.Walk.Core.{Setting, way, fresh_vertex, plain_event}
 use Rattle.pe_base.specs.Walk.Grids.{Grid}
 use Rattle.pe_base.specs.Walk.Working.{Working, put_hanging, family_of, begun, ended}
@@ -71,12 +70,3 @@ abbrev pub traverse : {Plan : Type 0} → Setting Plan → Grid → Course (Grid
 traverse set grid =
     let next = record set { traversal = grid.finished + 1 } in
     course_map (λ w. (ended w grid, w.tally)) (walk_root next grid.greatest (begun next.traversal grid))
-
--- its tally line behind it
-abbrev pub with_line : Grid × Tally → Course Grid
-with_line after = record { text = tally_line after.1; log = []; ending = done after.0 }
-
--- some traversals in turn, each with its tally line
-abbrev pub traversals : {Plan : Type 0} → Setting Plan → ℕ → Grid → Course Grid
-traversals set zero grid = at_once grid
-traversals set (suc count) grid = and_then (and_then (traverse set grid) with_line) (traversals set count)

@@ -32,7 +32,7 @@ use Rattle.pe_walk.specs.Gridded.{IsTraversalOf}
 use Rattle.pe_base.specs.Tree.Curve.{order}
 use Rattle.pe_base.specs.Tree.Ways.{way_of}
 use Rattle.pe_base.proofs.Steps.Counts.{OnGrid}
-use Rattle.pe_base.proofs.Steps.InnerVertices.{corner_on_grid}
+use Rattle.pe_base.proofs.Steps.CornerPlaces.{corner_on_grid}
 use Rattle.pe_walk.proofs.Steps.{order_on_grid}
 use Rattle.pe_walk.proofs.Unwalked.{contains_in}
 use Rattle.pe_walk.proofs.Forecasts.{Sound, old_stored, carrier_levels, counts_inside, two_or_deeper}

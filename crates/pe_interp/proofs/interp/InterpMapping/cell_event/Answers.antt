@@ -8,6 +8,7 @@ use Rattle.pe_mapping.specs.Held.{Held, Adds}
 use Rattle.pe_mapping.specs.Sights.{cell_sight}
 use Rattle.pe_mapping.proofs.Lawful.{leaves_same}
 use Rattle.pe_scene.specs.declared.scenario.Scenario.{Scenario}
+use Rattle.pe_scene.specs.SaidView.{said_of}
 use Rattle.pe_interp.specs.Effect.{trace_line}
 use Rattle.pe_interp.specs.Held.{held_of, fields_numbers}
 use Rattle.pe_interp.specs.declared.interp.Interp.{Interp}
@@ -43,10 +44,10 @@ returns-in-Cell-clause-answer g c =
     let has = sym c.of.ensures ∙ ap option_copied c.in-Some.is in
     let told = λ (it : Interp g.row.K.Denot). (held_of g.K.Sink.text g.K.Sink.faults it).told in
     let old = told c.args.self.now in
-    let written : Adds old (trace_line scenario c.args.event c.args.traversal c.args.at.now) (told c.if-has.self) = elim c.if-has.branch [
-      | then-has+in-Ok w ↦ subst (λ it. Adds old (trace_line scenario c.args.event c.args.traversal c.args.at.now) (told it)) (sym w.self-is)
+    let written : Adds old (trace_line (said_of scenario) c.args.event c.args.traversal c.args.at.now) (told c.if-has.self) = elim c.if-has.branch [
+      | then-has+in-Ok w ↦ subst (λ it. Adds old (trace_line (said_of scenario) c.args.event c.args.traversal c.args.at.now) (told it)) (sym w.self-is)
           (line_traced scenario c.args.event Cell c.args.traversal c.args.at.now old _ c.requires.sort (sym c.has.ensures ∙ w.if-has.true) w.in-Ok.ensures.ok w.in-Ok.ensures.faults)
-      | else-has w ↦ subst (λ it. Adds old (trace_line scenario c.args.event c.args.traversal c.args.at.now) (told it)) (sym w.self-is)
+      | else-has w ↦ subst (λ it. Adds old (trace_line (said_of scenario) c.args.event c.args.traversal c.args.at.now) (told it)) (sym w.self-is)
           (line_untraced scenario c.args.event c.args.traversal c.args.at.now old (sym c.has.ensures ∙ w.if-has.false))
     ] in
     let same : c.if-has.self.globals.a ≡ c.args.self.now.globals.a = elim c.if-has.branch [ then-has+in-Ok w ↦ ap (λ (it : Interp g.row.K.Denot). it.globals.a) w.self-is | else-has w ↦ ap (λ (it : Interp g.row.K.Denot). it.globals.a) w.self-is ] in
