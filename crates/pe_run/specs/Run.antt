@@ -1,62 +1,82 @@
 -- The run of the program: what it writes and answers, as a function of the words, of what the shelf holds,
 -- and of the stage whose shelf call failed, if one did.
-use Rattle.std.specs.Prelude.{◌≡◌, ℕ, ◌⊎◌, Bool, ◌||◌, ◌==◌, MatchBool, List, [], ◌∷◌, ◌++◌, Option, Some, None, IsSome, Result, Ok, Err}
-use Rattle.pe_base.specs.Lines.{done_line, fault_words, fault_shelf_scenario, fault_scenario_too_long, fault_scenario_not_toml, fault_scenario_unbuilt}
-use Rattle.pe_base.specs.LevelOne.Traces.{traversals_text}
+--
+--     words  -  the shelf's bytes  -  the scenario  -  its traversals in turn, by address  -  the last line
+use Rattle.std.specs.Prelude.{◌≡◌, ℕ, ◌⊎◌, ◌+◌, Bool, ◌||◌, ◌==◌, MatchBool, List, [], ◌∷◌, ◌++◌, length, Option, Some, None, IsSome, Result, Ok, Err}
+use Rattle.pe_base.specs.Acts.Payloads.{zeros}
+use Rattle.pe_base.specs.Walk.Core.{Setting}
+use Rattle.pe_base.specs.Walk.Grids.{Grid, new_grid}
+use Rattle.pe_base.specs.Walk.Turns.{Turns, in_turn}
 use Rattle.pe_io.specs.declared.shelf.ShelfCall.TheVariants.{Get}
 use Rattle.pe_io.specs.Counts.{Rises}
 use Rattle.pe_io.specs.Sink.{Appends, AppendsPrefix}
 use Rattle.pe_io.specs.Shelf.{Contents, FailedCall, failed_call}
+use Rattle.pe_scene.specs.declared.fault.SceneFault.{SceneFault}
+use Rattle.pe_scene.specs.Said.{Said, scenario_of}
+use Rattle.pe_interp.specs.Effect.{said_rules}
 use Rattle.pe_stacks.specs.Holdings.{Holdings}
-use Rattle.pe_run.specs.Depots.{HasTraffic}
-use Rattle.pe_run.specs.Scenario.{ScenarioView, Cause, too_long, not_toml, unbuilt, scenario_of}
+use Rattle.pe_run.specs.declared.refusal.Refusal.{Refusal}
+use Rattle.pe_run.specs.declared.refusal.Refusal.TheVariants.{NoJob, NoShelf, Scene}
+use Rattle.pe_run.specs.Traffic.{HasTraffic}
+use Rattle.pe_run.specs.Endings.{refusal_line, refusal_status, last_line, last_status}
 
 -- the stages that call the shelf
 pub data Stage : Type 0 where
   scenario_stage : Stage
 
--- how a run ends: the text that it has written, its status, and the scenario that was walked, if one was
+-- how a run ends: the text that it has written, and its status
 pub record Ran : Type 0 where
   pub text : List ℕ
   pub status : ℕ
-  pub walked : Option ScenarioView
 
-abbrev pub ends : List ℕ → ℕ → Ran
-ends text status = record { text = text; status = status; walked = None }
-
--- the words name no job
-abbrev pub no_job : Ran
-no_job = ends fault_words 2
-
--- the line of a refused scenario
-abbrev pub scenario_fault : Cause → List ℕ
-scenario_fault too_long = fault_scenario_too_long
-scenario_fault not_toml = fault_scenario_not_toml
-scenario_fault (unbuilt key) = fault_scenario_unbuilt key
-
--- the shelf gives no scenario
-abbrev pub no_scenario : Ran
-no_scenario = ends fault_shelf_scenario 6
-
--- the run of a scenario: its traversals, and a last line
-abbrev pub run_scenario : Result ScenarioView Cause → Ran
-run_scenario (Err cause) = ends (scenario_fault cause) 3
-run_scenario (Ok scenario) = record {
-  text = traversals_text scenario.traced scenario.dim scenario.traversals ++ done_line;
-  status = 0;
-  walked = Some scenario;
+-- what is set for the traversals of a scenario, and the grid before the first of them
+abbrev pub said_setting : Said → Setting Said
+said_setting said = record {
+  rules = said_rules;
+  plan = said;
+  axes = said.settings.dim;
+  start_level = said.settings.start_level;
+  max_cells = said.settings.max_cells;
+  traversal = 1;
 }
 
--- the run with what the shelf gives under the scenario's name
-abbrev pub run_held : Option (List ℕ) → Ran
-run_held None = no_scenario
-run_held (Some bytes) = run_scenario (scenario_of bytes)
+abbrev pub first_grid : Said → Grid
+first_grid said = new_grid said.settings.dim said.settings.max_level zeros zeros
+
+-- all traversals of a scenario
+abbrev pub said_turns : Said → Turns
+said_turns said = in_turn (said_setting said) said.settings.traversals (first_grid said)
+
+-- traversals of a scenario, and the last line behind them
+abbrev pub ran_turns : ℕ → Turns → Ran
+ran_turns dim turns = record {
+  text = turns.text ++ last_line dim (length turns.turns + 1) turns.ending;
+  status = last_status turns.ending;
+}
+
+-- the run of what was asked for: a scenario, or the refusal of the words, of the shelf or of the scenario's bytes
+abbrev pub run_asked : Result Said Refusal → Ran
+run_asked (Err refusal) = record { text = refusal_line refusal; status = refusal_status refusal }
+run_asked (Ok said) = ran_turns said.settings.dim (said_turns said)
+
+-- what the bytes under the scenario's name say
+abbrev pub read_as : Result Said SceneFault → Result Said Refusal
+read_as (Ok said) = Ok said
+read_as (Err fault) = Err (Scene fault)
+
+abbrev pub held_as : Option (List ℕ) → Result Said Refusal
+held_as None = Err NoShelf
+held_as (Some bytes) = read_as (scenario_of bytes)
+
+-- what a job asks for
+abbrev pub asked : Option (List ℕ) → Contents → Option Stage → Result Said Refusal
+asked None held failed = Err NoJob
+asked (Some name) held None = held_as (held name)
+asked (Some name) held (Some scenario_stage) = Err NoShelf
 
 -- the run of a job
 abbrev pub run_job : Option (List ℕ) → Contents → Option Stage → Ran
-run_job None held failed = no_job
-run_job (Some name) held None = run_held (held name)
-run_job (Some name) held (Some scenario_stage) = no_scenario
+run_job job held failed = run_asked (asked job held failed)
 
 -- the names that a job asks the shelf for
 abbrev pub names_of : Option (List ℕ) → List (List ℕ)
@@ -93,10 +113,10 @@ Writes status old text new = MatchBool (is_interruption status) (AppendsPrefix o
 abbrev pub Answers : ℕ → ℕ → Type 0
 Answers status ran = (status ≡ ran) ⊎ (status ≡ 7) ⊎ (status ≡ 9)
 
--- the depots have counted the walk of the scenario, if one was walked
-abbrev pub CountsWalk : {V C : Type 0} → Option ScenarioView → Holdings V → Holdings C → Type 0
-CountsWalk None vertices cells = Unit {0}
-CountsWalk (Some scenario) vertices cells = HasTraffic scenario.dim scenario.traversals vertices cells
+-- the depots have counted the traversals of the scenario, if there is one
+abbrev pub CountsTurns : {V C : Type 0} → Result Said Refusal → Holdings V → Holdings C → Type 0
+CountsTurns (Err refusal) vertices cells = Unit {0}
+CountsTurns (Ok said) vertices cells = HasTraffic said.settings.dim said.settings.start_level (said_turns said).turns vertices cells
 
 -- Text and status are those of the run of the job, over what the shelf holds, with the stage that failed, if one did.
 -- On status 0 so is what the depots have counted.
@@ -107,7 +127,7 @@ pub record IsRun {V C : Type 0} (job : Option (List ℕ)) (told : Option Content
   pub cause : MayFail job before after last status failed
   pub text : Writes status old (run_job job held failed).text new
   pub answer : Answers status (run_job job held failed).status
-  pub traffic : status ≡ 0 → CountsWalk (run_job job held failed).walked vertices cells
+  pub traffic : status ≡ 0 → CountsTurns (asked job held failed) vertices cells
 
 -- why the shelf ended the run: a stage's call failed, or the told contents do not hold the name
 abbrev pub IsShelfCause : Option (List ℕ) → Option Contents → ℕ → ℕ → Option FailedCall → Type 0

@@ -1,17 +1,102 @@
--- What a stage of the run carries, once the shelf has answered.
-use Rattle.std.specs.Prelude.{◌≡◌, ℕ, List, Option, Result, Ok, Err, OnOk}
-use Rattle.pe_io.specs.Sink.{Appends, AppendsPrefix}
+-- What the stages of the run carry.
+use Rattle.std.specs.Prelude.{◌≡◌, ℕ, ◌+◌, ◌++◌, List, length, Option, Some, Result, Ok, Err}
+use Rattle.pe_base.specs.declared.fields.Fields.{Fields}
+use Rattle.pe_base.specs.Walk.Course.{Cause, done, halts}
+use Rattle.pe_base.specs.Walk.Grids.{Grid}
+use Rattle.pe_base.specs.Walk.Turns.{Turn, Turns}
+use Rattle.pe_io.specs.Shelf.{Contents, FailedCall}
+use Rattle.pe_io.specs.Counts.{Rises}
+use Rattle.pe_stacks.specs.declared.record.Vertex.{Vertex}
+use Rattle.pe_stacks.specs.declared.record.CellRec.{CellRec}
+use Rattle.pe_stacks.specs.Holdings.{Holdings}
+use Rattle.pe_mapping.specs.Held.{Told, Adds, AddsPart}
+use Rattle.pe_hang.specs.Follows.{Failure, halted, unwritten, wanting, unheard_of}
+use Rattle.pe_adapt.specs.Stops.{failure_of}
+use Rattle.pe_scene.specs.declared.fault.SceneFault.TheVariants.{Memory as NoMemory}
+use Rattle.pe_scene.specs.Said.{Said}
+use Rattle.pe_run.specs.declared.refusal.Refusal.{Refusal}
+use Rattle.pe_run.specs.declared.refusal.Refusal.TheVariants.{NoJob, NoShelf, Scene}
 use Rattle.pe_run.specs.declared.status.Status.{Status}
 use Rattle.pe_run.specs.declared.status.Stop.{Stop}
-use Rattle.pe_run.specs.Statuses.{code_of}
-use Rattle.pe_stacks.specs.Holdings.{Holdings}
-use Rattle.pe_run.specs.Run.{Ran, CountsWalk}
+use Rattle.pe_run.specs.declared.status.Stop.TheVariants.{Sink, Memory}
+use Rattle.pe_run.specs.declared.turns.Halt.{Halt}
+use Rattle.pe_run.specs.declared.turns.Halt.TheVariants.{Walk, Line}
+use Rattle.pe_run.specs.Endings.{code_of, halt_line}
+use Rattle.pe_run.specs.Traffic.{HasTraffic}
+use Rattle.pe_run.specs.Run.{Ran, Stage, Holds, call_of, asked, said_turns}
+use Rattle.pe_run.specs.Between.{FailsToTell}
 
--- it has written and answered all of this, or was stopped when it had written a part
-abbrev pub RunsTo : Ran → Option (List ℕ) → Option (List ℕ) → Result Status Stop → Type 0
-RunsTo ran old new (Ok status) = (code_of status ≡ ran.status) × Appends old ran.text new
-RunsTo ran old new (Err stop) = AppendsPrefix old ran.text new
+-- what a sink tells
+abbrev pub told_by : {K : Type 0} → (K → Option (List ℕ)) → (K → ℕ) → K → Told
+told_by text faults sink = record { text = text sink; faults = faults sink }
 
--- where it has come to its end, the depots have counted the walk
-abbrev pub EndsCounted : {V C : Type 0} → Ran → Holdings V → Holdings C → Result Status Stop → Type 0
-EndsCounted ran vertices cells result = OnOk result (CountsWalk ran.walked vertices cells)
+-- The traversals of a scenario: all are done, and the depots have counted them; or one halts, or was interrupted.
+pub record AllDone (said : Said) (old new : Told) (vertices : Holdings (Vertex Fields)) (cells : Holdings (CellRec Fields)) : Type 0 where
+  pub left : Grid
+  pub ends : (said_turns said).ending ≡ done left
+  pub told : Adds old (said_turns said).text new
+  pub traffic : HasTraffic said.settings.dim said.settings.start_level (said_turns said).turns vertices cells
+
+pub record OneHalts (said : Said) (cause : Cause) (traversal : ℕ) (old new : Told) : Type 0 where
+  pub ends : (said_turns said).ending ≡ halts cause
+  pub number : traversal ≡ length (said_turns said).turns + 1
+  pub told : Adds old (said_turns said).text new
+
+abbrev pub OneStops : Said → ℕ → Told → Told → Failure → Type 0
+OneStops said traversal old new (halted cause) = OneHalts said cause traversal old new
+OneStops said traversal old new unwritten = FailsToTell (said_turns said).text old new
+OneStops said traversal old new wanting = AddsPart old (said_turns said).text new
+OneStops said traversal old new unheard_of = ⊥
+
+abbrev pub TurnsAnswer : Said → Told → Told → Holdings (Vertex Fields) → Holdings (CellRec Fields) → Result (Unit {0}) Halt → Type 0
+TurnsAnswer said old new vertices cells (Ok all) = AllDone said old new vertices cells
+TurnsAnswer said old new vertices cells (Err (Walk traversal stop)) = OneStops said traversal old new (failure_of stop)
+TurnsAnswer said old new vertices cells (Err Line) = FailsToTell (said_turns said).text old new
+
+-- Traversals that come behind others: what they write stands behind, and so do they.
+abbrev pub behind_turns : List ℕ → List Turn → Turns → Turns
+behind_turns text turns rest = record { text = text ++ rest.text; turns = turns ++ rest.turns; ending = rest.ending }
+
+-- Some traversals of the whole were done, and the rest is left.
+pub record Reaches (whole : Turns) (turns : List Turn) (rest : Turns) (old now : Told) : Type 0 where
+  pub text : List ℕ
+  pub splits : whole ≡ behind_turns text turns rest
+  pub told : Adds old text now
+
+-- A stage has written and answered all of this, or was interrupted when it had written a part.
+pub record Ends (ran : Ran) (status : Status) (old new : Told) : Type 0 where
+  pub status_is : code_of status ≡ ran.status
+  pub told : Adds old ran.text new
+
+abbrev pub RunsTo : Ran → Told → Told → Result Status Stop → Type 0
+RunsTo ran old new (Ok status) = Ends ran status old new
+RunsTo ran old new (Err Sink) = FailsToTell ran.text old new
+RunsTo ran old new (Err Memory) = AddsPart old ran.text new
+
+-- The last line behind a halt: that of the cause, or none where the run was interrupted.
+abbrev pub EndsWith : ℕ → ℕ → Failure → Told → Told → Result Status Stop → Type 0
+EndsWith dim traversal (halted cause) old new result = RunsTo (record { text = halt_line dim traversal cause; status = 4 }) old new result
+EndsWith dim traversal unwritten old new result = (result ≡ Err Sink) × (new ≡ old)
+EndsWith dim traversal wanting old new result = (result ≡ Err Memory) × (new ≡ old)
+EndsWith dim traversal unheard_of old new result = Unit {0}
+
+abbrev pub EndsFor : ℕ → Halt → Told → Told → Result Status Stop → Type 0
+EndsFor dim (Walk traversal stop) old new result = EndsWith dim traversal (failure_of stop) old new result
+EndsFor dim Line old new result = (result ≡ Err Sink) × (new ≡ old)
+
+-- What was asked for, as it is held: a scenario that says it, or its refusal, unless memory ran out.
+abbrev pub IsAsked : {S : Type 0} → (S → Said) → Result S Refusal → Result Said Refusal → Type 0
+IsAsked view (Ok scenario) said = said ≡ Ok (view scenario)
+IsAsked view (Err NoJob) said = said ≡ Err NoJob
+IsAsked view (Err NoShelf) said = said ≡ Err NoShelf
+IsAsked view (Err (Scene NoMemory)) said = Unit {0}
+IsAsked view (Err (Scene fault)) said = said ≡ Err (Scene fault)
+
+-- The shelf was asked for what the job asks for: it holds this, and so does it say; a call that failed was that of this
+-- stage, and nothing was given.
+pub record Asks {S : Type 0} (view : S → Said) (job : Option (List ℕ)) (told : Option Contents) (before after : ℕ) (last : Option FailedCall) (result : Result S Refusal) : Type 0 where
+  pub held : Contents
+  pub failed : Option Stage
+  pub contents : Holds told held
+  pub cause : (stage : Stage) → failed ≡ Some stage → Rises before after × (last ≡ call_of job stage) × (result ≡ Err NoShelf)
+  pub is : IsAsked view result (asked job held failed)

@@ -1,15 +1,14 @@
 //! The top call of `peano run`: from the words of the command line to the text and the exit status.
 #![tactic(auto)]
 
+mod ask;
+mod lines;
+mod refusal;
 #[cfg(test)]
 mod rows;
 mod run;
-mod scenario;
 mod status;
-mod trace;
-#[cfg(test)]
-mod traffic_rows;
-mod walk;
+mod turns;
 mod words;
 
 pub use run::peano;

@@ -1,7 +1,7 @@
 // How a run ends.
 ghost use Rattle.std.specs.Prelude.{◌≡◌};
 ghost use Rattle.pe_run.specs.declared.status.Stop.TheVariants.{Sink as StopSink};
-ghost use Rattle.pe_run.specs.Statuses.{ending_of};
+ghost use Rattle.pe_run.specs.Endings.{ending_of};
 
 use pe_io::SinkFailed;
 
@@ -14,6 +14,8 @@ pub enum Status {
     NoJob,
     /// The scenario is refused.
     Refused,
+    /// A traversal is halted by an event, or by one cell too many.
+    Halted,
     /// The shelf gives no scenario.
     NoShelf,
 }
@@ -43,6 +45,7 @@ pub fn exit_status(ending: Result<Status, Stop>) -> u8
         Ok(Status::Done) => 0,
         Ok(Status::NoJob) => 2,
         Ok(Status::Refused) => 3,
+        Ok(Status::Halted) => 4,
         Ok(Status::NoShelf) => 6,
         Err(Stop::Sink) => 7,
         Err(Stop::Memory) => 9,

@@ -1,0 +1,84 @@
+-- What stands between two traversals of a scenario.
+use Rattle.std.specs.Prelude.{◌≡◌, ℕ, ℤ, ◌⊎◌, ◌+◌, ◌*◌, ◌≤◌, List, [], ◌∷◌, ◌++◌, length, Result, Ok, Err}
+use Rattle.pe_base.specs.declared.fields.Fields.{Fields}
+use Rattle.pe_base.specs.declared.tally.Tally.{Tally}
+use Rattle.pe_base.specs.Lines.{tally_line}
+use Rattle.pe_base.specs.Walk.Course.{Cause, done, halts}
+use Rattle.pe_base.specs.Walk.Grids.{Grid, IsWellFormed}
+use Rattle.pe_base.specs.Walk.Turns.{Turn}
+use Rattle.pe_base.specs.Walk.Walk.{traverse}
+use Rattle.pe_base.specs.Walk.Working.{no_tally}
+use Rattle.pe_stacks.specs.declared.record.Vertex.{Vertex}
+use Rattle.pe_stacks.specs.declared.record.CellRec.{CellRec}
+use Rattle.pe_stacks.specs.declared.grid.Grid.{Grid as Handle}
+use Rattle.pe_stacks.specs.Holdings.{Holdings, CountsWithin}
+use Rattle.pe_mapping.specs.Held.{Told, Adds, AddsPart, SinkFailed}
+use Rattle.pe_hang.specs.Follows.{Failure, halted, unwritten, wanting, unheard_of}
+use Rattle.pe_scene.specs.Said.{Said}
+use Rattle.pe_interp.specs.Held.{fields_numbers}
+use Rattle.pe_walk.specs.Gridded.{HoldsGrid}
+use Rattle.pe_walk.specs.InHand.{machine_between}
+use Rattle.pe_walk.specs.Outlooks.{IsNew}
+use Rattle.pe_adapt.specs.Stops.{failure_of}
+use Rattle.pe_run.specs.declared.turns.Between.{Between}
+use Rattle.pe_run.specs.declared.turns.Halt.{Halt}
+use Rattle.pe_run.specs.declared.turns.Halt.TheVariants.{Walk, Line}
+use Rattle.pe_run.specs.Run.{said_setting}
+use Rattle.pe_run.specs.Traffic.{is_swapped, HasTraffic}
+
+-- how far the counts of a depot rise in a traversal at most: by 64 for each cell, and once more
+abbrev pub most_rise : ℕ
+most_rise = 64 * (4194304 + 1)
+
+-- After some traversals of a scenario the depots, the handle and the numbers of the whole grid hold this grid, and the depots
+-- have counted the traversals.
+pub record Stands (said : Said) (between : Between) (vertices : Holdings (Vertex Fields)) (cells : Holdings (CellRec Fields)) (turns : List Turn) (grid : Grid) : Type 0 where
+  pub axes : grid.axes ≡ said.settings.dim
+  pub greatest : grid.greatest ≡ said.settings.max_level
+  pub finished : grid.finished ≡ length turns
+  pub formed : IsNew grid ⊎ IsWellFormed grid
+  pub dim : between.grid.dim ≡ said.settings.dim
+  pub counted : between.grid.finished ≡ length turns
+  pub swapped : between.grid.swapped ≡ is_swapped (length turns)
+  pub holds : HoldsGrid grid between.grid.swapped (machine_between fields_numbers vertices cells between.grid.root between.globals.a (no_tally 0))
+  pub traffic : HasTraffic said.settings.dim said.settings.start_level turns vertices cells
+  pub counts : CountsWithin vertices (most_rise * length turns)
+  pub cell_counts : CountsWithin cells (most_rise * length turns)
+
+-- One traversal more of the grid: the walk is done with the next grid, or halts; or it was interrupted.
+pub record Turned (said : Said) (grid : Grid) (turns : List Turn) (line : Tally → List ℕ) (old new : Told) (vertices : Holdings (Vertex Fields)) (cells : Holdings (CellRec Fields)) (between : Between) (tally : Tally) : Type 0 where
+  pub next : Grid
+  pub ends : (traverse (said_setting said) grid).ending ≡ done (next, tally)
+  pub told : Adds old ((traverse (said_setting said) grid).text ++ line tally) new
+  pub stands : Stands said between vertices cells (turns ++ record { grid = grid; tally = tally } ∷ []) next
+
+pub record Halts (said : Said) (grid : Grid) (cause : Cause) (old new : Told) : Type 0 where
+  pub ends : (traverse (said_setting said) grid).ending ≡ halts cause
+  pub told : Adds old (traverse (said_setting said) grid).text new
+
+pub record FailsToTell (text : List ℕ) (old new : Told) : Type 0 where
+  pub failed : SinkFailed old new
+  pub told : AddsPart old text new
+
+abbrev pub StopsFor : Said → Grid → Told → Told → Failure → Type 0
+StopsFor said grid old new (halted cause) = Halts said grid cause old new
+StopsFor said grid old new unwritten = FailsToTell (traverse (said_setting said) grid).text old new
+StopsFor said grid old new wanting = AddsPart old (traverse (said_setting said) grid).text new
+StopsFor said grid old new unheard_of = ⊥
+
+-- how the traversal is answered
+abbrev pub WalkAnswer : Said → Grid → List Turn → Told → Told → Holdings (Vertex Fields) → Holdings (CellRec Fields) → Result (Between × Tally) Failure → Type 0
+WalkAnswer said grid turns old new vertices cells (Ok answer) = Turned said grid turns (λ tally. []) old new vertices cells answer.0 answer.1
+WalkAnswer said grid turns old new vertices cells (Err failure) = StopsFor said grid old new failure
+
+-- and with its tally line
+pub record FailsAtLine (said : Said) (grid : Grid) (old new : Told) : Type 0 where
+  pub next : Grid
+  pub tally : Tally
+  pub ends : (traverse (said_setting said) grid).ending ≡ done (next, tally)
+  pub fails : FailsToTell ((traverse (said_setting said) grid).text ++ tally_line tally) old new
+
+abbrev pub TurnAnswer : Said → Grid → List Turn → Told → Told → Holdings (Vertex Fields) → Holdings (CellRec Fields) → Result Between Halt → Type 0
+TurnAnswer said grid turns old new vertices cells (Ok between) = (tally : Tally) × Turned said grid turns tally_line old new vertices cells between tally
+TurnAnswer said grid turns old new vertices cells (Err (Walk traversal stop)) = (traversal ≡ length turns + 1) × StopsFor said grid old new (failure_of stop)
+TurnAnswer said grid turns old new vertices cells (Err Line) = FailsAtLine said grid old new

@@ -1,0 +1,178 @@
+//! The lines that a run writes of itself: tallies, refusals, and what halts a traversal.
+ghost use Rattle.std.specs.Prelude.{◌≡◌, ◌+◌, ◌≤◌, [], ◌∷◌, ◌++◌, length, decimal, codes, OnOk, OnErr};
+ghost use Rattle.std.specs.List.{flat_map};
+ghost use Rattle.pe_base.specs.Lines.{tally_line, way_name, place_parts, fault_at_key, fault_in_body, fault_at_event, fault_cells};
+ghost use Rattle.pe_io.specs.Counts.{Rises};
+ghost use Rattle.pe_io.specs.Sink.{Appends, AppendsPrefix};
+ghost use Rattle.pe_io.specs.Line.{HasRoom};
+ghost use Rattle.pe_run.specs.Endings.{cause_name};
+
+use pe_base::{Dim, Event, Place, Sort, Tally, Way};
+use pe_io::{Line, Sink, SinkFailed};
+use pe_scene::BodyCause;
+
+/// Writes the line of a tally.
+pub fn write_tally<K: Sink>(tally: &Tally, sink: &mut K) -> Result<(), SinkFailed>
+    ensures ok { OnOk result (Appends (K.text sink.old) (tally_line tally.now) (K.text sink.new)) }
+    ensures err { OnErr result (AppendsPrefix (K.text sink.old) (tally_line tally.now) (K.text sink.new)) }
+    ensures faults { K.faults sink.old ≤ K.faults sink.new }
+    ensures failed { OnErr result (Rises (K.faults sink.old) (K.faults sink.new)) }
+{
+    tally_words(tally).end(sink)
+}
+
+// The line of a tally, without its line feed.
+fn tally_words(tally: &Tally) -> Line
+    ensures { result ++ 10 ∷ [] ≡ tally_line tally.now }
+{
+    let mut line = Line::of("traversal");
+    line.number(tally.traversal);
+    line.part(way_name(tally.way));
+    add_count(&mut line, "cells", tally.cells);
+    add_count(&mut line, "in", tally.read);
+    add_count(&mut line, "out", tally.written);
+    add_count(&mut line, "created", tally.created);
+    add_count(&mut line, "destroyed", tally.destroyed);
+    add_count(&mut line, "hanging", tally.hanging);
+    line
+}
+
+// A word and a number.
+fn add_count(line: &mut Line, word: &str, n: u64)
+    requires { HasRoom line.old (22 + length word.now) }
+    ensures text { line.new ≡ line.old ++ 32 ∷ word.now ++ 32 ∷ decimal n }
+    ensures length { length line.new ≤ length line.old + 22 + length word.now }
+{
+    line.part(word);
+    line.number(n);
+}
+
+fn way_name(way: Way) -> &'static str
+    ensures name { result.now ≡ way_name way }
+    ensures short { length result.now ≤ 8 }
+{
+    match way {
+        Way::Forward => "forward",
+        Way::Inverted => "inverted",
+    }
+}
+
+/// Writes the line of a scenario that is refused for what stands at a key.
+pub fn write_key_fault<K: Sink>(cause: &str, key: &str, sink: &mut K) -> Result<(), SinkFailed>
+    requires { length cause.now ≤ 16 }
+    ensures ok { OnOk result (Appends (K.text sink.old) (fault_at_key cause.now key.now) (K.text sink.new)) }
+    ensures err { OnErr result (AppendsPrefix (K.text sink.old) (fault_at_key cause.now key.now) (K.text sink.new)) }
+    ensures faults { K.faults sink.old ≤ K.faults sink.new }
+    ensures failed { OnErr result (Rises (K.faults sink.old) (K.faults sink.new)) }
+{
+    let mut line = Line::of("fault");
+    line.part("scenario");
+    line.part(cause);
+    line.key(key);
+    line.end(sink)
+}
+
+/// Writes the line of a scenario that is refused for the body of an event.
+pub fn write_body_fault<K: Sink>(
+    event: Event,
+    offset: u64,
+    cause: BodyCause,
+    sink: &mut K,
+) -> Result<(), SinkFailed>
+    ensures ok { OnOk result (Appends (K.text sink.old) (fault_in_body event offset (cause_name cause)) (K.text sink.new)) }
+    ensures err { OnErr result (AppendsPrefix (K.text sink.old) (fault_in_body event offset (cause_name cause)) (K.text sink.new)) }
+    ensures faults { K.faults sink.old ≤ K.faults sink.new }
+    ensures failed { OnErr result (Rises (K.faults sink.old) (K.faults sink.new)) }
+{
+    let mut line = Line::of("fault");
+    line.part("scenario");
+    line.part("body");
+    line.part(event.name());
+    line.number(offset);
+    line.part(cause_name(cause));
+    line.end(sink)
+}
+
+// Why a body is refused, in a word.
+fn cause_name(cause: BodyCause) -> &'static str
+    ensures name { result.now ≡ cause_name cause }
+    ensures short { length result.now ≤ 12 }
+{
+    match cause {
+        BodyCause::Character => "character",
+        BodyCause::Syntax => "syntax",
+        BodyCause::TooDeep => "too-deep",
+        BodyCause::TooMany => "too-many",
+        BodyCause::Literal => "literal",
+        BodyCause::UnknownName => "unknown-name",
+        BodyCause::NotHere => "not-here",
+        BodyCause::Corner => "corner",
+        BodyCause::ReadOnly => "read-only",
+    }
+}
+
+/// Writes the line of a traversal that is halted at an event, with the event's place unless it is plain.
+pub fn write_event_fault<K: Sink>(
+    cause: &str,
+    dim: Dim,
+    traversal: u64,
+    event: Event,
+    at: &Place,
+    sink: &mut K,
+) -> Result<(), SinkFailed>
+    requires { length cause.now ≤ 16 }
+    ensures ok { OnOk result (Appends (K.text sink.old) (fault_at_event cause.now dim traversal event at.now) (K.text sink.new)) }
+    ensures err { OnErr result (AppendsPrefix (K.text sink.old) (fault_at_event cause.now dim traversal event at.now) (K.text sink.new)) }
+    ensures faults { K.faults sink.old ≤ K.faults sink.new }
+    ensures failed { OnErr result (Rises (K.faults sink.old) (K.faults sink.new)) }
+{
+    let mut line = halted(cause, traversal);
+    line.part(event.name());
+    match event.sort() {
+        Sort::Plain => {}
+        Sort::Vertex | Sort::Cell => add_place(&mut line, dim, at),
+    }
+    line.end(sink)
+}
+
+/// Writes the line of a traversal that is halted at one cell too many.
+pub fn write_cell_fault<K: Sink>(
+    dim: Dim,
+    traversal: u64,
+    at: &Place,
+    sink: &mut K,
+) -> Result<(), SinkFailed>
+    ensures ok { OnOk result (Appends (K.text sink.old) (fault_cells dim traversal at.now) (K.text sink.new)) }
+    ensures err { OnErr result (AppendsPrefix (K.text sink.old) (fault_cells dim traversal at.now) (K.text sink.new)) }
+    ensures faults { K.faults sink.old ≤ K.faults sink.new }
+    ensures failed { OnErr result (Rises (K.faults sink.old) (K.faults sink.new)) }
+{
+    let mut line = halted("cells", traversal);
+    add_place(&mut line, dim, at);
+    line.end(sink)
+}
+
+// The first parts of the line of a traversal that is halted.
+fn halted(cause: &str, traversal: u64) -> Line
+    requires { length cause.now ≤ 16 }
+    ensures text { result ≡ codes "fault" ++ 32 ∷ cause.now ++ 32 ∷ codes "traversal" ++ 32 ∷ decimal traversal }
+    ensures length { length result ≤ 53 }
+{
+    let mut line = Line::of("fault");
+    line.part(cause);
+    line.part("traversal");
+    line.number(traversal);
+    line
+}
+
+// A place: its level, and its position on each axis.
+fn add_place(line: &mut Line, dim: Dim, place: &Place)
+    requires { HasRoom line.old 105 }
+    ensures text { line.new ≡ line.old ++ flat_map (λ part. 32 ∷ part) (place_parts dim place.now) }
+    ensures length { length line.new ≤ length line.old + 105 }
+{
+    line.number(place.level as u64);
+    for axis in 0..dim.axes() as usize {
+        line.number(place.pos[axis]);
+    }
+}
