@@ -15,7 +15,7 @@ pub mod Touches
 -- the walk of a cell, and a traversal
 pub mod Walk
 -- traversals in turn
-pub mod Turns
+pub mod Traversals
 -- what is known of a traversal before it begins
 pub mod Foreseen
 -- the order of a grid between two traversals

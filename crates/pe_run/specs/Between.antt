@@ -5,7 +5,7 @@ use Rattle.pe_base.specs.declared.tally.Tally.{Tally}
 use Rattle.pe_base.specs.Lines.{tally_line}
 use Rattle.pe_base.specs.Walk.Course.{Cause, done, halts}
 use Rattle.pe_base.specs.Walk.Grids.{Grid, IsWellFormed}
-use Rattle.pe_base.specs.Walk.Turns.{Turn}
+use Rattle.pe_base.specs.Walk.Traversals.{Traversal}
 use Rattle.pe_base.specs.Walk.Walk.{traverse}
 use Rattle.pe_base.specs.Walk.Working.{no_tally}
 use Rattle.pe_stacks.specs.declared.record.Vertex.{Vertex}
@@ -20,9 +20,9 @@ use Rattle.pe_walk.specs.Gridded.{HoldsGrid}
 use Rattle.pe_walk.specs.InHand.{machine_between}
 use Rattle.pe_walk.specs.Outlooks.{IsNew}
 use Rattle.pe_adapt.specs.Stops.{failure_of}
-use Rattle.pe_run.specs.declared.turns.Between.{Between}
-use Rattle.pe_run.specs.declared.turns.Halt.{Halt}
-use Rattle.pe_run.specs.declared.turns.Halt.TheVariants.{Walk, Line}
+use Rattle.pe_run.specs.declared.traversals.Between.{Between}
+use Rattle.pe_run.specs.declared.traversals.Halt.{Halt}
+use Rattle.pe_run.specs.declared.traversals.Halt.TheVariants.{Walk, Line}
 use Rattle.pe_run.specs.Run.{said_setting}
 use Rattle.pe_run.specs.Traffic.{is_swapped, HasTraffic}
 
@@ -32,25 +32,25 @@ most_rise = 64 * (4194304 + 1)
 
 -- After some traversals of a scenario the depots, the handle and the numbers of the whole grid hold this grid, and the depots
 -- have counted the traversals.
-pub record Stands (said : Said) (between : Between) (vertices : Holdings (Vertex Fields)) (cells : Holdings (CellRec Fields)) (turns : List Turn) (grid : Grid) : Type 0 where
+pub record Stands (said : Said) (between : Between) (vertices : Holdings (Vertex Fields)) (cells : Holdings (CellRec Fields)) (made : List Traversal) (grid : Grid) : Type 0 where
   pub axes : grid.axes ≡ said.settings.dim
   pub greatest : grid.greatest ≡ said.settings.max_level
-  pub finished : grid.finished ≡ length turns
+  pub finished : grid.finished ≡ length made
   pub formed : IsNew grid ⊎ IsWellFormed grid
   pub dim : between.grid.dim ≡ said.settings.dim
-  pub counted : between.grid.finished ≡ length turns
-  pub swapped : between.grid.swapped ≡ is_swapped (length turns)
+  pub counted : between.grid.finished ≡ length made
+  pub swapped : between.grid.swapped ≡ is_swapped (length made)
   pub holds : HoldsGrid grid between.grid.swapped (machine_between fields_numbers vertices cells between.grid.root between.globals.a (no_tally 0))
-  pub traffic : HasTraffic said.settings.dim said.settings.start_level turns vertices cells
-  pub counts : CountsWithin vertices (most_rise * length turns)
-  pub cell_counts : CountsWithin cells (most_rise * length turns)
+  pub traffic : HasTraffic said.settings.dim said.settings.start_level made vertices cells
+  pub counts : CountsWithin vertices (most_rise * length made)
+  pub cell_counts : CountsWithin cells (most_rise * length made)
 
 -- One traversal more of the grid: the walk is done with the next grid, or halts; or it was interrupted.
-pub record Turned (said : Said) (grid : Grid) (turns : List Turn) (line : Tally → List ℕ) (old new : Told) (vertices : Holdings (Vertex Fields)) (cells : Holdings (CellRec Fields)) (between : Between) (tally : Tally) : Type 0 where
+pub record IsTraversed (said : Said) (grid : Grid) (made : List Traversal) (line : Tally → List ℕ) (old new : Told) (vertices : Holdings (Vertex Fields)) (cells : Holdings (CellRec Fields)) (between : Between) (tally : Tally) : Type 0 where
   pub next : Grid
   pub ends : (traverse (said_setting said) grid).ending ≡ done (next, tally)
   pub told : Adds old ((traverse (said_setting said) grid).text ++ line tally) new
-  pub stands : Stands said between vertices cells (turns ++ record { grid = grid; tally = tally } ∷ []) next
+  pub stands : Stands said between vertices cells (made ++ record { grid = grid; tally = tally } ∷ []) next
 
 pub record Halts (said : Said) (grid : Grid) (cause : Cause) (old new : Told) : Type 0 where
   pub ends : (traverse (said_setting said) grid).ending ≡ halts cause
@@ -67,9 +67,9 @@ StopsFor said grid old new wanting = AddsPart old (traverse (said_setting said) 
 StopsFor said grid old new unheard_of = ⊥
 
 -- how the traversal is answered
-abbrev pub WalkAnswer : Said → Grid → List Turn → Told → Told → Holdings (Vertex Fields) → Holdings (CellRec Fields) → Result (Between × Tally) Failure → Type 0
-WalkAnswer said grid turns old new vertices cells (Ok answer) = Turned said grid turns (λ tally. []) old new vertices cells answer.0 answer.1
-WalkAnswer said grid turns old new vertices cells (Err failure) = StopsFor said grid old new failure
+abbrev pub WalkAnswer : Said → Grid → List Traversal → Told → Told → Holdings (Vertex Fields) → Holdings (CellRec Fields) → Result (Between × Tally) Failure → Type 0
+WalkAnswer said grid made old new vertices cells (Ok answer) = IsTraversed said grid made (λ tally. []) old new vertices cells answer.0 answer.1
+WalkAnswer said grid made old new vertices cells (Err failure) = StopsFor said grid old new failure
 
 -- and with its tally line
 pub record FailsAtLine (said : Said) (grid : Grid) (old new : Told) : Type 0 where
@@ -78,7 +78,7 @@ pub record FailsAtLine (said : Said) (grid : Grid) (old new : Told) : Type 0 whe
   pub ends : (traverse (said_setting said) grid).ending ≡ done (next, tally)
   pub fails : FailsToTell ((traverse (said_setting said) grid).text ++ tally_line tally) old new
 
-abbrev pub TurnAnswer : Said → Grid → List Turn → Told → Told → Holdings (Vertex Fields) → Holdings (CellRec Fields) → Result Between Halt → Type 0
-TurnAnswer said grid turns old new vertices cells (Ok between) = (tally : Tally) × Turned said grid turns tally_line old new vertices cells between tally
-TurnAnswer said grid turns old new vertices cells (Err (Walk traversal stop)) = (traversal ≡ length turns + 1) × StopsFor said grid old new (failure_of stop)
-TurnAnswer said grid turns old new vertices cells (Err Line) = FailsAtLine said grid old new
+abbrev pub TraversalAnswer : Said → Grid → List Traversal → Told → Told → Holdings (Vertex Fields) → Holdings (CellRec Fields) → Result Between Halt → Type 0
+TraversalAnswer said grid made old new vertices cells (Ok between) = (tally : Tally) × IsTraversed said grid made tally_line old new vertices cells between tally
+TraversalAnswer said grid made old new vertices cells (Err (Walk traversal stop)) = (traversal ≡ length made + 1) × StopsFor said grid old new (failure_of stop)
+TraversalAnswer said grid made old new vertices cells (Err Line) = FailsAtLine said grid old new

@@ -6,7 +6,7 @@ use Rattle.std.specs.Prelude.{◌≡◌, ℕ, ◌⊎◌, ◌+◌, Bool, ◌||◌
 use Rattle.pe_base.specs.Acts.Payloads.{zeros}
 use Rattle.pe_base.specs.Walk.Core.{Setting}
 use Rattle.pe_base.specs.Walk.Grids.{Grid, new_grid}
-use Rattle.pe_base.specs.Walk.Turns.{Turns, in_turn}
+use Rattle.pe_base.specs.Walk.Traversals.{Traversals, traversals}
 use Rattle.pe_io.specs.declared.shelf.ShelfCall.TheVariants.{Get}
 use Rattle.pe_io.specs.Counts.{Rises}
 use Rattle.pe_io.specs.Sink.{Appends, AppendsPrefix}
@@ -44,20 +44,20 @@ abbrev pub first_grid : Said → Grid
 first_grid said = new_grid said.settings.dim said.settings.max_level zeros zeros
 
 -- all traversals of a scenario
-abbrev pub said_turns : Said → Turns
-said_turns said = in_turn (said_setting said) said.settings.traversals (first_grid said)
+abbrev pub said_traversals : Said → Traversals
+said_traversals said = traversals (said_setting said) said.settings.traversals (first_grid said)
 
 -- traversals of a scenario, and the last line behind them
-abbrev pub ran_turns : ℕ → Turns → Ran
-ran_turns dim turns = record {
-  text = turns.text ++ last_line dim (length turns.turns + 1) turns.ending;
-  status = last_status turns.ending;
+abbrev pub ran_traversals : ℕ → Traversals → Ran
+ran_traversals dim all = record {
+  text = all.text ++ last_line dim (length all.made + 1) all.ending;
+  status = last_status all.ending;
 }
 
 -- the run of what was asked for: a scenario, or the refusal of the words, of the shelf or of the scenario's bytes
 abbrev pub run_asked : Result Said Refusal → Ran
 run_asked (Err refusal) = record { text = refusal_line refusal; status = refusal_status refusal }
-run_asked (Ok said) = ran_turns said.settings.dim (said_turns said)
+run_asked (Ok said) = ran_traversals said.settings.dim (said_traversals said)
 
 -- what the bytes under the scenario's name say
 abbrev pub read_as : Result Said SceneFault → Result Said Refusal
@@ -114,9 +114,9 @@ abbrev pub Answers : ℕ → ℕ → Type 0
 Answers status ran = (status ≡ ran) ⊎ (status ≡ 7) ⊎ (status ≡ 9)
 
 -- the depots have counted the traversals of the scenario, if there is one
-abbrev pub CountsTurns : {V C : Type 0} → Result Said Refusal → Holdings V → Holdings C → Type 0
-CountsTurns (Err refusal) vertices cells = Unit {0}
-CountsTurns (Ok said) vertices cells = HasTraffic said.settings.dim said.settings.start_level (said_turns said).turns vertices cells
+abbrev pub CountsTraversals : {V C : Type 0} → Result Said Refusal → Holdings V → Holdings C → Type 0
+CountsTraversals (Err refusal) vertices cells = Unit {0}
+CountsTraversals (Ok said) vertices cells = HasTraffic said.settings.dim said.settings.start_level (said_traversals said).made vertices cells
 
 -- Text and status are those of the run of the job, over what the shelf holds, with the stage that failed, if one did.
 -- On status 0 so is what the depots have counted.
@@ -127,7 +127,7 @@ pub record IsRun {V C : Type 0} (job : Option (List ℕ)) (told : Option Content
   pub cause : MayFail job before after last status failed
   pub text : Writes status old (run_job job held failed).text new
   pub answer : Answers status (run_job job held failed).status
-  pub traffic : status ≡ 0 → CountsTurns (asked job held failed) vertices cells
+  pub traffic : status ≡ 0 → CountsTraversals (asked job held failed) vertices cells
 
 -- why the shelf ended the run: a stage's call failed, or the told contents do not hold the name
 abbrev pub IsShelfCause : Option (List ℕ) → Option Contents → ℕ → ℕ → Option FailedCall → Type 0

@@ -3,7 +3,7 @@ use Rattle.std.specs.Prelude.{◌≡◌, ℕ, ◌+◌, ◌++◌, List, length, O
 use Rattle.pe_base.specs.declared.fields.Fields.{Fields}
 use Rattle.pe_base.specs.Walk.Course.{Cause, done, halts}
 use Rattle.pe_base.specs.Walk.Grids.{Grid}
-use Rattle.pe_base.specs.Walk.Turns.{Turn, Turns}
+use Rattle.pe_base.specs.Walk.Traversals.{Traversal, Traversals}
 use Rattle.pe_io.specs.Shelf.{Contents, FailedCall}
 use Rattle.pe_io.specs.Counts.{Rises}
 use Rattle.pe_stacks.specs.declared.record.Vertex.{Vertex}
@@ -19,11 +19,11 @@ use Rattle.pe_run.specs.declared.refusal.Refusal.TheVariants.{NoJob, NoShelf, Sc
 use Rattle.pe_run.specs.declared.status.Status.{Status}
 use Rattle.pe_run.specs.declared.status.Stop.{Stop}
 use Rattle.pe_run.specs.declared.status.Stop.TheVariants.{Sink, Memory}
-use Rattle.pe_run.specs.declared.turns.Halt.{Halt}
-use Rattle.pe_run.specs.declared.turns.Halt.TheVariants.{Walk, Line}
+use Rattle.pe_run.specs.declared.traversals.Halt.{Halt}
+use Rattle.pe_run.specs.declared.traversals.Halt.TheVariants.{Walk, Line}
 use Rattle.pe_run.specs.Endings.{code_of, halt_line}
 use Rattle.pe_run.specs.Traffic.{HasTraffic}
-use Rattle.pe_run.specs.Run.{Ran, Stage, Holds, call_of, asked, said_turns}
+use Rattle.pe_run.specs.Run.{Ran, Stage, Holds, call_of, asked, said_traversals}
 use Rattle.pe_run.specs.Between.{FailsToTell}
 
 -- what a sink tells
@@ -33,34 +33,34 @@ told_by text faults sink = record { text = text sink; faults = faults sink }
 -- The traversals of a scenario: all are done, and the depots have counted them; or one halts, or was interrupted.
 pub record AllDone (said : Said) (old new : Told) (vertices : Holdings (Vertex Fields)) (cells : Holdings (CellRec Fields)) : Type 0 where
   pub left : Grid
-  pub ends : (said_turns said).ending ≡ done left
-  pub told : Adds old (said_turns said).text new
-  pub traffic : HasTraffic said.settings.dim said.settings.start_level (said_turns said).turns vertices cells
+  pub ends : (said_traversals said).ending ≡ done left
+  pub told : Adds old (said_traversals said).text new
+  pub traffic : HasTraffic said.settings.dim said.settings.start_level (said_traversals said).made vertices cells
 
 pub record OneHalts (said : Said) (cause : Cause) (traversal : ℕ) (old new : Told) : Type 0 where
-  pub ends : (said_turns said).ending ≡ halts cause
-  pub number : traversal ≡ length (said_turns said).turns + 1
-  pub told : Adds old (said_turns said).text new
+  pub ends : (said_traversals said).ending ≡ halts cause
+  pub number : traversal ≡ length (said_traversals said).made + 1
+  pub told : Adds old (said_traversals said).text new
 
 abbrev pub OneStops : Said → ℕ → Told → Told → Failure → Type 0
 OneStops said traversal old new (halted cause) = OneHalts said cause traversal old new
-OneStops said traversal old new unwritten = FailsToTell (said_turns said).text old new
-OneStops said traversal old new wanting = AddsPart old (said_turns said).text new
+OneStops said traversal old new unwritten = FailsToTell (said_traversals said).text old new
+OneStops said traversal old new wanting = AddsPart old (said_traversals said).text new
 OneStops said traversal old new unheard_of = ⊥
 
-abbrev pub TurnsAnswer : Said → Told → Told → Holdings (Vertex Fields) → Holdings (CellRec Fields) → Result (Unit {0}) Halt → Type 0
-TurnsAnswer said old new vertices cells (Ok all) = AllDone said old new vertices cells
-TurnsAnswer said old new vertices cells (Err (Walk traversal stop)) = OneStops said traversal old new (failure_of stop)
-TurnsAnswer said old new vertices cells (Err Line) = FailsToTell (said_turns said).text old new
+abbrev pub TraversalsAnswer : Said → Told → Told → Holdings (Vertex Fields) → Holdings (CellRec Fields) → Result (Unit {0}) Halt → Type 0
+TraversalsAnswer said old new vertices cells (Ok all) = AllDone said old new vertices cells
+TraversalsAnswer said old new vertices cells (Err (Walk traversal stop)) = OneStops said traversal old new (failure_of stop)
+TraversalsAnswer said old new vertices cells (Err Line) = FailsToTell (said_traversals said).text old new
 
 -- Traversals that come behind others: what they write stands behind, and so do they.
-abbrev pub behind_turns : List ℕ → List Turn → Turns → Turns
-behind_turns text turns rest = record { text = text ++ rest.text; turns = turns ++ rest.turns; ending = rest.ending }
+abbrev pub behind_traversals : List ℕ → List Traversal → Traversals → Traversals
+behind_traversals text made rest = record { text = text ++ rest.text; made = made ++ rest.made; ending = rest.ending }
 
 -- Some traversals of the whole were done, and the rest is left.
-pub record Reaches (whole : Turns) (turns : List Turn) (rest : Turns) (old now : Told) : Type 0 where
+pub record Reaches (whole : Traversals) (made : List Traversal) (rest : Traversals) (old now : Told) : Type 0 where
   pub text : List ℕ
-  pub splits : whole ≡ behind_turns text turns rest
+  pub splits : whole ≡ behind_traversals text made rest
   pub told : Adds old text now
 
 -- A stage has written and answered all of this, or was interrupted when it had written a part.

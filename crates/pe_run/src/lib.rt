@@ -8,7 +8,7 @@ mod refusal;
 mod rows;
 mod run;
 mod status;
-mod turns;
+mod traversals;
 mod words;
 
 pub use run::peano;

@@ -6,18 +6,18 @@ ghost use Rattle.pe_scene.specs.Said.{Said};
 ghost use Rattle.pe_scene.specs.SaidView.{said_of};
 ghost use Rattle.pe_scene.specs.declared.scenario.Scenario.{Scenario as AScenario};
 ghost use Rattle.pe_run.specs.declared.refusal.Refusal.{Refusal as ARefusal};
-ghost use Rattle.pe_run.specs.declared.turns.Halt.{Halt as AHalt};
+ghost use Rattle.pe_run.specs.declared.traversals.Halt.{Halt as AHalt};
 ghost use Rattle.pe_run.specs.Words.{job_of};
 ghost use Rattle.pe_run.specs.Endings.{ending_of};
 ghost use Rattle.pe_run.specs.Traffic.{IsSettled};
-ghost use Rattle.pe_run.specs.Run.{run_asked, names_of, CountsTurns, IsRun, IsShelfCause, IsComplete};
+ghost use Rattle.pe_run.specs.Run.{run_asked, names_of, CountsTraversals, IsRun, IsShelfCause, IsComplete};
 ghost use Rattle.pe_run.specs.Stages.{told_by, IsAsked, EndsFor, RunsTo};
 
 use crate::ask::ask;
 use crate::lines::{write_body_fault, write_cell_fault, write_event_fault, write_key_fault};
 use crate::refusal::Refusal;
 use crate::status::{Status, Stop, exit_status};
-use crate::turns::{Halt, traverse_all};
+use crate::traversals::{Halt, traverse_all};
 use pe_adapt::WalkStop;
 use pe_base::{Dim, Fields, Stop as EventStop};
 use pe_io::{Shelf, Sink};
@@ -98,7 +98,7 @@ fn run_scenario<K: Sink, DV: Depot<Vertex<Fields>>, DC: Depot<CellRec<Fields>>>(
     requires vertices { DV.holds vertices.old ≡ new_holdings 10 }
     requires cells { DC.holds cells.old ≡ new_holdings 2 }
     ensures run { RunsTo (run_asked (Ok (said_of scenario.now))) (told_by K.text K.faults sink.old) (told_by K.text K.faults sink.new) result }
-    ensures traffic { result ≡ Ok Status.Done → CountsTurns (Ok (said_of scenario.now)) (DV.holds vertices.new) (DC.holds cells.new) }
+    ensures traffic { result ≡ Ok Status.Done → CountsTraversals (Ok (said_of scenario.now)) (DV.holds vertices.new) (DC.holds cells.new) }
     ensures idle { (DV.holds vertices.new).out ≡ 0 }
     ensures idle_cells { (DC.holds cells.new).out ≡ 0 }
 {

@@ -15,7 +15,7 @@ use Rattle.pe_base.specs.Walk.Maps.{at}
 use Rattle.pe_base.specs.Walk.Course.{Ending, done, halts, stuck}
 use Rattle.pe_base.specs.Walk.Core.{Setting}
 use Rattle.pe_base.specs.Walk.Grids.{Grid, StoredVertex, new_grid}
-use Rattle.pe_base.specs.Walk.Turns.{Turns, in_turn}
+use Rattle.pe_base.specs.Walk.Traversals.{Traversals, traversals}
 
 pub record Trial : Type 0 where
   pub axes : ℕ
@@ -54,8 +54,8 @@ abbrev pub trial_setting : Trial → ℕ → ℕ → Setting Trial
 trial_setting trial start_level max_cells = record { rules = trial_rules; plan = trial; axes = trial.axes; start_level = start_level; max_cells = max_cells; traversal = 1 }
 
 -- some traversals of a trial from the first on
-abbrev pub trial_run : Trial → ℕ → ℕ → ℕ → Turns
-trial_run trial start_level max_cells count = in_turn (trial_setting trial start_level max_cells) count (new_grid trial.axes trial.greatest [] [])
+abbrev pub trial_run : Trial → ℕ → ℕ → ℕ → Traversals
+trial_run trial start_level max_cells count = traversals (trial_setting trial start_level max_cells) count (new_grid trial.axes trial.greatest [] [])
 
 -- no vertex
 abbrev pub nowhere : ℕ → Place → Bool
@@ -126,9 +126,9 @@ counting_rules = record {
 }
 
 -- some traversals of it from the first on
-abbrev pub counting_run : Trial → ℕ → Turns
+abbrev pub counting_run : Trial → ℕ → Traversals
 counting_run trial count =
-    in_turn (record (trial_setting trial 1 4194304) { rules = counting_rules }) count (new_grid trial.axes trial.greatest (pos 0 ∷ []) (pos 0 ∷ []))
+    traversals (record (trial_setting trial 1 4194304) { rules = counting_rules }) count (new_grid trial.axes trial.greatest (pos 0 ∷ []) (pos 0 ∷ []))
 
 -- what a run that is done leaves of a vertex, of a cell, of the root and of the list
 abbrev pub left_by : Place → Place → Ending Grid → Option (Option StoredVertex × Option (List ℤ) × List ℤ × List ℤ)
@@ -141,5 +141,5 @@ abbrev pub text_of_start : ℕ → ℕ → List ℕ
 text_of_start start_level count = (trial_run (quiet 2 5 []) start_level 4194304 count).text
 
 -- how many lines a run adds, the last bytes of its text, and how it ends
-abbrev pub last_line : ℕ → Turns → ℕ × List ℕ × Ending Grid
+abbrev pub last_line : ℕ → Traversals → ℕ × List ℕ × Ending Grid
 last_line bytes run = (count_by (λ b. b == 10) run.text, drop (length run.text - bytes) run.text, run.ending)

@@ -2,14 +2,14 @@
 ghost use Rattle.std.specs.Prelude.{◌≡◌, ◌<◌, ◌≤◌, false, length, List};
 ghost use Rattle.pe_base.specs.Acts.Payloads.{zeros};
 ghost use Rattle.pe_base.specs.Walk.Grids.{Grid as AGrid};
-ghost use Rattle.pe_base.specs.Walk.Turns.{Turn};
+ghost use Rattle.pe_base.specs.Walk.Traversals.{Traversal};
 ghost use Rattle.pe_stacks.specs.Holdings.{new_holdings};
 ghost use Rattle.pe_hang.specs.Follows.{read_by};
 ghost use Rattle.pe_adapt.specs.Stops.{failure_of};
 ghost use Rattle.pe_scene.specs.SaidView.{said_of};
-ghost use Rattle.pe_run.specs.declared.turns.Halt.TheVariants.{Line as HaltLine};
-ghost use Rattle.pe_run.specs.Between.{Stands, WalkAnswer, TurnAnswer};
-ghost use Rattle.pe_run.specs.Stages.{told_by, TurnsAnswer};
+ghost use Rattle.pe_run.specs.declared.traversals.Halt.TheVariants.{Line as HaltLine};
+ghost use Rattle.pe_run.specs.Between.{Stands, WalkAnswer, TraversalAnswer};
+ghost use Rattle.pe_run.specs.Stages.{told_by, TraversalsAnswer};
 
 use crate::lines::write_tally;
 use pe_adapt::WalkStop;
@@ -81,10 +81,10 @@ fn walk_once<K: Sink, DV: Depot<Vertex<Fields>>, DC: Depot<CellRec<Fields>>>(
     vertices: &mut DV,
     cells: &mut DC,
 ) -> Result<(Between, Tally), WalkStop>
-    requires stands { (turns : List Turn) × (grid : AGrid) × (length turns < 1000)
-        × Stands (said_of scenario.now) between (DV.holds vertices.old) (DC.holds cells.old) turns grid }
-    ensures answer { (turns : List Turn) (grid : AGrid) → Stands (said_of scenario.now) between (DV.holds vertices.old) (DC.holds cells.old) turns grid
-        → WalkAnswer (said_of scenario.now) grid turns (told_by K.text K.faults sink.old) (told_by K.text K.faults sink.new)
+    requires stands { (made : List Traversal) × (grid : AGrid) × (length made < 1000)
+        × Stands (said_of scenario.now) between (DV.holds vertices.old) (DC.holds cells.old) made grid }
+    ensures answer { (made : List Traversal) (grid : AGrid) → Stands (said_of scenario.now) between (DV.holds vertices.old) (DC.holds cells.old) made grid
+        → WalkAnswer (said_of scenario.now) grid made (told_by K.text K.faults sink.old) (told_by K.text K.faults sink.new)
         (DV.holds vertices.new) (DC.holds cells.new) (read_by failure_of result) }
     ensures idle { (DV.holds vertices.new).out ≡ 0 }
     ensures idle_cells { (DC.holds cells.new).out ≡ 0 }
@@ -99,17 +99,17 @@ fn walk_once<K: Sink, DV: Depot<Vertex<Fields>>, DC: Depot<CellRec<Fields>>>(
 }
 
 // One traversal more, with its tally line.
-fn turn<K: Sink, DV: Depot<Vertex<Fields>>, DC: Depot<CellRec<Fields>>>(
+fn traverse_more<K: Sink, DV: Depot<Vertex<Fields>>, DC: Depot<CellRec<Fields>>>(
     scenario: &Scenario,
     between: Between,
     sink: &mut K,
     vertices: &mut DV,
     cells: &mut DC,
 ) -> Result<Between, Halt>
-    requires stands { (turns : List Turn) × (grid : AGrid) × (length turns < 1000)
-        × Stands (said_of scenario.now) between (DV.holds vertices.old) (DC.holds cells.old) turns grid }
-    ensures answer { (turns : List Turn) (grid : AGrid) → Stands (said_of scenario.now) between (DV.holds vertices.old) (DC.holds cells.old) turns grid
-        → TurnAnswer (said_of scenario.now) grid turns (told_by K.text K.faults sink.old) (told_by K.text K.faults sink.new)
+    requires stands { (made : List Traversal) × (grid : AGrid) × (length made < 1000)
+        × Stands (said_of scenario.now) between (DV.holds vertices.old) (DC.holds cells.old) made grid }
+    ensures answer { (made : List Traversal) (grid : AGrid) → Stands (said_of scenario.now) between (DV.holds vertices.old) (DC.holds cells.old) made grid
+        → TraversalAnswer (said_of scenario.now) grid made (told_by K.text K.faults sink.old) (told_by K.text K.faults sink.new)
         (DV.holds vertices.new) (DC.holds cells.new) result }
     ensures idle { (DV.holds vertices.new).out ≡ 0 }
     ensures idle_cells { (DC.holds cells.new).out ≡ 0 }
@@ -138,14 +138,14 @@ pub fn traverse_all<K: Sink, DV: Depot<Vertex<Fields>>, DC: Depot<CellRec<Fields
     requires few { scenario.now.traversals ≤ 1000 }
     requires vertices { DV.holds vertices.old ≡ new_holdings 10 }
     requires cells { DC.holds cells.old ≡ new_holdings 2 }
-    ensures answer { TurnsAnswer (said_of scenario.now) (told_by K.text K.faults sink.old) (told_by K.text K.faults sink.new)
+    ensures answer { TraversalsAnswer (said_of scenario.now) (told_by K.text K.faults sink.old) (told_by K.text K.faults sink.new)
         (DV.holds vertices.new) (DC.holds cells.new) result }
     ensures idle { (DV.holds vertices.new).out ≡ 0 }
     ensures idle_cells { (DC.holds cells.new).out ≡ 0 }
 {
     let mut between = Between::fresh(scenario.setup.dim);
     for _ in 0..scenario.traversals {
-        between = turn(scenario, between, sink, vertices, cells)?;
+        between = traverse_more(scenario, between, sink, vertices, cells)?;
     }
     between.close();
     Ok(())
