@@ -16,3 +16,5 @@ pub mod TableLaws
 pub mod Courses
 -- above the parent of a cell nothing changes
 pub mod Frames
+-- traversals by rules of plans that are seen through others
+pub mod Plans
