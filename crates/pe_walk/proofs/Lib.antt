@@ -45,6 +45,8 @@ pub mod Simulation
 pub mod Visiting
 -- a traversal of a grid in depots
 pub mod Traversing
+-- depots that hold nothing hold a new grid, and after a traversal the next one
+pub mod Beginnings
 -- the children of a cell along rows
 pub mod Children
 -- what the marks of corners tell

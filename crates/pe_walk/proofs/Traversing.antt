@@ -113,6 +113,7 @@ module _ {Plan V C : Type 0} (numbers : Numbers V C) (set : Setting Plan) (grid 
         next = found.0.0;
         does = record { ends = found.1 ∙ ap (λ t. done (found.0.0, t)) (sym found.2.tally); told = subst (λ text. Adds old.told text mapping.told) is.text does.told };
         formed = found.2.formed;
+        greatest = ap (λ a. a.0.greatest) from.2;
         holds = record {
           axes = advanced.dim ∙ axes ∙ ap (λ a. a.0.axes) (sym from.2);
           finished = advanced.finished ∙ ap (λ n. n + 1) finished ∙ ap (λ a. a.0.finished) (sym from.2);

@@ -4,7 +4,7 @@
 --     halted       the walk halts by this very cause
 --     unwritten    a part of its text was added, and the sink failed
 --     wanting      a part of its text was added; of a mapping that is sure, some stack lacked room
-use Rattle.std.specs.Prelude.{◌≡◌, ◌≢◌, ◌⊎◌, ℕ, ◌+◌, ◌*◌, ◌^◌, ◌<◌, ◌≤◌, Bool, true, not, if◌then◌else◌, Result, Ok, Err}
+use Rattle.std.specs.Prelude.{◌≡◌, ◌≢◌, ◌⊎◌, ℕ, ◌+◌, ◌*◌, ◌^◌, ◌<◌, ◌≤◌, Bool, true, not, [], if◌then◌else◌, Result, Ok, Err}
 use Rattle.pe_base.specs.declared.tally.Tally.{Tally}
 use Rattle.pe_base.specs.Walk.Course.{done, halts, Course}
 use Rattle.pe_base.specs.Walk.Core.{Setting}
@@ -13,7 +13,7 @@ use Rattle.pe_base.specs.Walk.Grids.{Grid, IsWellFormed}
 use Rattle.pe_stacks.specs.declared.record.Vertex.{Vertex}
 use Rattle.pe_stacks.specs.declared.record.CellRec.{CellRec}
 use Rattle.pe_stacks.specs.declared.grid.Grid.{Grid as Handle}
-use Rattle.pe_stacks.specs.Holdings.{Holdings, RaisesCounts}
+use Rattle.pe_stacks.specs.Holdings.{Holdings, stack_count, items_at, RaisesCounts}
 use Rattle.pe_stacks.specs.Grid.{input_stack, cell_input_stack}
 use Rattle.pe_mapping.specs.Held.{Held, Told, AddsPart}
 use Rattle.pe_mapping.specs.Sights.{Numbers}
@@ -47,6 +47,16 @@ pub record MayTraverse {Plan V C : Type 0} (numbers : Numbers V C) (mapping : He
   pub formed : IsNew grid ⊎ IsWellFormed grid
   pub holds : HoldIt numbers mapping depots handle grid
 
+-- a depot of some stacks holds nothing
+pub record HoldsNothing {X : Type 0} (stacks : ℕ) (held : Holdings X) : Type 0 where
+  pub count : stack_count held ≡ stacks
+  pub none_out : held.out ≡ 0
+  pub items : (s : ℕ) → items_at held s ≡ []
+
+-- depots and a handle hold some grid that may be traversed
+abbrev pub HoldAGrid : {Plan V C : Type 0} → Numbers V C → Held Plan → ℕ → Stores V C → Handle C → Type 0
+HoldAGrid numbers mapping levels depots handle = (grid : Grid) × MayTraverse numbers mapping levels depots handle grid
+
 -- Some stack, which is no input, holds fewer records without asking for memory than the traversal walks cells, and than it
 -- may have corners.
 pub record LacksRoom {Plan : Type 0} (set : Setting Plan) (grid : Grid) (swapped : Bool) (found : Found) : Type 0 where
@@ -63,6 +73,7 @@ pub record Traverses {Plan V C : Type 0} (numbers : Numbers V C) (set : Setting 
   pub next : Grid
   pub does : Does course (done (next, answer.1)) told mapping.told
   pub formed : IsWellFormed next
+  pub greatest : next.greatest ≡ grid.greatest
   pub holds : HoldIt numbers mapping after answer.0 next
   pub traffic : ExactTraffic (outlook set.start_level grid swapped) grid.greatest before.vertices after.vertices before.cells after.cells answer.1
   pub few : answer.1.cells ≤ most_cells grid.axes (answer.1.read + answer.1.created)

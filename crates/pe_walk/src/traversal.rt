@@ -1,4 +1,4 @@
-ghost use Rattle.std.specs.Prelude.{◌≡◌, ◌+◌, ◌^◌, ◌<◌, is_err, IfOk};
+ghost use Rattle.std.specs.Prelude.{◌≡◌, ◌+◌, ◌^◌, ◌<◌, ◌≤◌, is_err, IfOk};
 ghost use Rattle.pe_base.specs.Walk.Grids.{Grid as AGrid};
 ghost use Rattle.pe_base.specs.Walk.Walk.{traverse};
 ghost use Rattle.pe_stacks.specs.Holdings.{CountsWithin};
@@ -6,7 +6,7 @@ ghost use Rattle.pe_mapping.specs.Held.{Keeps, max_level};
 ghost use Rattle.pe_hang.specs.InHand.{setting_of};
 ghost use Rattle.pe_hang.specs.Follows.{Left, read_by, found_of, held_by};
 ghost use Rattle.pe_adapt.specs.Stops.{failure_of};
-ghost use Rattle.pe_walk.specs.Traversing.{IsAdvanced, MayTraverse, Answers};
+ghost use Rattle.pe_walk.specs.Traversing.{IsAdvanced, MayTraverse, HoldAGrid, Answers};
 
 use crate::whole::traverse_stacks;
 use pe_adapt::WalkStop;
@@ -38,12 +38,14 @@ pub fn traverse<M: Mapping, DV: Depot<Vertex<M::V>>, DC: Depot<CellRec<M::C>>>(
     requires finished { grid.finished < 1000000000 }
     requires counts { CountsWithin (DV.holds dv.old) (2 ^ 60) }
     requires cell_counts { CountsWithin (DC.holds dc.old) (2 ^ 60) }
-    requires grid { (walked : AGrid) × MayTraverse M.numbers (M.held m.old) setup.now.max_level (record { vertices = DV.holds dv.old; cells = DC.holds dc.old }) grid walked }
+    requires grid { HoldAGrid M.numbers (M.held m.old) setup.now.max_level (record { vertices = DV.holds dv.old; cells = DC.holds dc.old }) grid }
     ensures answers { (walked : AGrid) → MayTraverse M.numbers (M.held m.old) setup.now.max_level (record { vertices = DV.holds dv.old; cells = DC.holds dc.old }) grid walked
         → Answers M.numbers (setting_of M.rules (M.held m.old) setup.now.start_level setup.now.max_cells (grid.finished + 1)) walked grid.swapped
         (traverse (setting_of M.rules (M.held m.old) setup.now.start_level setup.now.max_cells (grid.finished + 1)) walked)
         (read_by failure_of result) (found_of (M.held m.old) (held_by (DV.holds dv.old) (DV.room dv.old)) (held_by (DC.holds dc.old) (DC.room dc.old)))
         (record { vertices = DV.holds dv.old; cells = DC.holds dc.old }) (M.held m.new) (record { vertices = DV.holds dv.new; cells = DC.holds dc.new }) }
+    ensures goes_on { IfOk result (λ answer. HoldAGrid M.numbers (M.held m.new) setup.now.max_level (record { vertices = DV.holds dv.new; cells = DC.holds dc.new }) answer.0) }
+    ensures few { IfOk result (λ answer. answer.1.cells ≤ setup.now.max_cells) }
     ensures advanced { IfOk result (λ answer. IsAdvanced grid answer.0) }
     ensures left { Left 0 0 (DV.holds dv.old) (DV.room dv.old) (DV.holds dv.new) (DV.room dv.new) (is_err result) }
     ensures cells_left { Left 0 0 (DC.holds dc.old) (DC.room dc.old) (DC.holds dc.new) (DC.room dc.new) (is_err result) }

@@ -1,5 +1,5 @@
 // A whole traversal of the grid that depots hold.
-ghost use Rattle.std.specs.Prelude.{◌≡◌, ◌+◌, ◌^◌, ◌<◌, is_err, IfOk};
+ghost use Rattle.std.specs.Prelude.{◌≡◌, ◌+◌, ◌^◌, ◌<◌, ◌≤◌, is_err, IfOk};
 ghost use Rattle.pe_base.specs.Walk.Working.{no_tally};
 ghost use Rattle.pe_stacks.specs.Holdings.{CountsWithin};
 ghost use Rattle.pe_mapping.specs.Held.{Keeps};
@@ -81,6 +81,7 @@ pub(crate) fn traverse_stacks<M: Mapping, DV: Depot<Vertex<M::V>>, DC: Depot<Cel
         (read_by failure_of result) (found_of (M.held m.old) (held_by (DV.holds dv.old) (DV.room dv.old)) (held_by (DC.holds dc.old) (DC.room dc.old))) (M.held m.new).told }
     ensures left { Left 0 0 (DV.holds dv.old) (DV.room dv.old) (DV.holds dv.new) (DV.room dv.new) (is_err result) }
     ensures cells_left { Left 0 0 (DC.holds dc.old) (DC.room dc.old) (DC.holds dc.new) (DC.room dc.new) (is_err result) }
+    ensures few { IfOk result (λ answer. answer.1.cells ≤ setup.now.max_cells) }
     ensures keeps { Keeps (M.held m.old) (M.held m.new) }
     ensures advanced { IfOk result (λ answer. IsAdvanced grid answer.0) }
 {

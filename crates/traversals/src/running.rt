@@ -2,8 +2,7 @@
 ghost use Rattle.std.specs.Prelude.{◌≡◌, ◌+◌, ◌^◌, ◌<◌, true, IfOk};
 ghost use Rattle.pe_stacks.specs.Holdings.{CountsWithin};
 ghost use Rattle.pe_mapping.specs.Held.{Keeps, max_level};
-ghost use Rattle.pe_walk.specs.Traversing.{Stores};
-ghost use Rattle.traversals.specs.Runs.{HoldsNothing, HoldAGrid};
+ghost use Rattle.pe_walk.specs.Traversing.{Stores, HoldsNothing, HoldAGrid};
 
 use pe_adapt::WalkStop;
 use pe_base::{Setup, Tally, Way};
@@ -56,30 +55,6 @@ fn holds_nothing<R, D: Depot<R>>(depot: &D, stacks: u8) -> bool
     depot.stacks() == stacks && depot.out() == 0
 }
 
-// One traversal more.
-fn turn<M: Mapping, DV: Depot<Vertex<M::V>>, DC: Depot<CellRec<M::C>>>(
-    grid: Grid<M::C>,
-    setup: &Setup,
-    m: &mut M,
-    dv: &mut DV,
-    dc: &mut DC,
-) -> Result<(Grid<M::C>, Tally), WalkStop>
-    requires dim { (M.held m.old).dim ≡ setup.now.dim }
-    requires axes { grid.dim ≡ setup.now.dim }
-    requires greatest { max_level M.rules (M.held m.old) ≡ setup.now.max_level }
-    requires finished { grid.finished < 1000000000 }
-    requires counts { CountsWithin (DV.holds dv.old) (2 ^ 60) }
-    requires cell_counts { CountsWithin (DC.holds dc.old) (2 ^ 60) }
-    requires grid { HoldAGrid M.numbers (M.held m.old) setup.now.max_level
-        (record { vertices = DV.holds dv.old; cells = DC.holds dc.old }) grid }
-    ensures keeps { Keeps (M.held m.old) (M.held m.new) }
-    ensures axes { IfOk result (λ answer. answer.0.dim ≡ setup.now.dim) }
-    ensures grid { IfOk result (λ answer. HoldAGrid M.numbers (M.held m.new) setup.now.max_level
-        (record { vertices = DV.holds dv.new; cells = DC.holds dc.new }) answer.0) }
-{
-    traverse(grid, setup, m, dv, dc)
-}
-
 // A fresh grid in depots that hold nothing.
 fn begun<M: Mapping, DV: Depot<Vertex<M::V>>, DC: Depot<CellRec<M::C>>>(
     root: M::C,
@@ -121,7 +96,7 @@ where
     for row in rows {
         assert!(rt; counts_few(dv) && counts_few(dc) && grid.finished() < 1_000_000_000);
         let wanted = tally_of(grid.finished() + 1, *row);
-        match turn(grid, setup, m, dv, dc) {
+        match traverse(grid, setup, m, dv, dc) {
             Ok((next, tally)) => {
                 assert_eq!(rt; tally, wanted);
                 grid = next;

@@ -10,6 +10,7 @@ use Rattle.pe_walk.specs.InHand.{machine_between}
 use Rattle.pe_walk.specs.Traversing.{Stores, MayTraverse}
 use Rattle.pe_walk.proofs.Simulation.Answers.{stacks_are_addresses}
 use Rattle.pe_walk.proofs.Traversing.{may_turn, fits_of, answers}
+use Rattle.pe_walk.proofs.Beginnings.{goes_on_if}
 use Rattle.pe_walk.proofs.traversal.traverse.Goals as goal
 
 pub traverse_stacks-requires-clause-fits : goal.traverse_stacks-requires-clause-fits
@@ -37,3 +38,11 @@ returns-clause-answers g c walked may =
     (subst (λ levels. Follows (traverse set (ports_of c.args.grid.swapped) levels begins)
     (λ answer. machine_between g.M.Mapping.numbers (g.DV.Depot.holds c.traverse_stacks.new.dv) (g.DC.Depot.holds c.traverse_stacks.new.dc) answer.0.root (g.M.Mapping.held c.traverse_stacks.new.m).list answer.1)
     (read_by failure_of c.traverse_stacks.result) found (g.M.Mapping.held c.traverse_stacks.new.m).told) (sym may.greatest) c.traverse_stacks.ensures.follows)
+
+pub returns-clause-goes_on : goal.returns-clause-goes_on
+returns-clause-goes_on g c =
+    let held = g.M.Mapping.held c.traverse_stacks.new.m in
+    let found = found_of (g.M.Mapping.held c.args.m.now) (held_by (g.DV.Depot.holds c.args.dv.now) (g.DV.Depot.room c.args.dv.now)) (held_by (g.DC.Depot.holds c.args.dc.now) (g.DC.Depot.room c.args.dc.now)) in
+    goes_on_if g.M.Mapping.numbers (setting_of g.M.Effects.rules (g.M.Mapping.held c.args.m.now) c.args.setup.now.start_level c.args.setup.now.max_cells (c.args.grid.finished + 1)) c.requires.grid.0 c.args.grid.swapped c.args.setup.now.max_level found
+    (record { vertices = g.DV.Depot.holds c.args.dv.now; cells = g.DC.Depot.holds c.args.dc.now }) held (record { vertices = g.DV.Depot.holds c.traverse_stacks.new.dv; cells = g.DC.Depot.holds c.traverse_stacks.new.dc })
+    failure_of c.traverse_stacks.result c.requires.grid.1.greatest (returns-clause-answers g c c.requires.grid.0 c.requires.grid.1)

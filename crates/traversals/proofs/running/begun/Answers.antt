@@ -1,6 +1,6 @@
 use Rattle.std.proofs.Common.{refl, subst, arith}
 use Rattle.pe_base.specs.Tree.Dim.{IsDim}
-use Rattle.traversals.proofs.Runs.{begins}
+use Rattle.pe_walk.proofs.Beginnings.{begins}
 use Rattle.traversals.proofs.running.begun.Goals as goal
 
 pub returns-clause-grid : goal.returns-clause-grid

@@ -1,6 +1,6 @@
 use Rattle.std.proofs.Common.{◌≡◌}
 use Rattle.pe_mapping.specs.Held.{Keeps}
-use Rattle.traversals.specs.Runs.{HoldAGrid}
+use Rattle.pe_walk.specs.Traversing.{HoldAGrid}
 use Rattle.traversals.proofs.running.walks_as.Given as goal
 
 -- the depots hold a grid

@@ -5,26 +5,20 @@ use Rattle.std.proofs.lemmas.List.{length-map}
 use Rattle.pe_base.specs.declared.tally.Tally.{Tally}
 use Rattle.pe_base.specs.Tree.Dim.{IsDim}
 use Rattle.pe_base.specs.Tree.Places.{root}
-use Rattle.pe_base.specs.Walk.Course.{done}
 use Rattle.pe_base.specs.Walk.Core.{Setting}
-use Rattle.pe_base.specs.Walk.Working.{begun, ended}
-use Rattle.pe_base.specs.Walk.Grids.{Grid, StoredVertex, new_grid}
+use Rattle.pe_base.specs.Walk.Grids.{Grid, new_grid}
 use Rattle.pe_base.specs.Walk.Streams.{walked_loads, walked_cells, next_way, goes_below, vertex_stream, cell_stream}
-use Rattle.pe_base.specs.Walk.Walk.{walk_root, traverse}
+use Rattle.pe_base.specs.Walk.Walk.{traverse}
 use Rattle.pe_base.proofs.Lists.{Each-all, filter_none}
-use Rattle.pe_base.proofs.Walk.Courses.{mapped-done}
 use Rattle.pe_stacks.specs.declared.grid.Grid.{Grid as Handle}
-use Rattle.pe_stacks.specs.Holdings.{Holdings, stack_at, items_at, new_stack}
+use Rattle.pe_stacks.specs.Holdings.{Holdings, items_at}
 use Rattle.pe_mapping.specs.Held.{Held, Told}
 use Rattle.pe_mapping.specs.Sights.{Numbers, seen_vertex, seen_cell}
 use Rattle.pe_hang.specs.InHand.{map_stack, map_holdings}
-use Rattle.pe_hang.specs.Follows.{Found, read_by}
+use Rattle.pe_hang.specs.Follows.{Found, Failure, read_by}
 use Rattle.pe_hang.proofs.OnStacks.{stack_at-map}
-use Rattle.pe_adapt.specs.declared.stop.WalkStop.{WalkStop}
-use Rattle.pe_adapt.specs.Stops.{failure_of}
 use Rattle.pe_walk.specs.Gridded.{stored_of}
-use Rattle.pe_walk.specs.Traversing.{Stores, MayTraverse, Traverses, Answers}
-use Rattle.traversals.specs.Runs.{HoldsNothing, HoldAGrid}
+use Rattle.pe_walk.specs.Traversing.{Stores, MayTraverse, HoldsNothing, HoldAGrid, Traverses, Answers}
 
 -- nothing is seen on stacks on which nothing lies
 unseen : {X Y : Type 0} (f : X → Y) (stacks : ℕ) (held : Holdings X) → HoldsNothing stacks held → (s : ℕ) → items_at (map_holdings f held) s ≡ []
@@ -48,11 +42,11 @@ either true xs none = sym none
 either false xs none = refl
 
 -- depots that hold nothing hold a new grid
-pub begins : {Plan V C : Type 0} (numbers : Numbers V C) (mapping : Held Plan) (levels : ℕ) (depots : Stores V C) (handle : Handle C)
-    → HoldsNothing 10 depots.vertices → HoldsNothing 2 depots.cells → IsDim handle.dim → 1 ≤ levels → levels ≤ 20 → handle.finished ≡ 0 → HoldAGrid numbers mapping levels depots handle
-begins numbers mapping levels depots handle nothing no_cell axes some few finished =
-    let numbers_of = seen_cell numbers.cell handle.root in (
-      new_grid handle.dim levels numbers_of mapping.list,
+pub may_begin : {Plan V C : Type 0} (numbers : Numbers V C) (mapping : Held Plan) (levels : ℕ) (depots : Stores V C) (handle : Handle C)
+    → HoldsNothing 10 depots.vertices → HoldsNothing 2 depots.cells → IsDim handle.dim → 1 ≤ levels → levels ≤ 20 → handle.finished ≡ 0
+    → MayTraverse numbers mapping levels depots handle (new_grid handle.dim levels (seen_cell numbers.cell handle.root) mapping.list)
+may_begin numbers mapping levels depots handle nothing no_cell axes some few finished =
+    let numbers_of = seen_cell numbers.cell handle.root in
       record {
         greatest = refl;
         formed = inl (record { axes = axes; some_level = some; few_levels = few; unfinished = refl; no_vertices = λ vertex. refl; no_cells = λ cell. refl });
@@ -70,20 +64,20 @@ begins numbers mapping levels depots handle nothing no_cell axes some few finish
             list = refl;
           };
         };
-      },
-    )
+      }
+
+pub begins : {Plan V C : Type 0} (numbers : Numbers V C) (mapping : Held Plan) (levels : ℕ) (depots : Stores V C) (handle : Handle C)
+    → HoldsNothing 10 depots.vertices → HoldsNothing 2 depots.cells → IsDim handle.dim → 1 ≤ levels → levels ≤ 20 → handle.finished ≡ 0 → HoldAGrid numbers mapping levels depots handle
+begins numbers mapping levels depots handle nothing no_cell axes some few finished =
+    (new_grid handle.dim levels (seen_cell numbers.cell handle.root) mapping.list, may_begin numbers mapping levels depots handle nothing no_cell axes some few finished)
 
 -- a traversal that is done leaves a grid that may be traversed
 goes_on : {Plan V C : Type 0} (numbers : Numbers V C) (set : Setting Plan) (grid : Grid) (swapped : Bool) (levels : ℕ) (told : Told) (before : Stores V C) (mapping : Held Plan) (after : Stores V C) (answer : Handle C × Tally)
     → grid.greatest ≡ levels → Traverses numbers set grid swapped (traverse set grid) told before mapping after answer → HoldAGrid numbers mapping levels after answer.0
-goes_on numbers set grid swapped levels told before mapping after answer same it =
-    let from = mapped-done (walk_root (record set { traversal = grid.finished + 1 }) grid.greatest (begun (grid.finished + 1) grid)) (λ w. (ended w grid, w.tally)) (it.next, answer.1) it.does.ends in (
-      it.next,
-      record { greatest = ap (λ a. a.0.greatest) from.2 ∙ same; formed = inr it.formed; holds = it.holds },
-    )
+goes_on numbers set grid swapped levels told before mapping after answer same it = (it.next, record { greatest = it.greatest ∙ same; formed = inr it.formed; holds = it.holds })
 
 -- so does an answer of a traversal, if it is no error
-pub goes_on_if : {Plan V C : Type 0} (numbers : Numbers V C) (set : Setting Plan) (swapped : Bool) (levels : ℕ) (old : Found) (start : Held Plan) (before : Stores V C) (handle : Handle C) (mapping : Held Plan) (after : Stores V C) (result : Result (Handle C × Tally) WalkStop)
-    → (may : HoldAGrid numbers start levels before handle) → Answers numbers set may.0 swapped (traverse set may.0) (read_by failure_of result) old before mapping after → IfOk result (λ answer. HoldAGrid numbers mapping levels after answer.0)
-goes_on_if numbers set swapped levels old start before handle mapping after (Ok answer) may it = goes_on numbers set may.0 swapped levels old.told before mapping after answer may.1.greatest it
-goes_on_if numbers set swapped levels old start before handle mapping after (Err stop) may it = tt
+pub goes_on_if : {Plan V C E : Type 0} (numbers : Numbers V C) (set : Setting Plan) (grid : Grid) (swapped : Bool) (levels : ℕ) (old : Found) (before : Stores V C) (mapping : Held Plan) (after : Stores V C) (means : E → Failure) (result : Result (Handle C × Tally) E)
+    → grid.greatest ≡ levels → Answers numbers set grid swapped (traverse set grid) (read_by means result) old before mapping after → IfOk result (λ answer. HoldAGrid numbers mapping levels after answer.0)
+goes_on_if numbers set grid swapped levels old before mapping after means (Ok answer) same it = goes_on numbers set grid swapped levels old.told before mapping after answer same it
+goes_on_if numbers set grid swapped levels old before mapping after means (Err e) same it = tt
