@@ -53,6 +53,7 @@ impl Between {
 }
 
 /// Why traversals in turn end before all are done.
+#[derive(Debug, Drop)]
 pub enum Halt {
     /// A traversal stopped.
     Walk {
@@ -89,8 +90,9 @@ fn walk_once<K: Sink, DV: Depot<Vertex<Fields>>, DC: Depot<CellRec<Fields>>>(
     ensures idle { (DV.holds vertices.new).out ≡ 0 }
     ensures idle_cells { (DC.holds cells.new).out ≡ 0 }
 {
-    let mut mapping = Interp::new(scenario, between.globals, sink);
-    let walked = traverse(between.grid, &scenario.setup, &mut mapping, vertices, cells);
+    let Between { grid, globals } = between;
+    let mut mapping = Interp::new(scenario, globals, sink);
+    let walked = traverse(grid, &scenario.setup, &mut mapping, vertices, cells);
     let globals = mapping.globals();
     match walked {
         Ok((grid, tally)) => Ok((Between { grid, globals }, tally)),
