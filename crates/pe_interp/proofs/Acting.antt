@@ -94,26 +94,6 @@ body_acts line outcome old new mid view after (Err Sink) written answer seen lis
 }
 body_acts line outcome old new mid view after (Err Memory) written answer seen list = absurd answer
 
--- the trace line of an event that is traced
-pub line_traced : (scenario : Scenario) (event : Event) (sort : Sort) (traversal : ℕ) (place : Place) (old mid : Told) → sort_of event ≡ sort → traces scenario.trace event ≡ true
-    → Appends old.text (line_by sort scenario.setup.dim event traversal place) mid.text → old.faults ≤ mid.faults → Adds old (trace_line (said_of scenario) event traversal place) mid
-line_traced scenario event sort traversal place old mid is traced appends faults =
-    rw traced (rw is (line_adds old mid (line_by sort scenario.setup.dim event traversal place) appends faults))
-
--- and of one that is not
-pub line_untraced : (scenario : Scenario) (event : Event) (traversal : ℕ) (place : Place) (told : Told) → traces scenario.trace event ≡ false → Adds told (trace_line (said_of scenario) event traversal place) told
-line_untraced scenario event traversal place told untraced = rw untraced (adds-nothing told)
-
--- the sink failed at the trace line of an event
-pub event_fails : (scenario : Scenario) (event : Event) (sort : Sort) (traversal : ℕ) (list : List ℤ) (before : Seen) (old new : Held Scenario) → sort_of event ≡ sort → traces scenario.trace event ≡ true
-    → AppendsPrefix old.told.text (line_by sort scenario.setup.dim event traversal before.place) new.told.text → old.told.faults ≤ new.told.faults → Rises old.told.faults new.told.faults
-    → IsSinkFault (effect_of (said_of scenario) event traversal list before) old new
-event_fails scenario event sort traversal list before old new is traced appends faults failed =
-    let line = line_by sort scenario.setup.dim event traversal before.place in
-    let outcome = acted (body_at scenario.bodies event) (setting_at (said_of scenario) event traversal) before list in
-    let same : trace_line (said_of scenario) event traversal before.place ≡ line = rw traced (ap (λ s. line_by s scenario.setup.dim event traversal before.place) is) in
-    subst (λ l. IsSinkFault (behind l outcome) old new) (sym same) (line_fails line outcome old new appends faults failed)
-
 -- an event with a body
 pub event_acts : (scenario : Scenario) (event : Event) (sort : Sort) (traversal : ℕ) (body : List Stmt) (list list' : List ℤ) (before after : Seen) (old new : Held Scenario) (mid : Told) (view : View) (result : Result (Unit {0}) Stop)
     → sort_of event ≡ sort → body_at scenario.bodies event ≡ Some body → Adds old.told (trace_line (said_of scenario) event traversal before.place) mid → list' ≡ list

@@ -1,7 +1,7 @@
 ghost use Rattle.std.specs.Prelude.{◌≡◌};
 ghost use Rattle.pe_interp.specs.Held.{held_of};
 
-use crate::lines::{write_place_line, write_plain_line};
+use crate::lines::write_trace;
 use pe_base::{Effects, Event, Fields, Place, Stop};
 use pe_eval::{View, eval};
 use pe_io::Sink;
@@ -9,6 +9,12 @@ use pe_mapping::Mapping;
 use pe_scene::Scenario;
 use pe_stacks::{CellRec, Corners, Vertex};
 use std::alloc::AllocError;
+
+/// The place of a plain event.
+const ROOT: Place = Place {
+    level: 0,
+    pos: [0; 4],
+};
 
 /// The mapping of a scenario. Its list is the numbers of the whole grid. It is sure, and takes no memory.
 pub struct Interp<'a, K> {
@@ -78,11 +84,9 @@ impl<K: Sink> Mapping for Interp<'_, K> {
 
     fn plain_event(&mut self, event: Event, traversal: u64) -> Result<(), Stop> {
         let scene = self.scene;
-        if scene.trace.has(event) {
-            match write_plain_line(event, traversal, self.sink) {
-                Ok(()) => {}
-                Err(_) => return Err(Stop::Sink),
-            }
+        match write_trace(scene, event, traversal, &ROOT, self.sink) {
+            Ok(()) => {}
+            Err(_) => return Err(Stop::Sink),
         }
         match scene.bodies.of(event) {
             Some(body) => {
@@ -115,11 +119,9 @@ impl<K: Sink> Mapping for Interp<'_, K> {
         parent: &mut CellRec<Fields>,
     ) -> Result<(), Stop> {
         let scene = self.scene;
-        if scene.trace.has(event) {
-            match write_place_line(scene.setup.dim, event, at, self.sink) {
-                Ok(()) => {}
-                Err(_) => return Err(Stop::Sink),
-            }
+        match write_trace(scene, event, traversal, at, self.sink) {
+            Ok(()) => {}
+            Err(_) => return Err(Stop::Sink),
         }
         match scene.bodies.of(event) {
             Some(body) => {
@@ -167,11 +169,9 @@ impl<K: Sink> Mapping for Interp<'_, K> {
         parent: &mut CellRec<Fields>,
     ) -> Result<(), Stop> {
         let scene = self.scene;
-        if scene.trace.has(event) {
-            match write_place_line(scene.setup.dim, event, at, self.sink) {
-                Ok(()) => {}
-                Err(_) => return Err(Stop::Sink),
-            }
+        match write_trace(scene, event, traversal, at, self.sink) {
+            Ok(()) => {}
+            Err(_) => return Err(Stop::Sink),
         }
         match scene.bodies.of(event) {
             Some(body) => {

@@ -1,41 +1,49 @@
 //! The trace lines of events.
 ghost use Rattle.std.specs.Prelude.{◌≡◌, ◌≤◌, [], ◌∷◌, ◌++◌, OnOk, OnErr};
-ghost use Rattle.pe_base.specs.Lines.{plain_line, place_line};
+ghost use Rattle.pe_base.specs.Acts.Events.{sort_of};
+ghost use Rattle.pe_base.specs.Lines.{line_by, place_line};
 ghost use Rattle.pe_io.specs.Counts.{Rises};
 ghost use Rattle.pe_io.specs.Sink.{Appends, AppendsPrefix};
+ghost use Rattle.pe_scene.specs.SaidView.{said_of};
+ghost use Rattle.pe_interp.specs.Effect.{trace_line};
 
-use pe_base::{Dim, Event, Place};
+use pe_base::{Dim, Event, Place, Sort};
 use pe_io::{Line, Sink, SinkFailed};
+use pe_scene::Scenario;
 
-/// Writes the trace line of a plain event.
-pub(crate) fn write_plain_line<K: Sink>(
+/// Writes the trace line of an event, if the scenario traces it.
+pub(crate) fn write_trace<K: Sink>(
+    scene: &Scenario,
     event: Event,
     traversal: u64,
-    sink: &mut K,
-) -> Result<(), SinkFailed>
-    ensures ok { OnOk result (Appends (K.text sink.old) (plain_line event traversal) (K.text sink.new)) }
-    ensures err { OnErr result (AppendsPrefix (K.text sink.old) (plain_line event traversal) (K.text sink.new)) }
-    ensures faults { K.faults sink.old ≤ K.faults sink.new }
-    ensures failed { OnErr result (Rises (K.faults sink.old) (K.faults sink.new)) }
-{
-    let mut line = Line::of(event.name());
-    line.number(traversal);
-    line.end(sink)
-}
-
-/// Writes the trace line of an event at a place.
-pub(crate) fn write_place_line<K: Sink>(
-    dim: Dim,
-    event: Event,
     place: &Place,
     sink: &mut K,
 ) -> Result<(), SinkFailed>
-    ensures ok { OnOk result (Appends (K.text sink.old) (place_line dim event place.now) (K.text sink.new)) }
-    ensures err { OnErr result (AppendsPrefix (K.text sink.old) (place_line dim event place.now) (K.text sink.new)) }
+    ensures ok { OnOk result (Appends (K.text sink.old) (trace_line (said_of scene.now) event traversal place.now) (K.text sink.new)) }
+    ensures err { OnErr result (AppendsPrefix (K.text sink.old) (trace_line (said_of scene.now) event traversal place.now) (K.text sink.new)) }
     ensures faults { K.faults sink.old ≤ K.faults sink.new }
     ensures failed { OnErr result (Rises (K.faults sink.old) (K.faults sink.new)) }
 {
-    place_words(dim, event, place).end(sink)
+    if scene.trace.has(event) {
+        trace_words(scene.setup.dim, event, traversal, place).end(sink)
+    } else {
+        Ok(())
+    }
+}
+
+// The trace line of an event, without its line feed: a plain event with the number of the traversal, every other with
+// its place.
+fn trace_words(dim: Dim, event: Event, traversal: u64, place: &Place) -> Line
+    ensures { result ++ 10 ∷ [] ≡ line_by (sort_of event) dim event traversal place.now }
+{
+    match event.sort() {
+        Sort::Plain => {
+            let mut line = Line::of(event.name());
+            line.number(traversal);
+            line
+        }
+        Sort::Vertex | Sort::Cell => place_words(dim, event, place),
+    }
 }
 
 // The trace line of an event at a place, without its line feed.
