@@ -1,29 +1,26 @@
 -- A trace line, and then what a body does.
-use Rattle.std.proofs.Common.{◌≡◌, ◌∙◌, ℕ, ◌≤◌, List, [], ◌∷◌, ◌++◌, take, drop, ℤ, Option, Some, None, Result, Ok, Err, true, false, refl, sym, ap, subst, append_assoc}
+use Rattle.std.proofs.Common.{◌≡◌, ◌∙◌, ℕ, ◌≤◌, List, [], take, drop, ℤ, Option, Some, None, Result, Ok, Err, refl, sym, subst}
 use Rattle.std.proofs.lemmas.List.{take-append-drop}
 use Rattle.pe_base.specs.declared.event.Event.{Event}
 use Rattle.pe_base.specs.declared.event.Sort.{Sort}
-use Rattle.pe_base.specs.declared.place.Place.{Place}
 use Rattle.pe_base.specs.Acts.Events.{sort_of}
 use Rattle.pe_base.specs.declared.stop.Stop.{Stop}
 use Rattle.pe_base.specs.declared.stop.Stop.TheVariants.{Overflow, Division, Sink, Memory}
 use Rattle.pe_base.specs.Acts.Effects.{Seen, Outcome}
-use Rattle.pe_base.specs.Lines.{line_by}
 use Rattle.pe_io.specs.Counts.{Rises}
 use Rattle.pe_io.specs.Sink.{Appends, AppendsPrefix}
-use Rattle.pe_mapping.specs.Held.{Told, Held, IsLonger, Adds, AddsPart, SinkFailed}
-use Rattle.pe_mapping.specs.Answers.{IsOutcome, IsSinkFault, Answers}
-use Rattle.pe_mapping.proofs.Texts.{adds-nothing, adds-then, part-first, part-then, fails-then}
+use Rattle.pe_mapping.specs.Held.{Told, Held, IsLonger, Adds, AddsPart}
+use Rattle.pe_mapping.specs.Answers.{IsSinkFault, Answers}
+use Rattle.pe_mapping.proofs.Texts.{adds-then, part-first, part-then, fails-then}
 use Rattle.pe_eval.specs.declared.view.View.{View}
 use Rattle.pe_check.specs.declared.checked.Stmt.{Stmt}
 use Rattle.pe_eval.specs.Meaning.{Setting, behind, meaning}
 use Rattle.pe_eval.specs.Sights.{sight, globals_of}
 use Rattle.pe_eval.specs.Answers as eval
 use Rattle.pe_scene.specs.declared.scenario.Scenario.{Scenario}
-use Rattle.pe_scene.specs.Trace.{traces}
 use Rattle.pe_scene.specs.Bodies.{body_at}
 use Rattle.pe_scene.specs.SaidView.{said_of}
-use Rattle.pe_interp.specs.Effect.{trace_line, limit_by, setting_at, acted, effect_of}
+use Rattle.pe_interp.specs.Effect.{trace_line, limit_by, acted, effect_of}
 
 longer : (old : Option (List ℕ)) (bytes : List ℕ) (new : Option (List ℕ)) → Appends old bytes new → IsLonger old bytes new
 longer None bytes new is = is

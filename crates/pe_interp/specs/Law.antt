@@ -1,5 +1,5 @@
 -- The rules of a scenario are lawful.
-use Rattle.std.proofs.Common.{◌≡◌, ◌∙◌, ℕ, ℤ, ◌-◌, List, [], ◌∷◌, All, Bool, true, false, cond, ◌&&◌, nat_lt, Option, Some, None, refl, sym, ap, subst, inl, inr, arith, replicate}
+use Rattle.std.proofs.Common.{◌≡◌, ◌∙◌, ℕ, ℤ, ◌-◌, List, [], ◌∷◌, All, true, false, cond, ◌&&◌, Option, Some, None, refl, inl, inr, arith}
 use Rattle.std.specs.Prelude.{pos}
 use Rattle.std.proofs.lemmas.Bool.{le-ltb}
 use Rattle.std.proofs.lemmas.List.Elements.{All-replicate}

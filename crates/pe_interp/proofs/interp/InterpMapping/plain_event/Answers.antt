@@ -1,11 +1,8 @@
-use Rattle.std.proofs.Common.{rules, ◌≡◌, ◌∙◌, sym, ap, true, refl, [], ◌∷◌}
+use Rattle.std.proofs.Common.{rules, ◌∙◌, sym, ap, refl}
 use Rattle.std.specs.Option.{option_copied}
-use Rattle.pe_base.specs.declared.fields.Fields.{Fields}
 use Rattle.pe_base.specs.declared.event.Sort.TheVariants.{Plain}
 use Rattle.pe_eval.specs.Sights.{sight, globals_of}
-use Rattle.pe_mapping.specs.Held.{Held}
 use Rattle.pe_mapping.specs.Sights.{plain_sight}
-use Rattle.pe_scene.specs.declared.scenario.Scenario.{Scenario}
 use Rattle.pe_interp.proofs.Wider.{body_fits}
 use Rattle.pe_interp.proofs.Acting.{line_fails, line_adds, event_acts}
 use Rattle.pe_interp.proofs.interp.InterpMapping.plain_event.Goals as goal
@@ -20,15 +17,6 @@ eval-answer-requires-clause-fits g c =
 pub returns-in-Plain-clause-answer : goal.returns-in-Plain-clause-answer
 returns-in-Plain-clause-answer g c =
     let old = c.args.self.now in
-    let numbers : c.in-Plain.globals.now ≡ c.in-Plain.numbers-in-Plain-1-own.given.0 = search rules in
-    let new : Held Scenario = record {
-      plan = old.scene.now;
-      list = c.in-Plain.numbers-in-Plain-1-own.given.0.a;
-      told = record { text = g.K.Sink.text c.eval-answer.new.sink; faults = g.K.Sink.faults c.eval-answer.new.sink };
-      dim = old.scene.now.setup.dim;
-      sure = true;
-      lent = old.sink.ghost_name ∷ [];
-    } in
-    event_acts old.scene.now c.args.event Plain c.args.traversal c.in-Some.body.now _ _ plain_sight plain_sight _ new _ c.eval-answer.new.view c.eval-answer.result
+    event_acts old.scene.now c.args.event Plain c.args.traversal c.in-Some.body.now _ _ plain_sight plain_sight _ _ _ c.eval-answer.new.view c.eval-answer.result
     c.requires.sort (sym c.of.ensures ∙ ap option_copied c.in-Some.is) (line_adds _ _ _ c.in-Ok.ensures.ok c.in-Ok.ensures.faults) refl c.eval-answer.ensures.answer (ap sight c.in-Plain.is)
-    (ap globals_of c.in-Plain.is ∙ ap (λ (f : Fields). f.a) numbers)
+    (ap globals_of c.in-Plain.is ∙ search rules)

@@ -1,12 +1,9 @@
-use Rattle.std.proofs.Common.{rules, ◌≡◌, ◌∙◌, sym, ap, true, refl, [], ◌∷◌}
+use Rattle.std.proofs.Common.{rules, ◌≡◌, ◌∙◌, sym, ap, refl}
 use Rattle.std.specs.Option.{option_copied}
-use Rattle.pe_base.specs.declared.fields.Fields.{Fields}
 use Rattle.pe_base.specs.declared.event.Sort.TheVariants.{Vertex}
 use Rattle.pe_eval.specs.Sights.{sight, globals_of}
-use Rattle.pe_mapping.specs.Held.{Held}
 use Rattle.pe_mapping.specs.Sights.{vertex_sight}
 use Rattle.pe_mapping.proofs.Lawful.{leaves_same}
-use Rattle.pe_scene.specs.declared.scenario.Scenario.{Scenario}
 use Rattle.pe_interp.specs.Held.{fields_numbers}
 use Rattle.pe_interp.proofs.Wider.{body_fits}
 use Rattle.pe_interp.proofs.Acting.{line_fails, line_adds, event_acts}
@@ -30,16 +27,6 @@ returns-in-Vertex-clause-answer g c =
     let old = c.args.self.now in
     let here : sight c.eval-answer.new.view ≡ vertex_sight fields_numbers c.args.at.now c.in-Vertex.vertex.now c.in-Vertex.parents.now c.in-Vertex.parent.now =
     ap sight c.in-Vertex.is ∙ ap (λ place. vertex_sight fields_numbers place c.in-Vertex.vertex.now c.in-Vertex.parents.now c.in-Vertex.parent.now) (rw c.in-Vertex.is at c.eval-answer.ensures.lawful.place) in
-    let left : vertex_sight fields_numbers c.args.at.now c.in-Vertex.vertex.now c.in-Vertex.parents.now c.in-Vertex.parent.now ≡ vertex_sight fields_numbers c.args.at.now c.in-Vertex.vertex-1-own.given.0 c.in-Vertex.parents-1-own.given.0 c.in-Vertex.parent-1-own.given.0 = search rules in
-    let numbers : c.in-Vertex.globals.now ≡ c.in-Vertex.numbers-in-Vertex-1-own.given.0 = search rules in
-    let new : Held Scenario = record {
-      plan = old.scene.now;
-      list = c.in-Vertex.numbers-in-Vertex-1-own.given.0.a;
-      told = record { text = g.K.Sink.text c.eval-answer.new.sink; faults = g.K.Sink.faults c.eval-answer.new.sink };
-      dim = old.scene.now.setup.dim;
-      sure = true;
-      lent = old.sink.ghost_name ∷ [];
-    } in
-    event_acts old.scene.now c.args.event Vertex c.args.traversal c.in-Some.body.now _ _ _ _ _ new _ c.eval-answer.new.view c.eval-answer.result
-    c.requires.sort (sym c.of.ensures ∙ ap option_copied c.in-Some.is) (line_adds _ _ _ c.in-Ok.ensures.ok c.in-Ok.ensures.faults) refl c.eval-answer.ensures.answer (here ∙ left)
-    (ap globals_of c.in-Vertex.is ∙ ap (λ (f : Fields). f.a) numbers)
+    event_acts old.scene.now c.args.event Vertex c.args.traversal c.in-Some.body.now _ _ _ _ _ _ _ c.eval-answer.new.view c.eval-answer.result
+    c.requires.sort (sym c.of.ensures ∙ ap option_copied c.in-Some.is) (line_adds _ _ _ c.in-Ok.ensures.ok c.in-Ok.ensures.faults) refl c.eval-answer.ensures.answer (here ∙ search rules)
+    (ap globals_of c.in-Vertex.is ∙ search rules)
