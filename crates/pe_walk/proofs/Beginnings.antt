@@ -47,24 +47,24 @@ pub may_begin : {Plan V C : Type 0} (numbers : Numbers V C) (mapping : Held Plan
     → MayTraverse numbers mapping levels depots handle (new_grid handle.dim levels (seen_cell numbers.cell handle.root) mapping.list)
 may_begin numbers mapping levels depots handle nothing no_cell axes some few finished =
     let numbers_of = seen_cell numbers.cell handle.root in
-      record {
-        greatest = refl;
-        formed = inl (record { axes = axes; some_level = some; few_levels = few; unfinished = refl; no_vertices = λ vertex. refl; no_cells = λ cell. refl });
+    record {
+      greatest = refl;
+      formed = inl (record { axes = axes; some_level = some; few_levels = few; unfinished = refl; no_vertices = λ vertex. refl; no_cells = λ cell. refl });
+      holds = record {
+        axes = refl;
+        finished = finished;
         holds = record {
-          axes = refl;
-          finished = finished;
-          holds = record {
-            stacks = length-map depots.vertices.stacks (map_stack (seen_vertex numbers.vertex)) ∙ nothing.count;
-            cell_stacks = length-map depots.cells.stacks (map_stack (seen_cell numbers.cell)) ∙ no_cell.count;
-            vertices = λ s. ap (map stored_of) (unseen (seen_vertex numbers.vertex) 10 depots.vertices nothing s) ∙ either _ _ (no_vertices handle.dim levels numbers_of mapping.list);
-            cells = λ s. unseen (seen_cell numbers.cell) 2 depots.cells no_cell s ∙ either _ _ (no_cells handle.dim levels numbers_of mapping.list);
-            none_out = nothing.none_out;
-            no_cell_out = no_cell.none_out;
-            root = refl;
-            list = refl;
-          };
+          stacks = length-map depots.vertices.stacks (map_stack (seen_vertex numbers.vertex)) ∙ nothing.count;
+          cell_stacks = length-map depots.cells.stacks (map_stack (seen_cell numbers.cell)) ∙ no_cell.count;
+          vertices = λ s. ap (map stored_of) (unseen (seen_vertex numbers.vertex) 10 depots.vertices nothing s) ∙ either _ _ (no_vertices handle.dim levels numbers_of mapping.list);
+          cells = λ s. unseen (seen_cell numbers.cell) 2 depots.cells no_cell s ∙ either _ _ (no_cells handle.dim levels numbers_of mapping.list);
+          none_out = nothing.none_out;
+          no_cell_out = no_cell.none_out;
+          root = refl;
+          list = refl;
         };
-      }
+      };
+    }
 
 pub begins : {Plan V C : Type 0} (numbers : Numbers V C) (mapping : Held Plan) (levels : ℕ) (depots : Stores V C) (handle : Handle C)
     → HoldsNothing 10 depots.vertices → HoldsNothing 2 depots.cells → IsDim handle.dim → 1 ≤ levels → levels ≤ 20 → handle.finished ≡ 0 → HoldAGrid numbers mapping levels depots handle

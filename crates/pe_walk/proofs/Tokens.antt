@@ -58,3 +58,5 @@ pub mod Depths
 pub mod ExactTraffic
 -- how much the counts of a traversal rise at most
 pub mod Rises
+-- what the walk of a cell moves, in what it counts
+pub mod CellTraffic

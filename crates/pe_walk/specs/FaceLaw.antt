@@ -3,13 +3,20 @@
 use Rattle.std.specs.Prelude.{◌≡◌, ◌≢◌, ℕ, suc, ◌+◌, ◌*◌, ◌^◌, ◌<◌, ◌≤◌, Bool, true, List, ◌++◌, if◌then◌else◌, Result, Ok, Err}
 use Rattle.std.specs.List.{AllByRecursion}
 use Rattle.pe_base.specs.declared.place.Place.{Place}
+use Rattle.pe_base.specs.declared.place.Digits.{Digits}
+use Rattle.pe_base.specs.declared.tally.Tally.{Tally}
+use Rattle.pe_base.specs.Tree.Places.{IsCellPlace, IsDigits, child_at, parent_of}
+use Rattle.pe_base.specs.Tree.Ways.{way_of}
 use Rattle.pe_base.specs.Walk.Course.{Ending, done, halts, stuck, Push, Course}
 use Rattle.pe_base.specs.Walk.Core.{Setting}
 use Rattle.pe_base.specs.Walk.Working.{Working}
 use Rattle.pe_base.specs.Walk.Streams.{walked_cells}
 use Rattle.pe_base.specs.Walk.Walk as model
+use Rattle.pe_access.specs.declared.state.CellState.{CellState}
+use Rattle.pe_access.specs.States.{StandsFor}
 use Rattle.pe_stacks.specs.Grid.{input_stack, cell_input_stack}
 use Rattle.pe_mapping.specs.Held.{Told, AddsPart}
+use Rattle.pe_mapping.specs.Moments.{IsTraversal}
 use Rattle.pe_hang.specs.Follows.{Found, Failure, halted, unwritten, wanting, unheard_of, IsOverfull, Does, FailsToTell}
 use Rattle.pe_walk.specs.Machine.{Machine}
 use Rattle.pe_walk.specs.Machine as machine
@@ -18,6 +25,8 @@ use Rattle.pe_walk.specs.Takings.{MayBegin, HasEnded}
 use Rattle.pe_walk.specs.Standing.{Outset, Stage, Holds, IsOutset, IsStage}
 use Rattle.pe_walk.specs.Images.{image_of}
 use Rattle.pe_walk.specs.Gridded.{ports_of}
+use Rattle.pe_walk.specs.CellTraffic.{CellTraffic, CountsAreFew}
+use Rattle.pe_walk.specs.Traversing.{Stores}
 
 -- Where a traversal stands as a cell is to be walked: what is fixed for it, which cells are walked, the stage, how many
 -- levels may be below the cell, which cells are ahead afterwards, what lies beneath on each stack, the working state by
@@ -78,7 +87,22 @@ abbrev pub LawOfAFace : Type 0 → Type 0
 LawOfAFace Plan = (set : Setting Plan) (at : Moment) (m : Machine) → MayWalk set at m
     → IsCellWalked set at (machine.walk_cell set (ports_of at.outset.outlook.swapped) (suc at.levels) at.stage.cell m)
 
+-- And so it counts and moves just what its loads and stores do.
+abbrev pub CellsAreExact : Type 0 → Type 0
+CellsAreExact Plan = (set : Setting Plan) (at : Moment) (m after : Machine) → MayWalk set at m
+    → (machine.walk_cell set (ports_of at.outset.outlook.swapped) (suc at.levels) at.stage.cell m).ending ≡ done after
+    → CellTraffic at.outset.outlook at.levels at.stage.cell m.vertices after.vertices m.cells after.cells m.tally after.tally
+
 -- # As a call does it
+-- The cell is one below the root, in a traversal, with its digits in its parent.
+pub record IsCalledAt (axes traversal : ℕ) (cell : Place) (digits : Digits) (state : CellState) : Type 0 where
+  pub number : IsTraversal traversal
+  pub place : IsCellPlace axes cell
+  pub deep : 1 ≤ cell.level
+  pub its_digits : IsDigits axes digits
+  pub child : cell ≡ child_at (parent_of cell) digits
+  pub stands : StandsFor axes (way_of traversal) cell state
+
 -- the moment is that of these settings, at this cell, with the input stacks named
 pub record IsAt (greatest : ℕ) (place : Place) (stream cell_stream : ℕ) (at : Moment) : Type 0 where
   pub cell : at.stage.cell ≡ place
@@ -86,20 +110,31 @@ pub record IsAt (greatest : ℕ) (place : Place) (stream cell_stream : ℕ) (at 
   pub input : stream ≡ input_stack at.outset.outlook.swapped
   pub cell_input : cell_stream ≡ cell_input_stack at.outset.outlook.swapped
 
--- the walk is done, and left this machine
-pub record WalksCell {Plan : Type 0} (set : Setting Plan) (at : Moment) (course : Course Working) (old new : Told) (m : Machine) : Type 0 where
+-- a cell may be walked at a moment, of what a call has in hand and on stacks
+pub record MayCall {Plan : Type 0} (set : Setting Plan) (greatest : ℕ) (place : Place) (stream cell_stream : ℕ) (m : Machine) (at : Moment) : Type 0 where
+  pub here : IsAt greatest place stream cell_stream at
+  pub may : MayWalk set at m
+
+-- The walk is done, and left this machine; the depots have moved just what is counted.
+pub record WalksCell {Plan V C : Type 0} (set : Setting Plan) (at : Moment) (course : Course Working) (old new : Told) (before : Stores V C) (tally : Tally) (after : Stores V C) (m : Machine) : Type 0 where
   pub working : Working
   pub does : Does course (done working) old new
   pub walked : HasWalked set at working m
+  pub traffic : CellTraffic at.outset.outlook at.levels at.stage.cell before.vertices after.vertices before.cells after.cells tally m.tally
+  pub few : CountsAreFew set.max_cells m.tally after.vertices after.cells
 
 -- a part of the text was added, and there was no memory: of a mapping that is sure, some push had no room
 pub record WantsBriefRoom {Plan : Type 0} (set : Setting Plan) (at : Moment) (course : Course Working) (old : Found) (new : Told) : Type 0 where
   pub told : AddsPart old.told course.text new
   pub room : old.sure ≡ true → (push : Push) × IsBrief set at push × IsOverfull old push
 
-abbrev pub CellAnswers : {Plan A : Type 0} → Setting Plan → Moment → Course Working → Result A Failure → Found → Told → Machine → Type 0
-CellAnswers set at course (Ok it) old new m = WalksCell set at course old.told new m
-CellAnswers set at course (Err (halted cause)) old new m = Does course (halts cause) old.told new
-CellAnswers set at course (Err unwritten) old new m = FailsToTell course old.told new
-CellAnswers set at course (Err wanting) old new m = WantsBriefRoom set at course old new
-CellAnswers set at course (Err unheard_of) old new m = ⊥
+abbrev pub CellAnswers : {Plan A V C : Type 0} → Setting Plan → Moment → Course Working → Result A Failure → Found → Stores V C → Tally → Told → Stores V C → Machine → Type 0
+CellAnswers set at course (Ok it) old before tally new after m = WalksCell set at course old.told new before tally after m
+CellAnswers set at course (Err (halted cause)) old before tally new after m = Does course (halts cause) old.told new
+CellAnswers set at course (Err unwritten) old before tally new after m = FailsToTell course old.told new
+CellAnswers set at course (Err wanting) old before tally new after m = WantsBriefRoom set at course old new
+CellAnswers set at course (Err unheard_of) old before tally new after m = ⊥
+
+-- the walk of the cell by address, at a moment
+abbrev pub by_address : {Plan : Type 0} → Setting Plan → Moment → Course Working
+by_address set at = model.walk_cell set at.levels at.stage.parent at.stage.cell at.working

@@ -24,6 +24,8 @@ pub mod Frames
 pub mod FewCells
 -- what a traversal counts
 pub mod Tallies
+-- what the walk of a cell moves and counts
+pub mod CellTraffic
 -- grids and streams for the worked rows
 pub mod Grids
 -- the walk on stacks as a machine of lists

@@ -28,9 +28,9 @@ use pe_mapping::Mapping;
 use pe_stacks::{CellRec, Corners, Depot, Vertex};
 use pe_states::kind_of;
 
-// Walks a cell: it is counted, its corners are loaded, it is visited, and its corners are stored.
+/// Walks a cell: it is counted, its corners are loaded, it is visited, and its corners are stored.
 #[cycle(cells)]
-fn walk_cell<M: Mapping, DV: Depot<Vertex<M::V>>, DC: Depot<CellRec<M::C>>>(
+pub(crate) fn walk_cell<M: Mapping, DV: Depot<Vertex<M::V>>, DC: Depot<CellRec<M::C>>>(
     settings: &Settings,
     cell: &WalkedCell,
     kind: Kind,

@@ -1,5 +1,6 @@
-//! The laws on which the walk over stacks rests. Each function has a law for its contract, and no body: the law holds
-//! of the definitions alone. They hold in two to four axes, both ways, at every depth.
+//! The laws on which the walk over stacks rests. Each function but `walk_cell` has a law for its contract, and no body: the
+//! law holds of the definitions alone. They hold in two to four axes, both ways, at every depth. `walk_cell` walks one cell,
+//! and has the law of a face for its contract.
 //!
 //! First the lists of faces. The walk of a cell loads the cell's corners, walks each child, and stores the corners. On each
 //! stack `composition` says that the list that a load or a child wants is on top, and what the stack holds afterwards;
@@ -20,11 +21,12 @@
 //! `stacks_are_short` and `cells_are_few` are the counts, and `tallies` has them in the words in which a traversal counts.
 //!
 //! Last the values: `core_keeps` and `kinds_are_found` are what they need, and `stacks_are_addresses` says that a traversal on
-//! stacks is the walk by address; `turns_are_exact` says what it counts and moves.
+//! stacks is the walk by address; `turns_are_exact` says what it counts and moves. So it is with the walk of one cell, by
+//! `law_of_a_face` and `cells_are_exact`.
 ghost use Rattle.pe_walk.specs.CoreKeeps.{CoreKeeps};
 ghost use Rattle.pe_walk.specs.Standing.{KindsAreFound};
 ghost use Rattle.pe_walk.specs.Gridded.{StacksAreAddresses};
-ghost use Rattle.pe_walk.specs.FaceLaw.{LawOfAFace};
+ghost use Rattle.pe_walk.specs.FaceLaw.{LawOfAFace, CellsAreExact};
 ghost use Rattle.pe_walk.specs.Laws.{NeighboursAgree, FacesAreOneWay, OneFaceOnEach, Composition, BeneathUntouched, StoresAsLoads, Counts, UnwalkedIsEmpty, LeafIsCorners, CellsOfTheTree, StepsCrossFaces, StepsAreCorners, CornersAreSteps, TurnsJoin, StandTogether, CornersCrossOnce, CornersOnStacks};
 ghost use Rattle.pe_walk.specs.TokenLaws.{WalkOfACell, LoadsAreDue, LoadedAround, WholeTraversal, TurningRound, TurningAround};
 ghost use Rattle.pe_walk.specs.Outlooks.{ForecastFits, StoredFits};
@@ -37,6 +39,7 @@ ghost use Rattle.pe_walk.specs.TurnTraffic.{TallyIsForeseen, TurnsAreExact};
 ghost use Rattle.pe_walk.specs.Frames.{WhatStepsChange, WhatWalksLeave};
 ghost use Rattle.pe_walk.specs.CellsAhead.{WalkedCellsDiffer, StepsKeepAhead, BeginsAhead, MovesItsCells};
 
+pub use crate::face::walk_cell;
 use pe_base::Effects;
 
 /// The cells of the tree are the places of cells.
@@ -222,6 +225,12 @@ pub fn kinds_are_found<E: Effects>()
 /// each stack, what it gives is, and all beneath is as it was. Each push leaves its stack short.
 pub fn law_of_a_face<E: Effects>()
     ensures same { LawOfAFace E.Plan }
+{}
+
+/// The walk of a cell on stacks counts and moves just what its loads and stores do, and no more is out in between than the
+/// corners of one cell of each level.
+pub fn cells_are_exact<E: Effects>()
+    ensures exact { CellsAreExact E.Plan }
 {}
 
 /// A traversal of the machine of lists adds the text of the walk by address and ends alike, with the next grid on its stacks.

@@ -6,6 +6,7 @@ mod child;
 mod corner;
 mod corners;
 mod count;
+mod face;
 mod hand;
 pub mod laws;
 #[cfg(test)]

@@ -93,8 +93,8 @@ fn fire_plain<M: Mapping>(
     }
 }
 
-// The kind of the root's children.
-fn kind_of_children(traversal: u64) -> Kind
+/// The kind of the root's children.
+pub(crate) fn kind_of_children(traversal: u64) -> Kind
     ensures { result ≡ (if traversal == 1 then Born else Kept) }
 {
     if traversal == 1 {

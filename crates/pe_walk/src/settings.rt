@@ -1,4 +1,4 @@
-ghost use Rattle.std.specs.Prelude.{◌≡◌};
+ghost use Rattle.std.specs.Prelude.{◌≡◌, ◌≤◌};
 ghost use Rattle.pe_base.specs.Tree.Ways.{way_of};
 ghost use Rattle.pe_mapping.specs.Moments.{IsTraversal};
 ghost use Rattle.pe_walk.specs.Streams.{AreStreams};
@@ -25,4 +25,26 @@ pub(crate) struct Settings {
     ghost number: { IsTraversal traversal },
     ghost turned: { way ≡ way_of traversal },
     ghost streams: { AreStreams input output cell_input cell_output },
+}
+
+/// What is set for a traversal, with these stacks for its input.
+pub(crate) fn settings_at(setup: &Setup, traversal: u64, input: u8, cell_input: u8) -> Settings
+    requires traversal { IsTraversal traversal }
+    requires input { 8 ≤ input }
+    requires last { input ≤ 9 }
+    requires cell_input { cell_input ≤ 1 }
+    ensures setup { result.setup ≡ setup.now }
+    ensures traversal { result.traversal ≡ traversal }
+    ensures input { result.input ≡ input }
+    ensures cell_input { result.cell_input ≡ cell_input }
+{
+    Settings {
+        setup: *setup,
+        traversal,
+        way: Way::of(traversal),
+        input,
+        output: 17 - input,
+        cell_input,
+        cell_output: 1 - cell_input,
+    }
 }

@@ -13,9 +13,9 @@ ghost use Rattle.pe_walk.specs.Traversing.{IsAdvanced};
 
 use crate::progress::Progress;
 use crate::root::{ROOT, walk_stacks};
-use crate::settings::Settings;
+use crate::settings::{Settings, settings_at};
 use pe_adapt::WalkStop;
-use pe_base::{Setup, Tally, Way};
+use pe_base::{Setup, Tally};
 use pe_mapping::Mapping;
 use pe_stacks::{CellRec, Depot, Grid, Vertex};
 
@@ -26,18 +26,7 @@ fn settings_of<C>(grid: &Grid<C>, setup: &Setup) -> Settings
     ensures traversal { result.traversal ≡ grid.now.finished + 1 }
     ensures ports { ports_in result ≡ ports_of grid.now.swapped }
 {
-    let traversal = grid.finished() + 1;
-    let input = grid.input();
-    let cell_input = grid.cell_input();
-    Settings {
-        setup: *setup,
-        traversal,
-        way: Way::of(traversal),
-        input,
-        output: 17 - input,
-        cell_input,
-        cell_output: 1 - cell_input,
-    }
+    settings_at(setup, grid.finished() + 1, grid.input(), grid.cell_input())
 }
 
 // Nothing is counted yet.

@@ -8,3 +8,5 @@ pub mod Walks
 pub mod Alike
 -- a traversal
 pub mod Traversals
+-- what the walk of a cell counts and moves
+pub mod Cells

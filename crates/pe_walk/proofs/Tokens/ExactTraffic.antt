@@ -135,19 +135,19 @@ lasts_length o walked greatest dim grown = same ∙ firsts_length (turned o) wal
     ))
 
 -- from where a cell comes, and to where it goes
-by_given : (b : Bool) (s : ℕ) → is_stack s (given b (Some s)) ≡ b
+pub by_given : (b : Bool) (s : ℕ) → is_stack s (given b (Some s)) ≡ b
 by_given true s = same_itself s
 by_given false s = refl
 
-by_other : (b : Bool) (s other : ℕ) → (s ≡ other → ⊥) → is_stack s (given b (Some other)) ≡ false
+pub by_other : (b : Bool) (s other : ℕ) → (s ≡ other → ⊥) → is_stack s (given b (Some other)) ≡ false
 by_other true s other apart = eq_false s other apart
 by_other false s other apart = refl
 
-two_cell_streams : (swapped : Bool) → cell_input_stack swapped ≡ cell_output_stack swapped → ⊥
+pub two_cell_streams : (swapped : Bool) → cell_input_stack swapped ≡ cell_output_stack swapped → ⊥
 two_cell_streams true e = omega (arith, e)
 two_cell_streams false e = omega (arith, e)
 
-by_none : (b : Bool) (s : ℕ) → is_none (given b (Some s)) ≡ not b
+pub by_none : (b : Bool) (s : ℕ) → is_none (given b (Some s)) ≡ not b
 by_none true s = refl
 by_none false s = refl
 

@@ -23,7 +23,7 @@ module _ (o : Outlook) where
       omega (arith, law c, tallest_few levels law cells, length-append (walked_cells o.axes o.way o.walks levels c) (flat_map (walked_cells o.axes o.way o.walks levels) cells))
 
   -- no more levels are walked than cells
-  height_few : (levels : ℕ) (cell : Place) → height o levels cell ≤ length (walked_cells o.axes o.way o.walks levels cell)
+  pub height_few : (levels : ℕ) (cell : Place) → height o levels cell ≤ length (walked_cells o.axes o.way o.walks levels cell)
   height_few zero cell = omega arith
   height_few (suc levels) cell = omega (arith, tallest_few levels (height_few levels) (walked_children o.axes o.way o.walks cell))
 

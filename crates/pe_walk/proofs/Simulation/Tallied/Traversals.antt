@@ -82,7 +82,7 @@ gave_up set ports (it ∷ its) m after e =
     go false held h = absurd cc
 
 -- an image that is done is of something done
-from_image : {W M : Type 0} (f : W → M) (e : Ending W) (x : M) → done x ≡ ending_map f e → (w : W) × (e ≡ done w) × (x ≡ f w)
+pub from_image : {W M : Type 0} (f : W → M) (e : Ending W) (x : M) → done x ≡ ending_map f e → (w : W) × (e ≡ done w) × (x ≡ f w)
 from_image f (done w) x h = (w, refl, done_same x (f w) h)
 from_image f (halts cause) x h = absurd cc
 from_image f stuck x h = absurd cc
