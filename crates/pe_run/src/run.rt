@@ -21,7 +21,7 @@ use crate::traversals::{Halt, traverse_all};
 use pe_adapt::WalkStop;
 use pe_base::{Dim, Fields, Stop as EventStop};
 use pe_io::{Shelf, Sink};
-use pe_scene::{SceneFault, Scenario};
+use pe_scene::{Scenario, SceneFault};
 use pe_stacks::{CellRec, Depot, Shown, Vertex};
 use std::alloc::Global;
 

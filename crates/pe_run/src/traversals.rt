@@ -1,6 +1,7 @@
 //! The traversals of a scenario in turn.
 ghost use Rattle.std.specs.Prelude.{◌≡◌, ◌<◌, ◌≤◌, false, length, List};
 ghost use Rattle.pe_base.specs.Acts.Payloads.{zeros};
+ghost use Rattle.pe_base.specs.Tree.Dim.{IsDim};
 ghost use Rattle.pe_base.specs.Walk.Grids.{Grid as AGrid};
 ghost use Rattle.pe_base.specs.Walk.Traversals.{Traversal};
 ghost use Rattle.pe_stacks.specs.Holdings.{new_holdings};
@@ -38,7 +39,10 @@ impl Between {
           root = record { payload = result.globals };
         } }
         ensures globals { result.globals.a ≡ zeros }
+        ensures range { IsDim dim }
     {
+        // From the number of axes it is known that the dimension is in range.
+        let _axes = dim.axes();
         Between {
             grid: Grid::fresh(dim, Fields::zero()),
             globals: Fields::zero(),
@@ -147,7 +151,10 @@ pub fn traverse_all<K: Sink, DV: Depot<Vertex<Fields>>, DC: Depot<CellRec<Fields
 {
     let mut between = Between::fresh(scenario.setup.dim);
     for _ in 0..scenario.traversals {
-        between = traverse_more(scenario, between, sink, vertices, cells)?;
+        match traverse_more(scenario, between, sink, vertices, cells) {
+            Ok(next) => between = next,
+            Err(halt) => return Err(halt),
+        }
     }
     between.close();
     Ok(())
