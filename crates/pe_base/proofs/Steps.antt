@@ -12,8 +12,6 @@ pub mod Rounds
 pub mod RouteLaws
 -- the stacks of a vertex by how its cells are entered and left
 pub mod StackLaws
--- two cells that follow each other around a vertex share a face
-pub mod Crossing
 -- how often each axis is crossed
 pub mod CrossingLaws
 -- the slower planes are those of the slower axes

@@ -8,13 +8,14 @@ use Rattle.pe_base.specs.declared.way.Way.{Way}
 use Rattle.pe_base.specs.Tree.Places.{IsInside, moved}
 use Rattle.pe_base.specs.Tree.Curve.{children, order}
 use Rattle.pe_base.specs.Steps.Around.{is_corner_pos, is_corner}
+use Rattle.pe_base.specs.Steps.Routes.{axis_of}
 use Rattle.pe_base.specs.Steps.Faces.{Face, Touch, beside, across, is_step, corner_touches, comes_across, goes_across, at_face, in_corners, out_corners, IsFace, facing, ShareFace}
 use Rattle.pe_base.proofs.Lists.{Each, Each-all, Each-weaker, Each-filter, In, In-map, In-flat_map, In-filter, In-reverse, Each-In, Each-flat_map, Each-reverse}
 use Rattle.pe_base.proofs.Tree.Corners.{IsBits, bit_lists, own_corners, slice_index-moved}
 use Rattle.pe_base.proofs.Faces.FaceLists.{face_of, up_cell, across-up, leaving_is}
 use Rattle.pe_base.proofs.Tree.Ranks.{OnLevel, order_on_level, and_left, and_right}
 use Rattle.pe_base.proofs.Steps.Counts.{OnGrid, root_on_grid, children_on_grid}
-use Rattle.pe_base.proofs.Steps.Crossing.{step_neighbours}
+use Rattle.pe_base.proofs.Steps.RouteLaws.{within_cube, step_neighbours}
 use Rattle.pe_walk.specs.Laws.{Crosses}
 use Rattle.pe_walk.proofs.Unwalked.{contains_in, in_contains}
 use Rattle.pe_walk.proofs.Outside.{step_in}
@@ -49,9 +50,6 @@ order_on_grid axes way zero four = (root_on_grid axes four, tt)
 order_on_grid axes way (suc level) four = Each-flat_map (OnGrid axes (suc level)) (children axes way) (order axes way level)
     (Each-weaker (OnGrid axes level) _ (λ c on. children_on_grid axes way level c four on) (order axes way level) (order_on_grid axes way level four))
 
-pub inside_bound : (axes : ℕ) (vertex : Place) → IsInside axes vertex → (axis : ℕ) → axis < axes → slice_index vertex.pos axis ≤ 3 ^ vertex.level
-inside_bound axes vertex inside axis a = omega (arith, inside.pos.inside axis a)
-
 -- two cells one next to the other share one face, and no other
 up_alone : (axes axis : ℕ) (a : Place) (other : Face) → axis < length a.pos → other.side < 2 → across other a ≡ up_cell axis a → other ≡ face_of axis 1
 up_alone axes axis a other l s e =
@@ -83,22 +81,23 @@ down_alone axes axis b other l s e =
 
 pub step_crosses : (axes : ℕ) (way : Way) (vertex a b : Place) → axes ≤ 4 → IsInside axes vertex → is_step axes way vertex a b ≡ true → Crosses axes a b
 step_crosses axes way vertex a b four inside t =
-    let n = step_neighbours axes way vertex a b four (inside_on_grid axes vertex inside) (inside_bound axes vertex inside) t in
+    let n = step_neighbours axes way vertex a b four (within_cube axes vertex inside) t in
+    let axis = axis_of (a, b) in
     let cells = step_in axes way vertex a b t in
     let la = (Each-In (OnLevel vertex.level) a (order axes way vertex.level) (order_on_level axes way vertex.level four) cells.0).1 in
     let lb = (Each-In (OnLevel vertex.level) b (order axes way vertex.level) (order_on_level axes way vertex.level four) cells.1).1 in
-    elim n.2 [
+    elim n.1 [
       | inl e ↦ record {
-        face = face_of n.0 1;
-        is_face = (n.1, omega arith);
-        shared = (sym e, ap (across (face_of n.0 0)) e ∙ across-up n.0 a);
-        alone = λ other is_face shared. up_alone axes n.0 a other (omega arith) is_face.1 (shared.0 ∙ e);
+        face = face_of axis 1;
+        is_face = (n.0, omega arith);
+        shared = (sym e, ap (across (face_of axis 0)) e ∙ across-up axis a);
+        alone = λ other is_face shared. up_alone axes axis a other (omega arith) is_face.1 (shared.0 ∙ e);
       }
       | inr e ↦ record {
-        face = face_of n.0 0;
-        is_face = (n.1, omega arith);
-        shared = (ap (across (face_of n.0 0)) e ∙ across-up n.0 b, sym e);
-        alone = λ other is_face shared. down_alone axes n.0 b other (omega arith) is_face.1 (ap (across other) (sym e) ∙ shared.0);
+        face = face_of axis 0;
+        is_face = (n.0, omega arith);
+        shared = (ap (across (face_of axis 0)) e ∙ across-up axis b, sym e);
+        alone = λ other is_face shared. down_alone axes axis b other (omega arith) is_face.1 (ap (across other) (sym e) ∙ shared.0);
       }
     ]
 

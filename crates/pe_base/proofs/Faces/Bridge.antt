@@ -19,8 +19,8 @@ use Rattle.pe_base.proofs.Tree.Mirrors.{up}
 use Rattle.pe_base.proofs.Tree.Corners.{IsBits, bit_lists, bit_lists_below, touch_at, corner_touches_are, slice_index-moved, slice_index-bits}
 use Rattle.pe_base.proofs.Tree.Ranks.{steps_within, list_any-Each, is_same-true, and_left, and_right}
 use Rattle.pe_base.proofs.Steps.Counts.{OnGrid, is_same_itself, same_itself, true_eq, eq_true}
-use Rattle.pe_base.proofs.Steps.Crossing.{step_neighbours}
-use Rattle.pe_base.proofs.Steps.Turned.{axis_between-back, find_none, find_first, any_both, one_step_to, is_step-opposite, stack-opposite}
+use Rattle.pe_base.proofs.Steps.RouteLaws.{step_neighbours}
+use Rattle.pe_base.proofs.Steps.Turned.{find_none, find_first, any_both, one_step_to, is_step-opposite, stack-opposite}
 use Rattle.pe_base.proofs.Faces.FaceLists.{face_of, across-up}
 use Rattle.pe_base.proofs.Faces.Quiet.{false_unless}
 use Rattle.pe_base.proofs.Faces.TurnedLists.{leaving-opposite, goes_by-opposite}
@@ -46,19 +46,20 @@ length-moved [] bs = refl
 length-moved (x ∷ pos) [] = refl
 length-moved (x ∷ pos) (b ∷ bs) = ap suc (length-moved pos bs)
 
-drop-moved : (n : ℕ) (pos bs : List ℕ) → IsBits n bs → drop n (moved pos bs) ≡ drop n pos
-drop-moved zero [] bs d = refl
-drop-moved zero (x ∷ pos) [] d = refl
-drop-moved zero (x ∷ pos) (b ∷ bs) d = absurd (omega arith)
-drop-moved (suc n) [] bs d = refl
-drop-moved (suc n) (x ∷ pos) [] d = absurd (omega arith)
-drop-moved (suc n) (x ∷ pos) (b ∷ bs) d = drop-moved n pos bs d.1
+-- its coordinates behind the axes are the cell's
+moved-behind : (axis n : ℕ) (pos bs : List ℕ) → IsBits n bs → n ≤ axis → slice_index (moved pos bs) axis ≡ slice_index pos axis
+moved-behind axis n [] bs d h = refl
+moved-behind axis n (x ∷ pos) [] d h = refl
+moved-behind axis zero (x ∷ pos) (b ∷ bs) d h = absurd (omega arith)
+moved-behind zero (suc n) (x ∷ pos) (b ∷ bs) d h = absurd (omega arith)
+moved-behind (suc axis) (suc n) (x ∷ pos) (b ∷ bs) d h = moved-behind axis n pos bs d.1 (omega arith)
 
-corner_on_grid : (axes : ℕ) (cell : Place) (bs : List ℕ) → OnGrid axes cell.level cell → IsBits axes bs → OnGrid axes cell.level (corner_at cell bs)
-corner_on_grid axes cell bs on d = (refl, length-moved cell.pos bs ∙ on.1, drop-moved axes cell.pos bs d ∙ on.2)
-
-corner_within : (axes : ℕ) (cell : Place) (bs : List ℕ) → axes ≤ 4 → IsPosition axes (3 ^ cell.level) cell.pos → IsBits axes bs → (axis : ℕ) → axis < axes → slice_index (corner_at cell bs).pos axis ≤ 3 ^ cell.level
-corner_within axes cell bs four is d axis a = omega (arith, slice_index-moved axis axes cell.pos bs a (omega (arith, is.four)) d, slice_index-bits axis axes bs a d, is.inside axis a)
+corner_within : (axes : ℕ) (cell : Place) (bs : List ℕ) → axes ≤ 4 → IsPosition axes (3 ^ cell.level) cell.pos → IsBits axes bs → IsPosition axes (suc (3 ^ cell.level)) (corner_at cell bs).pos
+corner_within axes cell bs four is d = record {
+  four = length-moved cell.pos bs ∙ is.four;
+  inside = λ axis a. omega (arith, slice_index-moved axis axes cell.pos bs a (omega (arith, is.four)) d, slice_index-bits axis axes bs a d, is.inside axis a);
+  rest = λ axis a. moved-behind axis axes cell.pos bs d a ∙ is.rest axis a;
+}
 
 -- a corner's coordinate is the cell's, or one more
 pub corner_coordinate : (axis : ℕ) (qs ps : List ℕ) → axis < length ps → is_corner_pos qs ps ≡ true → (slice_index ps axis ≤ slice_index qs axis) × (slice_index qs axis ≤ slice_index ps axis + 1)
@@ -94,14 +95,6 @@ one_axis axes axis j side s a b l apart e = elim (which j axis) [
     which : (x y : ℕ) → (x ≡ y) ⊎ (x ≢ y)
     which x y = grind arith
 
-axis_between-up : (axis : ℕ) (pos : List ℕ) → axis < length pos → axis_between pos (up axis pos) ≡ axis
-axis_between-up axis [] h = absurd (omega arith)
-axis_between-up zero (x ∷ pos) h = ap (λ b. if b then axis_between pos pos + 1 else 0) (next x)
-  where
-    next : (y : ℕ) → (y == y + 1) ≡ false
-    next y = grind (arith, nat_tests)
-axis_between-up (suc axis) (x ∷ pos) h = ap (λ b. if b then axis_between pos (up axis pos) + 1 else 0) (same_itself x) ∙ omega (arith, axis_between-up axis pos (omega arith))
-
 or_none : (b : Bool) → (b || false) ≡ b
 or_none true = refl
 or_none false = refl
@@ -118,7 +111,6 @@ one_across axes way cell bs four is d =
     let all = steps (around axes way v) in
     let waits = λ (step : Place × Place). waiting_stack v (axis_of step) in
     let ends = λ (step : Place × Place). is_same step.1 cell in
-    let grid = on_grid axes cell (3 ^ cell.level) is in
     elim (one_step_to axes way v cell four) [
       | inl none ↦ inl (record {
         no_stack = ap (option_map waits) (find_none ends all none);
@@ -131,38 +123,40 @@ one_across axes way cell bs four is d =
           let same : one.0.1 ≡ cell = same_places one.0.1 cell at_cell in
           let t : is_step axes way v a cell ≡ true = found a ∙ is_same_itself a in
           let corner_a = (step_corners axes way v a cell t).0 in
-          let n = step_neighbours axes way v a cell four (corner_on_grid axes cell bs grid d) (corner_within axes cell bs four is d) t in
-          let long : n.0 < length cell.pos = omega (arith, is.four, n.1) in
-          let end = slice_index-moved n.0 axes cell.pos bs n.1 (omega (arith, is.four)) d in
-          let bit = slice_index-bits n.0 axes bs n.1 d in
-          let stack : (face : Face) → face.axis ≡ n.0 → axis_of one.0 ≡ n.0 → slice_index v.pos face.axis ≡ plane face cell → stack_in axes way v cell ≡ Some (stack_of face cell) =
-          λ face e f p. ap (option_map waits) (find_first ends all one.0 [] one.1) ∙ ap (λ i. Some (waiting_stack v i)) (f ∙ sym e) ∙ ap (λ p. Some (2 * face.axis + p % 2)) p in
-          elim n.2 [
+          let n = step_neighbours axes way v a cell four (corner_within axes cell bs four is d) t in
+          let i = axis_of (a, cell) in
+          let crossed : axis_of one.0 ≡ i = ap (λ c. axis_between a.pos c.pos) same in
+          let long : i < length cell.pos = omega (arith, is.four, n.0) in
+          let end = slice_index-moved i axes cell.pos bs n.0 (omega (arith, is.four)) d in
+          let bit = slice_index-bits i axes bs n.0 d in
+          let stack : (face : Face) → face.axis ≡ i → slice_index v.pos face.axis ≡ plane face cell → stack_in axes way v cell ≡ Some (stack_of face cell) =
+          λ face e p. ap (option_map waits) (find_first ends all one.0 [] one.1) ∙ ap (λ i. Some (waiting_stack v i)) (crossed ∙ sym e) ∙ ap (λ p. Some (2 * face.axis + p % 2)) p in
+          elim n.1 [
             | inl e ↦
-                let long_a : n.0 < length a.pos = omega (arith, ap (λ p. length p.pos) e, length-up n.0 a.pos) in
-                let is_across : across (face_of n.0 0) cell ≡ a = ap (across (face_of n.0 0)) e ∙ across-up n.0 a in
-                let x : slice_index cell.pos n.0 ≡ slice_index a.pos n.0 + 1 = ap (λ p. slice_index p.pos n.0) e ∙ get_or-set_same a.pos n.0 (slice_index a.pos n.0 + 1) 0 long_a in
-                let c = corner_coordinate n.0 v.pos a.pos long_a (and_right (v.level == a.level) _ corner_a) in
-                let lies : slice_index v.pos n.0 ≡ slice_index cell.pos n.0 + 0 = omega (arith, x, c.0, c.1, end, bit) in
+                let long_a : i < length a.pos = omega (arith, ap (λ p. length p.pos) e, length-up i a.pos) in
+                let is_across : across (face_of i 0) cell ≡ a = ap (across (face_of i 0)) e ∙ across-up i a in
+                let x : slice_index cell.pos i ≡ slice_index a.pos i + 1 = ap (λ p. slice_index p.pos i) e ∙ get_or-set_same a.pos i (slice_index a.pos i + 1) 0 long_a in
+                let c = corner_coordinate i v.pos a.pos long_a (and_right (v.level == a.level) _ corner_a) in
+                let lies : slice_index v.pos i ≡ slice_index cell.pos i + 0 = omega (arith, x, c.0, c.1, end, bit) in
                 inr (record {
-                  face = face_of n.0 0;
-                  is_face = (n.1, omega arith);
-                  shared = (refl, ap (across (face_of n.0 1)) is_across ∙ sym e);
+                  face = face_of i 0;
+                  is_face = (n.0, omega arith);
+                  shared = (refl, ap (across (face_of i 1)) is_across ∙ sym e);
                   in_plane = lies;
-                  its_stack = stack (face_of n.0 0) refl (ap (λ c. axis_between a.pos c.pos) (same ∙ e) ∙ axis_between-up n.0 a.pos long_a) lies;
+                  its_stack = stack (face_of i 0) refl lies;
                   its_cell = λ other. found other ∙ ap (λ p. is_same p other) (sym is_across);
                 })
             | inr e ↦
-                let long_a : n.0 < length a.pos = omega (arith, ap (λ p. length p.pos) e, length-up n.0 cell.pos) in
-                let x : slice_index a.pos n.0 ≡ slice_index cell.pos n.0 + 1 = ap (λ p. slice_index p.pos n.0) e ∙ get_or-set_same cell.pos n.0 (slice_index cell.pos n.0 + 1) 0 long in
-                let c = corner_coordinate n.0 v.pos a.pos long_a (and_right (v.level == a.level) _ corner_a) in
-                let lies : slice_index v.pos n.0 ≡ slice_index cell.pos n.0 + 1 = omega (arith, x, c.0, c.1, end, bit) in
+                let long_a : i < length a.pos = omega (arith, ap (λ p. length p.pos) e, length-up i cell.pos) in
+                let x : slice_index a.pos i ≡ slice_index cell.pos i + 1 = ap (λ p. slice_index p.pos i) e ∙ get_or-set_same cell.pos i (slice_index cell.pos i + 1) 0 long in
+                let c = corner_coordinate i v.pos a.pos long_a (and_right (v.level == a.level) _ corner_a) in
+                let lies : slice_index v.pos i ≡ slice_index cell.pos i + 1 = omega (arith, x, c.0, c.1, end, bit) in
                 inr (record {
-                  face = face_of n.0 1;
-                  is_face = (n.1, omega arith);
-                  shared = (refl, across-up n.0 cell);
+                  face = face_of i 1;
+                  is_face = (n.0, omega arith);
+                  shared = (refl, across-up i cell);
                   in_plane = lies;
-                  its_stack = stack (face_of n.0 1) refl (ap₂ (λ b c. axis_between b.pos c.pos) e same ∙ axis_between-back (up n.0 cell.pos) cell.pos ∙ axis_between-up n.0 cell.pos long) lies;
+                  its_stack = stack (face_of i 1) refl lies;
                   its_cell = λ other. found other ∙ ap (λ p. is_same p other) e;
                 })
           ]

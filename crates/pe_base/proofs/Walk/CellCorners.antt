@@ -1,15 +1,10 @@
 -- The corners of a cell are different places, and its slots different slots.
-use Rattle.std.proofs.Common.{◌≡◌, ℕ, zero, suc, ◌+◌, ◌*◌, ◌/◌, ◌%◌, ◌^◌, ◌<◌, ◌≤◌, ◌≢◌, Bool, true, false, ◌&&◌, ◌==◌, List, [], ◌∷◌, map, length, refl, sym, ap, subst, ◌∙◌, inl, inr, arith}
-use Rattle.std.proofs.lemmas.Bool.{ne_eqb, cases_Bool}
-use Rattle.std.specs.Prelude.{take}
-use Rattle.std.specs.List.{range_with_len}
+use Rattle.std.proofs.Common.{◌≡◌, ℕ, zero, suc, ◌+◌, ◌/◌, ◌%◌, ◌^◌, ◌<◌, ◌≤◌, ◌≢◌, false, List, [], ◌∷◌, length, refl, sym, ◌∙◌, inl, inr, arith}
+use Rattle.std.proofs.lemmas.Bool.{cases_Bool}
 use Rattle.pe_base.specs.declared.place.Place.{Place}
 use Rattle.pe_base.specs.Tree.Places.{corner, bits, moved, is_same}
-use Rattle.pe_base.specs.Walk.Working.{Working}
-use Rattle.pe_base.proofs.Lists.{Each}
 use Rattle.pe_base.proofs.Tree.PlaceLaws.{bits-suc, length-bits}
 use Rattle.pe_base.proofs.Tree.Ranks.{is_same-true}
-use Rattle.pe_base.proofs.Walk.Slots.{Slot, stored, hangs, is_slot, slot_if, slot_of, is_hung, AreApart}
 
 halves : (n axes : ℕ) → n < 2 ^ suc axes → n / 2 < 2 ^ axes
 halves n axes h = omega (arith, h)

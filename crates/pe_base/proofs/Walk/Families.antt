@@ -1,11 +1,11 @@
 -- What one event sees is read as it was written: the parent's corners and numbers, a cell with its corners.
-use Rattle.std.proofs.Common.{◌≡◌, ℕ, ℤ, zero, suc, ◌+◌, ◌^◌, ◌<◌, ◌≤◌, ◌≢◌, Bool, true, false, ◌&&◌, ◌==◌, List, [], ◌∷◌, map, length, Some, refl, sym, ap, subst, ◌∙◌, inl, inr, arith, if◌then◌else◌}
+use Rattle.std.proofs.Common.{◌≡◌, ℕ, ℤ, zero, suc, ◌+◌, ◌^◌, ◌<◌, ◌≤◌, ◌≢◌, Bool, true, false, ◌&&◌, List, [], ◌∷◌, map, length, Some, refl, sym, ap, subst, ◌∙◌, arith, if◌then◌else◌}
 use Rattle.std.proofs.lemmas.Bool.{ne_eqb}
 use Rattle.std.proofs.lemmas.List.FromFn.{length-map-range_with_len}
 use Rattle.std.specs.Option.{unwrap_or}
 use Rattle.std.specs.List.{range_with_len}
 use Rattle.pe_base.specs.declared.place.Place.{Place}
-use Rattle.pe_base.specs.Tree.Places.{corner, is_same}
+use Rattle.pe_base.specs.Tree.Places.{is_same}
 use Rattle.pe_base.specs.Acts.Effects.{VertexRecord}
 use Rattle.pe_base.specs.Walk.Maps.{at}
 use Rattle.pe_base.specs.Walk.Core.{Family, Own}
@@ -13,7 +13,7 @@ use Rattle.pe_base.specs.Walk.Working.{Working, record_at, put_record, records_o
 use Rattle.pe_base.proofs.Lists.{Each, map-map, map_same}
 use Rattle.pe_base.proofs.Steps.Counts.{is_same_itself}
 use Rattle.pe_base.proofs.Walk.MapLaws.{at-put}
-use Rattle.pe_base.proofs.Walk.Slots.{Slot, stored, hangs, read, write, is_slot, slot_if, slot_of, is_hung, HangsSame, slot_of-same, hangs-put, hangs-write, put_record-is, record_at-is, write_all, SameBeside, beside-same, beside-write, beside-then, beside-write_all, AreApart, read-write_all, read-write_all_other}
+use Rattle.pe_base.proofs.Walk.Slots.{Slot, read, is_slot, slot_if, slot_of, is_hung, HangsSame, slot_of-same, hangs-write, put_record-is, record_at-is, write_all, SameBeside, beside-write_all, AreApart, read-write_all, read-write_all_other}
 use Rattle.pe_base.proofs.Walk.CellCorners.{corners_apart}
 
 -- the slots of a cell's corners, by their numbers

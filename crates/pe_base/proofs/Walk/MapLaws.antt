@@ -6,7 +6,7 @@ use Rattle.std.specs.Cmp.Lexicographic.{pointwise}
 use Rattle.std.specs.Prelude.{nat_eq}
 use Rattle.pe_base.specs.declared.place.Place.{Place}
 use Rattle.pe_base.specs.Tree.Places.{is_same}
-use Rattle.pe_base.specs.Walk.Maps.{Map, nothing, branch, found, only, changed, turned_by, at, put, removed, at_corner, put_corner, removed_corner}
+use Rattle.pe_base.specs.Walk.Maps.{Map, nothing, branch, found, only, changed, turned_by, at, put, removed}
 
 -- two keys are one
 abbrev pub is_key : ℕ → List ℕ → ℕ → List ℕ → Bool

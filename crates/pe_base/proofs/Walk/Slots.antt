@@ -2,16 +2,13 @@
 --
 -- A slot is a stored vertex's, by its place, or a hanging vertex's, by its cell and corner number. All that one event sees
 -- lies in different slots.
-use Rattle.std.proofs.Common.{◌≡◌, ℕ, ℤ, zero, suc, ◌+◌, ◌^◌, ◌<◌, ◌≤◌, Bool, true, false, ◌&&◌, ◌==◌, List, [], ◌∷◌, map, length, Option, Some, None, refl, sym, ap, subst, ◌∙◌, if◌then◌else◌, arith, is_some}
+use Rattle.std.proofs.Common.{◌≡◌, ℕ, Bool, true, false, ◌==◌, List, [], ◌∷◌, map, length, Option, Some, None, refl, sym, ap, subst, ◌∙◌, if◌then◌else◌, arith, is_some}
 use Rattle.std.specs.Option.{unwrap_or}
-use Rattle.std.specs.List.{range_with_len}
 use Rattle.pe_base.specs.declared.place.Place.{Place}
-use Rattle.pe_base.specs.declared.tally.Tally.{Tally}
 use Rattle.pe_base.specs.Tree.Places.{corner, is_same}
 use Rattle.pe_base.specs.Acts.Effects.{VertexRecord}
-use Rattle.pe_base.specs.Walk.Maps.{Map, found, at_corner, put_corner}
-use Rattle.pe_base.specs.Walk.Core.{Family, Own}
-use Rattle.pe_base.specs.Walk.Working.{Working, no_vertex, vertex_at, put_vertex, put_hanging, record_at, put_at, put_record, records_of, put_records_from, put_records, put_cell, cell_at, family_of, put_family, own_of, put_own}
+use Rattle.pe_base.specs.Walk.Maps.{found, at_corner}
+use Rattle.pe_base.specs.Walk.Working.{Working, no_vertex, vertex_at, put_vertex, put_hanging, record_at, put_at, put_record}
 use Rattle.std.proofs.lemmas.Bool.{and_parts, eqb-true}
 use Rattle.std.specs.Cmp.Lexicographic.{pointwise, same_text}
 use Rattle.std.specs.Prelude.{nat_eq}

@@ -6,8 +6,7 @@ use Rattle.pe_base.specs.declared.state.State.TheVariants.{Unrefined, Refinement
 use Rattle.pe_base.specs.declared.kind.Kind.{Kind}
 use Rattle.pe_base.specs.declared.kind.Kind.TheVariants.{Kept, Born, Dying, Hanging}
 use Rattle.pe_base.specs.Life.States.{is_old, is_new, is_stored, refined_state, erased_state}
-use Rattle.pe_base.specs.Life.Table.{first_touch, last_touch, is_settled}
-use Rattle.pe_base.specs.Acts.Effects.{MayBecome}
+use Rattle.pe_base.specs.Life.Table.{last_touch, is_settled}
 use Rattle.pe_base.specs.Walk.Laws.{KeepsMarks, FirstTouchKeepsOld, LastTouchSettles}
 
 refine_keeps : (test : (State → Bool)) (b : Bool) → test RefinementTriggered ≡ test Unrefined → test (if b then RefinementTriggered else Unrefined) ≡ test Unrefined

@@ -6,13 +6,14 @@
 --
 --     2 3
 --     1 4
-use Rattle.std.specs.Prelude.{◌≡◌, ◌≢◌, ◌⊎◌, ℕ, ◌+◌, ◌*◌, ◌%◌, ◌^◌, ◌<◌, All, count_by, length, ◌==◌, if◌then◌else◌, List, [], ◌∷◌, Option, find, slice_index}
+use Rattle.std.specs.Prelude.{◌≡◌, ℕ, ◌+◌, ◌*◌, ◌%◌, ◌^◌, ◌<◌, All, count_by, length, ◌==◌, if◌then◌else◌, List, [], ◌∷◌, Option, find, slice_index}
 use Rattle.std.specs.Option.{option_map}
 use Rattle.pe_base.specs.declared.place.Place.{Place}
 use Rattle.pe_base.specs.declared.way.Way.{Way}
 use Rattle.pe_base.specs.declared.way.Way.TheVariants.{Forward, Inverted}
 use Rattle.pe_base.specs.Tree.Places.{is_same}
 use Rattle.pe_base.specs.Steps.Around.{around, crossings, steps}
+use Rattle.pe_base.specs.Steps.Faces.{IsFace, ShareFace}
 
 -- an inverted walk turns each axis once more than a forward one
 abbrev pub way_turns : Way → ℕ
@@ -28,12 +29,6 @@ axis_between (x ∷ xs) (y ∷ ys) = if x == y then axis_between xs ys + 1 else 
 -- the axis across which a step goes
 abbrev pub axis_of : Place × Place → ℕ
 axis_of step = axis_between step.0.pos step.1.pos
-
--- two cells of one level share a face normal to an axis: on it their positions differ by one, and on no other
-pub record SharesFace (axis : ℕ) (a b : Place) : Type 0 where
-  pub level : a.level ≡ b.level
-  pub across : (slice_index b.pos axis ≡ slice_index a.pos axis + 1) ⊎ (slice_index a.pos axis ≡ slice_index b.pos axis + 1)
-  pub along : (other : ℕ) → other ≢ axis → slice_index a.pos other ≡ slice_index b.pos other
 
 -- the temporary stack on which a vertex waits while it crosses a face normal to an axis
 abbrev pub waiting_stack : Place → ℕ → ℕ
@@ -61,7 +56,9 @@ HasCells axes way vertex = length (around axes way vertex) ≡ 2 ^ axes
 
 -- each step around a vertex goes across a face
 abbrev pub StepsAcrossFaces : ℕ → Way → Place → Type 0
-StepsAcrossFaces axes way vertex = All (λ step. SharesFace (axis_of step) step.0 step.1) (steps (around axes way vertex))
+StepsAcrossFaces axes way vertex =
+    All (λ step. (side : ℕ) × IsFace axes (record { axis = axis_of step; side = side }) × ShareFace (record { axis = axis_of step; side = side }) step.0 step.1)
+    (steps (around axes way vertex))
 
 -- the steps around a vertex cross each axis as often as it has slower axes to be doubled by
 abbrev pub CrossesEachAxis : ℕ → Way → Place → Type 0

@@ -11,7 +11,7 @@
 --              all                enter_cell
 --     leave    all                leave_cell
 --              dying              destroy_cell
-use Rattle.std.specs.Prelude.{ℕ, ℤ, Bool, true, false, List, [], ◌∷◌, Option, Some, None}
+use Rattle.std.specs.Prelude.{ℕ, ℤ, Bool, true, false, List, [], Option, Some, None}
 use Rattle.std.specs.Option.{unwrap_or}
 use Rattle.pe_base.specs.declared.place.Place.{Place}
 use Rattle.pe_base.specs.declared.way.Way.{Way}
@@ -25,7 +25,7 @@ use Rattle.pe_base.specs.Tree.Places.{root}
 use Rattle.pe_base.specs.Tree.Ways.{way_of}
 use Rattle.pe_base.specs.Acts.Effects.{VertexRecord, Seen, Fault, Outcome, Rules}
 use Rattle.pe_base.specs.Life.Table.{first_touch, last_touch, start_state}
-use Rattle.pe_base.specs.Walk.Course.{Cause, fault_at, Ending, done, halts, Course, at_once, and_then, course_map}
+use Rattle.pe_base.specs.Walk.Course.{fault_at, Ending, done, halts, Course, at_once, and_then, course_map}
 
 -- what is set for a traversal: what its events do, the grid's axes, how far the first traversal refines, how many cells
 -- it may walk, and its number

@@ -1,15 +1,14 @@
 -- Small rules of events for the worked rows: events that are traced, and vertices that are triggered at an event, by the
 -- traversal and the vertex's place.
-use Rattle.std.specs.Prelude.{ℕ, ℤ, pos, ◌+ℤ◌, Bool, true, false, ◌&&◌, ◌==◌, List, [], ◌∷◌, ◌++◌, map, Option, None, Some, if◌then◌else◌, slice_index, length, drop, ◌-◌, count_by, decimal, codes, take}
+use Rattle.std.specs.Prelude.{ℕ, ℤ, pos, ◌+ℤ◌, Bool, true, false, ◌&&◌, ◌==◌, List, [], ◌∷◌, Option, None, Some, if◌then◌else◌, slice_index, length, drop, ◌-◌, count_by}
 use Rattle.std.specs.Option.{option_map}
 use Rattle.std.specs.List.{flat_map}
 use Rattle.pe_base.specs.declared.place.Place.{Place}
-use Rattle.pe_base.specs.declared.state.State.{State}
 use Rattle.pe_base.specs.declared.event.Event.{Event}
 use Rattle.pe_base.specs.declared.event.Event.TheVariants.{TouchVertexFirstTime, EnterCell}
 use Rattle.pe_base.specs.Life.States.{refined_state, erased_state}
 use Rattle.pe_base.specs.Acts.Events.{number_of, sort_of, is_among}
-use Rattle.pe_base.specs.Acts.Effects.{VertexRecord, Seen, Outcome, Rules, Fresh}
+use Rattle.pe_base.specs.Acts.Effects.{VertexRecord, Seen, Outcome, Rules}
 use Rattle.pe_base.specs.Lines.{line_by}
 use Rattle.pe_base.specs.Walk.Maps.{at}
 use Rattle.pe_base.specs.Walk.Course.{Ending, done, halts, stuck}

@@ -7,7 +7,7 @@
 --     state    from its first touch on, as far as old and new go
 --     below    the kind of a cell's children, or hanging: they are not walked
 --     walked   the root, and the children of a cell below which is walked
-use Rattle.std.specs.Prelude.{ℕ, zero, suc, ◌+◌, Bool, false, not, ◌&&◌, ◌||◌, ◌==◌, List, Option, is_some, if◌then◌else◌}
+use Rattle.std.specs.Prelude.{ℕ, zero, suc, ◌+◌, Bool, false, not, ◌&&◌, ◌||◌, ◌==◌, is_some, if◌then◌else◌}
 use Rattle.std.specs.Option.{unwrap_or}
 use Rattle.std.specs.List.{list_any}
 use Rattle.pe_base.specs.declared.place.Place.{Place}

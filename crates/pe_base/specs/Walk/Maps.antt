@@ -4,8 +4,8 @@
 --
 -- A map is nothing, or one first number with what stands under it alone, with the map of what goes on behind it, and
 -- with the map of the other first numbers.
-use Rattle.std.specs.Prelude.{ℕ, Bool, true, false, ◌==◌, List, [], ◌∷◌, Option, Some, None}
-use Rattle.std.specs.Option.{option_map, unwrap_or}
+use Rattle.std.specs.Prelude.{ℕ, true, false, ◌==◌, List, [], ◌∷◌, Option, Some, None}
+use Rattle.std.specs.Option.{option_map}
 use Rattle.pe_base.specs.declared.place.Place.{Place}
 
 pub data Map (X : Type 0) : Type 0 where

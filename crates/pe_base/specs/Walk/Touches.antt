@@ -12,12 +12,12 @@ use Rattle.pe_base.specs.declared.tally.Tally.{Tally}
 use Rattle.pe_base.specs.Tree.Places.{corner}
 use Rattle.pe_base.specs.Acts.Effects.{VertexRecord}
 use Rattle.pe_base.specs.Life.States.{is_old, is_new}
-use Rattle.pe_base.specs.Life.Kinds.{kind_from, is_hanging}
+use Rattle.pe_base.specs.Life.Kinds.{kind_from}
 use Rattle.pe_base.specs.Life.Carriers.{kind_by}
 use Rattle.pe_base.specs.Walk.Maps.{removed, removed_corner}
-use Rattle.pe_base.specs.Walk.Course.{Cause, limit_at, Course, ends, halts, at_once, course_map}
+use Rattle.pe_base.specs.Walk.Course.{limit_at, Course, ends, halts, at_once, course_map}
 use Rattle.pe_base.specs.Walk.Core.{Setting, Family, Own, load_touch, store_touch, enter_touch, leave_touch}
-use Rattle.pe_base.specs.Walk.Working.{Working, vertex_at, put_vertex, cell_at, put_hanging, loads_of, loaded_again, state_of, record_at, put_record, records_of, family_of, put_family, own_of, put_own}
+use Rattle.pe_base.specs.Walk.Working.{Working, vertex_at, put_vertex, cell_at, put_hanging, loads_of, loaded_again, state_of, record_at, records_of, family_of, put_family, own_of, put_own}
 
 -- what the tally counts of a load and of a store
 abbrev pub tally_load : Kind → Bool → Tally → Tally

@@ -9,7 +9,6 @@ use Rattle.pe_base.specs.declared.event.Event.TheVariants.{BeginIteration, EndIt
 use Rattle.pe_base.specs.declared.tally.Tally.{Tally}
 use Rattle.pe_base.specs.Tree.Places.{root}
 use Rattle.pe_base.specs.Tree.Curve.{children}
-use Rattle.pe_base.specs.Walk.Maps.{nothing}
 use Rattle.pe_base.specs.Walk.Course.{Course, at_once, and_then, course_map, each}
 use Rattle.pe_base.specs.Walk.Core.{Setting, way, fresh_vertex, plain_event}
 use Rattle.pe_base.specs.Walk.Grids.{Grid}

@@ -4,8 +4,8 @@
 --     cells       by place: the numbers, the root's under the root's place
 --     hanging     by cell and corner number: the hanging vertices of the cells that are being walked
 --     loads       by place: how often a vertex was loaded in this traversal
-use Rattle.std.specs.Prelude.{ℕ, ℤ, ◌+◌, ◌^◌, List, [], ◌∷◌, map, Option, Some, None, slice_index_or}
-use Rattle.std.specs.Option.{option_map, option_map_or, unwrap_or}
+use Rattle.std.specs.Prelude.{ℕ, ℤ, ◌+◌, ◌^◌, List, [], ◌∷◌, map, Option, Some, None}
+use Rattle.std.specs.Option.{option_map, unwrap_or}
 use Rattle.std.specs.List.{range_with_len}
 use Rattle.pe_base.specs.declared.place.Place.{Place}
 use Rattle.pe_base.specs.declared.state.State.{State}
@@ -15,9 +15,9 @@ use Rattle.pe_base.specs.declared.tally.Tally.{Tally}
 use Rattle.pe_base.specs.Tree.Places.{root, corner}
 use Rattle.pe_base.specs.Tree.Ways.{way_of}
 use Rattle.pe_base.specs.Acts.Effects.{VertexRecord}
-use Rattle.pe_base.specs.Walk.Maps.{Map, nothing, turned_by, at, put, removed, at_corner, put_corner, removed_corner}
+use Rattle.pe_base.specs.Walk.Maps.{Map, nothing, turned_by, at, put, removed, at_corner, put_corner}
 use Rattle.pe_base.specs.Walk.Core.{Family, Own}
-use Rattle.pe_base.specs.Walk.Grids.{Grid, StoredVertex}
+use Rattle.pe_base.specs.Walk.Grids.{Grid}
 
 pub record Working : Type 0 where
   pub vertices : Map VertexRecord

@@ -7,7 +7,7 @@ pub returns-clause-count : goal.returns-clause-count
 returns-clause-count c axes way vertex few inside = length-around axes way vertex few inside
 
 pub returns-clause-faces : goal.returns-clause-faces
-returns-clause-faces c axes way vertex few inside = steps-share axes way vertex few inside.pos
+returns-clause-faces c axes way vertex few inside = steps-share axes way vertex few inside
 
 pub returns-clause-crossings : goal.returns-clause-crossings
 returns-clause-crossings c axes way vertex few inside axis within = crossings-count axes way vertex axis few within inside
