@@ -5,7 +5,7 @@ use Rattle.std.specs.List.{range_with_len}
 use Rattle.std.specs.Option.{option_map}
 use Rattle.std.proofs.lemmas.Bool.{or_right, or_from, eqb-true, eqb-false, eq-eqb, ne_eqb, cases_lt, cases_Bool}
 use Rattle.std.proofs.lemmas.List.{get_or-map, length-set}
-use Rattle.std.proofs.lemmas.List.Elements.{All-weaker}
+use Rattle.std.proofs.lemmas.List.Elements.{All-from_recursion, All-weaker}
 use Rattle.pe_base.specs.declared.place.Place.{Place}
 use Rattle.pe_base.specs.declared.way.Way.{Way}
 use Rattle.pe_base.specs.Tree.Places.{IsCellPlace, padded, at, is_same, is_same_pos}
@@ -18,7 +18,8 @@ use Rattle.pe_base.proofs.Steps.Spans.{parents}
 use Rattle.pe_base.proofs.Steps.Levels.{cells}
 use Rattle.pe_base.proofs.Steps.Rounds.{order-cells, cells-long}
 use Rattle.pe_base.proofs.Steps.SlowerLaws.{times, count-tally, threes-times}
-use Rattle.pe_base.proofs.Steps.StackLaws.{length-parents, is_same_pos-refl}
+use Rattle.pe_base.proofs.Steps.StackLaws.{length-parents}
+use Rattle.pe_base.proofs.Steps.Counts.{pos_itself}
 use Rattle.pe_access.specs.Lines.{Face, Earlier, Later, Outside, Line, bit_of, root_line, root_face, near_face, far_face}
 use Rattle.pe_access.specs.Faces.{relation_to, face_of, line_of}
 use Rattle.pe_access.proofs.ChildLines.{child_lines, lines_of}
@@ -188,16 +189,16 @@ first-place axes level way us vs c few e f found =
     (All-weaker (λ x. length x ≡ axes) (λ x. (is_same (at level x) (at level us) || is_same (at level x) (at level vs)) ≡ is_either us vs x) (λ x long.
     let one = same-at level x us (long ∙ sym e) in
     let other = same-at level x vs (long ∙ sym f) in
-    cc) (cells axes w level) (cells-long axes w level))
+    cc) (cells axes w level) (All-from_recursion _ _ (cells-long axes w level)))
     ∙ found)
 
 lower-first : (v : Bool) (us vs : List ℕ) → (us ≡ vs → ⊥) → is_same_pos (first_of v us vs) us ≡ v
-lower-first true us vs h = is_same_pos-refl us
+lower-first true us vs h = pos_itself us
 lower-first false us vs h = not-same vs us (λ e. h (sym e))
 
 upper-first : (v : Bool) (us vs : List ℕ) → (us ≡ vs → ⊥) → is_same_pos (first_of v us vs) vs ≡ not v
 upper-first true us vs h = not-same us vs h
-upper-first false us vs h = is_same_pos-refl vs
+upper-first false us vs h = pos_itself vs
 
 length-first : (v : Bool) (us vs : List ℕ) (n : ℕ) → length us ≡ n → length vs ≡ n → length (first_of v us vs) ≡ n
 length-first true us vs n e f = e

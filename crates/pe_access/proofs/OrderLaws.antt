@@ -13,7 +13,10 @@ use Rattle.pe_base.specs.Tree.Places.{is_same_pos}
 use Rattle.pe_base.proofs.Steps.RouteLaws.{Below}
 use Rattle.pe_base.proofs.Steps.Spans.{is_even, parents, or_none}
 use Rattle.pe_base.proofs.Steps.Levels.{kids, cells}
-use Rattle.pe_base.proofs.Steps.StackLaws.{Member, Member-cells, Below-parents, length-parents, same_pos, is_same_pos-refl}
+use Rattle.pe_base.proofs.Lists.{In}
+use Rattle.pe_base.proofs.Tree.Ranks.{same_list}
+use Rattle.pe_base.proofs.Steps.Counts.{pos_itself}
+use Rattle.pe_base.proofs.Steps.StackLaws.{In-cells, Below-parents, length-parents}
 use Rattle.pe_access.specs.Lines.{Face, Earlier, Later, Line, root_face, near_face, far_face}
 use Rattle.pe_access.proofs.ChildLines.{child_lines, lines_of}
 use Rattle.pe_access.proofs.LineLaws.{length-lines_of}
@@ -292,8 +295,8 @@ find-same {X} f g (x ∷ xs) all =
 other-child : (ps cs us : List ℕ) → parents cs ≡ ps → is_same_pos ps (parents us) ≡ false → is_same_pos cs us ≡ false
 other-child ps cs us e h = elim (cases_Bool (is_same_pos cs us)) [
   | inl t ↦
-      let same : ps ≡ parents us = sym e ∙ ap parents (same_pos cs us t) in
-      absurd (false≢true (sym h ∙ ap (λ xs. is_same_pos ps xs) (sym same) ∙ is_same_pos-refl ps))
+      let same : ps ≡ parents us = sym e ∙ ap parents (same_list cs us t) in
+      absurd (false≢true (sym h ∙ ap (λ xs. is_same_pos ps xs) (sym same) ∙ pos_itself ps))
   | inr t ↦ t
 ]
 
@@ -311,7 +314,7 @@ beside-apart zero (u ∷ us) (v ∷ vs) h e = let up : v ≡ u + 1 = h.0 in let 
 beside-apart (suc i) (u ∷ us) (v ∷ vs) h e = beside-apart i us vs h.1 (cc)
 
 pub not-same : (xs ys : List ℕ) → (xs ≡ ys → ⊥) → is_same_pos xs ys ≡ false
-not-same xs ys h = elim (cases_Bool (is_same_pos xs ys)) [ inl t ↦ absurd (h (same_pos xs ys t)) | inr t ↦ t ]
+not-same xs ys h = elim (cases_Bool (is_same_pos xs ys)) [ inl t ↦ absurd (h (same_list xs ys t)) | inr t ↦ t ]
 
 -- among the children of one of two cells side by side only its own of the two children is found
 first-edge : (b : ℕ) (us vs : List ℕ) (v : Bool) → (parents us ≡ parents vs → ⊥) → find (is_either us vs) (kids b (first_of v (parents us) (parents vs))) ≡ Some (first_of v us vs)
@@ -324,13 +327,13 @@ first-edge b us vs false differ =
     (All-weaker (λ cs. parents cs ≡ parents vs) (λ cs. is_either us vs cs ≡ is_same_pos cs vs) (λ cs e. ap (λ w. w || is_same_pos cs vs) (other-child (parents vs) cs us e (not-same (parents vs) (parents us) (λ k. differ (sym k))))) (kids b (parents vs)) (kids-parents b (parents vs)))
     ∙ find-kids b vs (parents vs) refl
 
-find-member : (us : List ℕ) (xs : List (List ℕ)) → Member us xs → find (λ x. is_same_pos x us) xs ≡ Some us
-find-member us [] m = absurd m
+find-member : (us : List ℕ) (xs : List (List ℕ)) → In us xs → find (λ x. is_same_pos x us) xs ≡ Some us
+find-member us [] m = absurd (omega arith)
 find-member us (x ∷ xs) m =
     elim (cases_Bool (is_same_pos x us)) [
-      | inl t ↦ ap (λ v. if v then Some x else find (λ x. is_same_pos x us) xs) t ∙ ap Some (same_pos x us t)
+      | inl t ↦ ap (λ v. if v then Some x else find (λ x. is_same_pos x us) xs) t ∙ ap Some (same_list x us t)
       | inr t ↦
-          let rest : Member us xs = elim m [ inl e ↦ absurd (false≢true (sym t ∙ ap (λ y. is_same_pos x y) (sym e) ∙ is_same_pos-refl x)) | inr k ↦ k ] in
+          let rest : In us xs = elim m [ inl e ↦ absurd (false≢true (sym t ∙ ap (λ y. is_same_pos x y) e ∙ pos_itself x)) | inr k ↦ k ] in
           ap (λ v. if v then Some x else find (λ x. is_same_pos x us) xs) t ∙ find-member us xs rest
     ]
 
@@ -389,7 +392,7 @@ first-is axes way (suc level) i us vs len below h =
           let b = w + sum ps in
           let e = is_even (turns_at b us i) in
           let Q : List ℕ → Type 0 = λ xs. Below (3 ^ level) xs in
-          let up : find (λ x. is_same_pos x ps) (cells axes w level) ≡ Some ps = find-member ps (cells axes w level) (Member-cells axes w level ps (length-parents us ∙ long ∙ len) (subst Q (sym same) small)) in
+          let up : find (λ x. is_same_pos x ps) (cells axes w level) ≡ Some ps = find-member ps (cells axes w level) (In-cells axes w level ps (length-parents us ∙ long ∙ len) (subst Q (sym same) small)) in
           record {
             lower = e;
             far = ap (λ f. f.relation) (far-inner i (suc level) b us vs (lines_of way level ps) h same lines);

@@ -9,7 +9,8 @@ use Rattle.pe_base.specs.Tree.Curve.{digit_lists}
 use Rattle.pe_base.specs.Steps.Faces.{Turn, TurnsApart}
 use Rattle.pe_base.proofs.Lists.{Each, Each-weaker, Each-reverse, Each-filter, map-map, flat_map_same, flat_map_none, flat_map-map, filter-map, filter_none, map-reverse, reverse-cons}
 use Rattle.pe_base.proofs.Tree.Mirrors.{Digits3, complement, digit_lists_below, reverse-digit_lists}
-use Rattle.pe_base.proofs.Tree.Ranks.{value, Rising, Rising-above, digit_lists_rise, Each-digits}
+use Rattle.pe_base.proofs.Tree.Ranks.{value, Rising, Rising-above, digit_lists_rise}
+use Rattle.pe_base.proofs.Tree.Mirrors.{Each-digits}
 use Rattle.pe_base.proofs.Faces.Quiet.{value-below}
 
 -- a greater first digit makes a greater number

@@ -19,6 +19,7 @@ use Rattle.pe_base.proofs.Tree.Mirrors.{up}
 use Rattle.pe_base.proofs.Tree.Corners.{IsBits, bit_lists, bit_lists_below, touch_at, corner_touches_are, slice_index-moved, slice_index-bits}
 use Rattle.pe_base.proofs.Tree.Ranks.{steps_within, list_any-Each, is_same-true, and_left, and_right}
 use Rattle.pe_base.proofs.Steps.Counts.{OnGrid, is_same_itself, same_itself, true_eq, eq_true}
+use Rattle.pe_base.proofs.Steps.CornerPlaces.{length-moved}
 use Rattle.pe_base.proofs.Steps.RouteLaws.{step_neighbours}
 use Rattle.pe_base.proofs.Steps.Turned.{find_none, find_first, any_both, one_step_to, is_step-opposite, stack-opposite}
 use Rattle.pe_base.proofs.Faces.FaceLists.{face_of, across-up}
@@ -40,11 +41,6 @@ on_grid axes place bound is = (refl, is.four, zeros_behind axes place.pos is.res
 -- the corner of a cell with some bits
 abbrev pub corner_at : Place → List ℕ → Place
 corner_at cell bs = record { level = cell.level; pos = moved cell.pos bs }
-
-length-moved : (pos bs : List ℕ) → length (moved pos bs) ≡ length pos
-length-moved [] bs = refl
-length-moved (x ∷ pos) [] = refl
-length-moved (x ∷ pos) (b ∷ bs) = ap suc (length-moved pos bs)
 
 -- its coordinates behind the axes are the cell's
 moved-behind : (axis n : ℕ) (pos bs : List ℕ) → IsBits n bs → n ≤ axis → slice_index (moved pos bs) axis ≡ slice_index pos axis

@@ -10,10 +10,12 @@ use Rattle.pe_base.specs.Tree.Curve.{digit_lists, flip, children}
 use Rattle.pe_base.specs.Steps.Faces.{Turns, Turns, Face, Turn, TurnsApart, across, face_on, is_touched, loads, corner_touches, comes_across, goes_across, at_face, arriving, leaving, in_corners, out_corners, child_turn, corner_turn, cell_turns}
 use Rattle.pe_base.proofs.Lists.{In, In-map, Each-In, Each-left, Each-right, Each-parts, list_any_none, none_Each, Each, Each-weaker, Each-reverse, Each-filter, map-map, flat_map_same, flat_map-map, filter_same, filter-map, filter-reverse}
 use Rattle.pe_base.proofs.Tree.Mirrors.{Digits3, complement, digit_lists_below, reverse-digit_lists, turned_complement}
-use Rattle.pe_base.proofs.Tree.Children.{turn_of as way_turn, Pairs-range, flips_in, length-flips, child_of, child_ks, child_index, children_are}
+use Rattle.pe_base.specs.Steps.Routes.{way_turns}
+use Rattle.pe_base.proofs.Tree.Children.{Pairs-range, flips_in, length-flips, child_of, child_ks, child_index, children_are}
 use Rattle.pe_base.proofs.Tree.Corners.{own_corners}
 use Rattle.pe_base.proofs.Faces.FaceLists.{face_of, is_child_at, at_face_parts, leaving_is}
-use Rattle.pe_base.proofs.Tree.Ranks.{value, rank, rank_of, Each-digits, rank-child, child_four}
+use Rattle.pe_base.proofs.Tree.Ranks.{value, rank, rank_of, rank-child, child_four}
+use Rattle.pe_base.proofs.Tree.Mirrors.{Each-digits}
 use Rattle.pe_base.proofs.Faces.Quiet.{later_child, earlier_child, still_child, arriving_none, leaving_none, later_or_earlier, across_child, rank-parent, less_below, value-below, when_same}
 use Rattle.pe_base.proofs.Faces.Blocks.{Touching, Meet, Untouched, Untouched-append, Untouched-flat_map, Free, Apart, meet_behind, OneWay, blocks, outer_takes, outer_gives, TurnsApart-append}
 use Rattle.pe_base.proofs.Faces.Waits.{InTree, child_in_tree, digits_in, arriving_apart, leaving_apart, deeper_arriving, deeper_leaving}
@@ -22,10 +24,10 @@ use Rattle.pe_base.proofs.Faces.Meetings.{meet_at}
 -- the digits of a child's place in the other way
 turned_opposite : (axes : ℕ) (way : Way) (cell : Place) (ts : List ℕ) → Digits3 axes ts → child_ks axes (opposite way) cell ts ≡ child_ks axes way cell (complement ts)
 turned_opposite axes way cell ts d = turned_complement 0 (flips_in axes (opposite way) cell.pos) (flips_in axes way cell.pos) 0 0 axes ts
-    (Pairs-range (λ x y. (x + y + 0) % 2 ≡ 1) (λ axis. flip cell.pos axis + way_turn (opposite way)) (λ axis. flip cell.pos axis + way_turn way) (λ k. omega (arith, both way)) 0 axes)
+    (Pairs-range (λ x y. (x + y + 0) % 2 ≡ 1) (λ axis. flip cell.pos axis + way_turns (opposite way)) (λ axis. flip cell.pos axis + way_turns way) (λ k. omega (arith, both way)) 0 axes)
     (length-flips axes (opposite way) cell.pos ∙ sym (length-flips axes way cell.pos)) refl d
   where
-    both : (w : Way) → way_turn (opposite w) + way_turn w ≡ 1
+    both : (w : Way) → way_turns (opposite w) + way_turns w ≡ 1
     both Forward = refl
     both Inverted = refl
 

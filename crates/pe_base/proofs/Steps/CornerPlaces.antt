@@ -2,7 +2,7 @@
 use Rattle.std.proofs.Common.{◌≡◌, ◌∙◌, ℕ, zero, suc, List, [], ◌∷◌, length, drop, refl, ap, arith}
 use Rattle.pe_base.specs.declared.place.Place.{Place}
 use Rattle.pe_base.specs.Tree.Places.{bits, moved, corner}
-use Rattle.pe_base.proofs.Tree.Children.{length-map-range}
+use Rattle.pe_base.proofs.Tree.PlaceLaws.{length-bits}
 use Rattle.pe_base.proofs.Steps.Counts.{OnGrid}
 
 pub length-moved : (p ds : List ℕ) → length (moved p ds) ≡ length p
@@ -19,4 +19,4 @@ drop-moved (suc n) (x ∷ p) [] l = absurd (omega arith)
 drop-moved (suc n) (x ∷ p) (d ∷ ds) l = drop-moved n p ds (omega arith)
 
 pub corner_on_grid : (axes level : ℕ) (cell : Place) (k : ℕ) → OnGrid axes level cell → OnGrid axes level (corner axes cell k)
-corner_on_grid axes level cell k on = (on.0, length-moved cell.pos (bits axes k) ∙ on.1, drop-moved axes cell.pos (bits axes k) (length-map-range _ 0 axes) ∙ on.2)
+corner_on_grid axes level cell k on = (on.0, length-moved cell.pos (bits axes k) ∙ on.1, drop-moved axes cell.pos (bits axes k) (length-bits axes k) ∙ on.2)

@@ -14,6 +14,7 @@ use Rattle.pe_base.specs.Tree.Curve.{digit_lists, children, order}
 use Rattle.pe_base.specs.Steps.Around.{is_corner_pos, is_corner, around, steps}
 use Rattle.pe_base.specs.Steps.Faces.{Touch, corner_touches, loads, stores, touched_for, steps_to, steps_from}
 use Rattle.pe_base.proofs.Lists.{Each, In, Each-all, Each-weaker, Each-map, Each-reverse, map-map, flat_map_same, flat_map_none, map-flat_map, flat_map-flat_map, filter-flat_map, filter-map, filter_none, filter_same, map-reverse, filter-reverse, reverse-flat_map}
+use Rattle.pe_base.proofs.Tree.PlaceLaws.{finer-zeros}
 use Rattle.pe_base.proofs.Tree.Mirrors.{Digits3, digit_lists_below}
 use Rattle.pe_base.proofs.Tree.Children.{reverse-children, child_of, child_ks, child_ks-below, children_are, length-digits}
 use Rattle.pe_base.proofs.Tree.Corners.{bit_lists, touch_at, corner_touches_are}
@@ -106,7 +107,7 @@ module _ {X : Type 0} (same : X → X → Bool) (r : X → ℕ) (itself : (x : X
 pub same_itself : (x : ℕ) → (x == x) ≡ true
 same_itself x = grind (arith, nat_tests)
 
-pos_itself : (xs : List ℕ) → pointwise nat_eq xs xs ≡ true
+pub pos_itself : (xs : List ℕ) → pointwise nat_eq xs xs ≡ true
 pos_itself [] = refl
 pos_itself (x ∷ xs) = ap₂ (λ a b. a && b) (same_itself x) (pos_itself xs)
 
@@ -145,10 +146,6 @@ drop-finer zero pos (x ∷ ks) zs k l = absurd (omega arith)
 drop-finer (suc n) [] ks zs k l = absurd (omega arith)
 drop-finer (suc n) (x ∷ pos) [] zs k l = absurd (omega arith)
 drop-finer (suc n) (x ∷ pos) (y ∷ ks) zs k l = drop-finer n pos ks zs (omega arith) (omega arith)
-
-finer-zeros : (n : ℕ) → finer (replicate n 0) (replicate n 0) ≡ replicate n 0
-finer-zeros zero = refl
-finer-zeros (suc n) = ap (λ ys. 0 ∷ ys) (finer-zeros n)
 
 pub child_on_grid : (axes : ℕ) (way : Way) (level : ℕ) (cell : Place) (ts : List ℕ) → axes ≤ 4 → OnGrid axes level cell → Digits3 axes ts → OnGrid axes (suc level) (child_of axes way cell ts)
 child_on_grid axes way level cell ts four on d = (

@@ -2,6 +2,7 @@
 use Rattle.std.proofs.Common.{◌≡◌, ◌≢◌, ℕ, zero, suc, ◌+◌, ◌-◌, ◌*◌, ◌%◌, ◌<◌, ◌≤◌, List, [], ◌∷◌, ◌++◌, map, reverse, length, replicate, slice_index, refl, sym, ap, ◌∙◌, subst, arith}
 use Rattle.std.specs.List.{range_with_len}
 use Rattle.std.proofs.lemmas.List.{reverse-reverse, length-set, get_or-set_same, get_or-set_other}
+use Rattle.std.proofs.lemmas.List.FromFn.{length-map-range_with_len}
 use Rattle.std.proofs.lemmas.List.Sums.{sum_by-remove, sum_by-set}
 use Rattle.pe_base.specs.declared.place.Place.{Place}
 use Rattle.pe_base.specs.declared.way.Way.{Way}
@@ -9,16 +10,13 @@ use Rattle.pe_base.specs.declared.way.Way.TheVariants.{Forward, Inverted}
 use Rattle.pe_base.specs.Tree.Places.{finer, child_at}
 use Rattle.pe_base.specs.Tree.Ways.{opposite}
 use Rattle.pe_base.specs.Tree.Curve.{digit_lists, turned, flip, flips, digits_of, child_digits, children}
+use Rattle.pe_base.specs.Steps.Routes.{way_turns}
 use Rattle.pe_base.proofs.Lists.{Each-weaker, map-map, map_same, map-reverse}
 use Rattle.pe_base.proofs.Tree.Mirrors.{Digits3, complement, digit_lists_below, complement_below, reverse-digit_lists, turned_below, Pairs, turned_complement, turned_same, AgreeBut, up}
 
-abbrev pub turn_of : Way → ℕ
-turn_of Forward = 0
-turn_of Inverted = 1
-
 -- the flips of a cell, each turned once more where the walk is inverted
 abbrev pub flips_in : ℕ → Way → List ℕ → List ℕ
-flips_in axes way pos = map (λ axis. flip pos axis + turn_of way) (range_with_len 0 axes)
+flips_in axes way pos = map (λ axis. flip pos axis + way_turns way) (range_with_len 0 axes)
 
 abbrev pub child_pos : ℕ → Way → List ℕ → List ℕ → List ℕ
 child_pos axes way pos ts = finer pos (turned (flips_in axes way pos) 0 ts ++ replicate (4 - axes) 0)
@@ -32,10 +30,6 @@ length-digits zero [] d = refl
 length-digits zero (t ∷ ts) d = absurd (omega arith)
 length-digits (suc n) [] d = absurd (omega arith)
 length-digits (suc n) (t ∷ ts) d = ap suc (length-digits n ts d.1)
-
-pub length-map-range : (f : ℕ → ℕ) (a n : ℕ) → length (map f (range_with_len a n)) ≡ n
-length-map-range f a zero = refl
-length-map-range f a (suc n) = ap suc (length-map-range f (a + 1) n)
 
 pub Pairs-range : (P : ℕ → ℕ → Type 0) (f g : ℕ → ℕ) → ((k : ℕ) → P (f k) (g k)) → (a n : ℕ) → Pairs P (map f (range_with_len a n)) (map g (range_with_len a n))
 Pairs-range P f g h a zero = tt
@@ -51,7 +45,7 @@ AgreeBut-range axis a zero f g b h o = absurd (omega arith)
 AgreeBut-range zero a (suc n) f g b h o = (
   subst (λ k. (f k + g k) % 2 ≡ 1) (let e : a + 0 ≡ a = omega arith in e) h,
   Pairs-range_from _ f g (a + 1) n (λ k l m. o k (omega arith) (omega arith)),
-  length-map-range f (a + 1) n ∙ sym (length-map-range g (a + 1) n),
+  length-map-range_with_len f (a + 1) n ∙ sym (length-map-range_with_len g (a + 1) n),
 )
 AgreeBut-range (suc axis) a (suc n) f g b h o =
     let e : a + suc axis ≡ (a + 1) + axis = omega arith in (
@@ -85,17 +79,17 @@ flip-up_same axis pos a =
 -- the flips of a cell in a way, and of the next cell on an axis in the other way
 pub flips_agree : (axes : ℕ) (way : Way) (axis : ℕ) (pos : List ℕ) → axes ≤ length pos → axis < axes → AgreeBut axis (flips_in axes way pos) (flips_in axes (opposite way) (up axis pos))
 flips_agree axes way axis pos l b =
-    let turns : turn_of way + turn_of (opposite way) ≡ 1 = both way in
+    let turns : way_turns way + way_turns (opposite way) ≡ 1 = both way in
     AgreeBut-range axis 0 axes _ _ b
-    (subst (λ k. ((flip pos k + turn_of way) + (flip (up axis pos) k + turn_of (opposite way))) % 2 ≡ 1) (let e : axis ≡ 0 + axis = omega arith in e) (omega (arith, flip-up_same axis pos (omega arith))))
+    (subst (λ k. ((flip pos k + way_turns way) + (flip (up axis pos) k + way_turns (opposite way))) % 2 ≡ 1) (let e : axis ≡ 0 + axis = omega arith in e) (omega (arith, flip-up_same axis pos (omega arith))))
     (λ k m o. omega (arith, flip-up axis pos (omega arith) k (omega arith) (λ e. o (e ∙ let z : axis ≡ 0 + axis = omega arith in z))))
   where
-    both : (w : Way) → turn_of w + turn_of (opposite w) ≡ 1
+    both : (w : Way) → way_turns w + way_turns (opposite w) ≡ 1
     both Forward = refl
     both Inverted = refl
 
 pub length-flips : (axes : ℕ) (way : Way) (pos : List ℕ) → length (flips_in axes way pos) ≡ axes
-length-flips axes way pos = length-map-range (λ axis. flip pos axis + turn_of way) 0 axes
+length-flips axes way pos = length-map-range_with_len (λ axis. flip pos axis + way_turns way) 0 axes
 
 -- the children in the order of the walk
 pub children_are : (axes : ℕ) (way : Way) (cell : Place) → children axes way cell ≡ map (child_of axes way cell) (digit_lists axes)
@@ -103,10 +97,10 @@ children_are axes Forward cell =
     let es = flips axes cell.pos in
     map-map (child_at cell) (λ ts. digits_of (turned es 0 ts)) (digit_lists axes)
     ∙ map_same _ _ (digit_lists axes) (Each-weaker (Digits3 axes) _ (λ ts d. ap (λ ks. record { level = cell.level + 1; pos = finer cell.pos ks })
-    (ap (λ n. turned es 0 ts ++ replicate (4 - n) 0) (length-digits axes _ (turned_below es 0 axes ts (length-map-range (flip cell.pos) 0 axes) d))
+    (ap (λ n. turned es 0 ts ++ replicate (4 - n) 0) (length-digits axes _ (turned_below es 0 axes ts (length-map-range_with_len (flip cell.pos) 0 axes) d))
     ∙ ap (λ ks. ks ++ replicate (4 - axes) 0) (turned_same es (flips_in axes Forward cell.pos) 0 0 ts
     (Pairs-range (λ x y. (x + y) % 2 ≡ 0) (flip cell.pos) (λ axis. flip cell.pos axis + 0) (λ k. omega arith) 0 axes)
-    (length-map-range (flip cell.pos) 0 axes ∙ sym (length-flips axes Forward cell.pos)) refl)))
+    (length-map-range_with_len (flip cell.pos) 0 axes ∙ sym (length-flips axes Forward cell.pos)) refl)))
     (digit_lists axes) (digit_lists_below axes))
 children_are axes Inverted cell =
     let es = flips axes cell.pos in
@@ -114,10 +108,10 @@ children_are axes Inverted cell =
     ap (map (child_at cell)) (sym (map-reverse g (digit_lists axes)) ∙ ap (map g) (reverse-digit_lists axes) ∙ map-map g complement (digit_lists axes))
     ∙ map-map (child_at cell) (λ ts. g (complement ts)) (digit_lists axes)
     ∙ map_same _ _ (digit_lists axes) (Each-weaker (Digits3 axes) _ (λ ts d. ap (λ ks. record { level = cell.level + 1; pos = finer cell.pos ks })
-    (ap (λ n. turned es 0 (complement ts) ++ replicate (4 - n) 0) (length-digits axes _ (turned_below es 0 axes (complement ts) (length-map-range (flip cell.pos) 0 axes) (complement_below axes ts d)))
+    (ap (λ n. turned es 0 (complement ts) ++ replicate (4 - n) 0) (length-digits axes _ (turned_below es 0 axes (complement ts) (length-map-range_with_len (flip cell.pos) 0 axes) (complement_below axes ts d)))
     ∙ ap (λ ks. ks ++ replicate (4 - axes) 0) (sym (turned_complement 0 (flips_in axes Inverted cell.pos) es 0 0 axes ts
     (Pairs-range (λ x y. (x + y + 0) % 2 ≡ 1) (λ axis. flip cell.pos axis + 1) (flip cell.pos) (λ k. omega arith) 0 axes)
-    (length-flips axes Inverted cell.pos ∙ sym (length-map-range (flip cell.pos) 0 axes)) refl d))))
+    (length-flips axes Inverted cell.pos ∙ sym (length-map-range_with_len (flip cell.pos) 0 axes)) refl d))))
     (digit_lists axes) (digit_lists_below axes))
 
 -- backwards, the children in the other way

@@ -1,23 +1,23 @@
 -- Laws of the order along the curve.
-use Rattle.std.proofs.Common.{◌≡◌, ℕ, zero, suc, ◌+◌, ◌-◌, ◌*◌, ◌/◌, ◌%◌, ◌^◌, ◌<◌, ◌≤◌, true, false, List, [], ◌∷◌, ◌++◌, map, length, Some, sym, inl, inr, ap, ◌∙◌, subst, refl, arith, pow-suc, div-add-mod'}
-use Rattle.std.specs.Prelude.{slice_get, reverse, All, sum, if◌then◌else◌, ◌==◌}
-use Rattle.std.specs.List.{flat_map, range_with_len}
+use Rattle.std.proofs.Common.{◌≡◌, ℕ, zero, suc, ◌+◌, ◌-◌, ◌*◌, ◌/◌, ◌%◌, ◌^◌, ◌<◌, ◌≤◌, List, [], ◌∷◌, ◌++◌, map, length, Some, sym, ap, ◌∙◌, subst, refl, arith, pow-suc, div-add-mod'}
+use Rattle.std.specs.Prelude.{slice_get, reverse, All, sum}
+use Rattle.std.specs.List.{flat_map}
 use Rattle.std.specs.Option.{option_map}
 use Rattle.std.proofs.Math.Nat.{one-le-pow}
-use Rattle.std.proofs.lemmas.Bool.{cases_lt}
 use Rattle.std.proofs.lemmas.Nat.{div_below, mod_below}
-use Rattle.std.proofs.lemmas.List.{append_assoc, append-nil, map-append, reverse-append, length-append, length-map, length-reverse, get_or-reverse}
+use Rattle.std.proofs.lemmas.List.{length-append, length-map, length-reverse, get_or-reverse}
 use Rattle.std.proofs.lemmas.Option.{slice_get-map, slice_get-get_or, get_or_from_slice_get}
 use Rattle.std.proofs.lemmas.List.FromFn.{fill_by_all, length-map-range_with_len}
 use Rattle.std.proofs.lemmas.List.Sums.{sum_by-cons}
-use Rattle.std.proofs.lemmas.List.Elements.{All-map, All-weaker, All-cons, All-nil, All-head, All-tail}
+use Rattle.std.proofs.lemmas.List.Elements.{All-from_recursion}
 use Rattle.pe_base.specs.declared.place.Digits.{Digits}
 use Rattle.pe_base.specs.declared.place.Place.{Place}
 use Rattle.pe_base.specs.declared.way.Way.{Way}
 use Rattle.pe_base.specs.declared.way.Way.TheVariants.{Forward, Inverted}
-use Rattle.pe_base.specs.Tree.Places.{IsCellPlace, IsDigits, child_at, bits}
-use Rattle.pe_base.specs.Tree.Curve.{digit_lists, digits_of, mirrored, turned, along, child_digits, children, flip, flips}
-use Rattle.pe_base.proofs.Tree.PlaceLaws.{IsPosition-padded, IsCellPlace-child_at, length-bits, get_or-bits}
+use Rattle.pe_base.specs.Tree.Places.{IsDigits, child_at, bits}
+use Rattle.pe_base.specs.Tree.Curve.{digit_lists, digits_of, turned, along, child_digits, children, flip, flips}
+use Rattle.pe_base.proofs.Tree.Mirrors.{Digits3, Each-digits, turned_below}
+use Rattle.pe_base.proofs.Tree.PlaceLaws.{IsPosition-padded, length-bits, get_or-bits}
 
 -- the digits of a number in base 3, so many of them, the leading one first
 abbrev pub ternary : ℕ → ℕ → List ℕ
@@ -80,12 +80,12 @@ slice_get-digit_lists (suc k) n h =
     slice_get-block (digit_lists k) (3 ^ k) (n / 3 ^ k) (n % 3 ^ k) n (length-digit_lists k) rest below (sym (div-add-mod' n (3 ^ k)))
     ∙ ap (option_map (λ ts. (n / 3 ^ k) ∷ ts)) (slice_get-digit_lists k (n % 3 ^ k) rest)
 
-ternary-below : (k n : ℕ) → n < 3 ^ k → All (λ t. t < 3) (ternary k n)
-ternary-below zero n h = All-nil (λ t. t < 3)
+ternary-below : (k n : ℕ) → n < 3 ^ k → Digits3 k (ternary k n)
+ternary-below zero n h = tt
 ternary-below (suc k) n h =
     let part : 0 < 3 ^ k = power_positive k in
     let whole : n < 3 * 3 ^ k = omega (arith, pow-suc 3 k) in
-    All-cons (λ t. t < 3) (n / 3 ^ k) (ternary k (n % 3 ^ k)) (div_below n (3 ^ k) 3 part whole) (ternary-below k (n % 3 ^ k) (mod_below n (3 ^ k) part))
+    (div_below n (3 ^ k) 3 part whole, ternary-below k (n % 3 ^ k) (mod_below n (3 ^ k) part))
 
 -- where a number along the way stands in the forward order
 abbrev pub forward_number : ℕ → Way → ℕ → ℕ
@@ -130,21 +130,12 @@ length-turned [] before (t ∷ ts) e = absurd (omega arith)
 length-turned (e₁ ∷ es) before [] e = refl
 length-turned (e₁ ∷ es) before (t ∷ ts) e = ap suc (length-turned es (before + t) ts (omega arith))
 
-pub mirrored-below : (turns t : ℕ) → t < 3 → mirrored turns t < 3
-mirrored-below turns t h = elim (turns % 2 == 0) as (λ b. (if b then t else (2 - t)) < 3) [ true ↦ h | false ↦ omega arith ]
-
-pub turned-below : (es : List ℕ) (before : ℕ) (ts : List ℕ) → All (λ t. t < 3) ts → All (λ k. k < 3) (turned es before ts)
-turned-below [] before ts h = All-nil (λ t. t < 3)
-turned-below (e ∷ es) before [] h = All-nil (λ t. t < 3)
-turned-below (e ∷ es) before (t ∷ ts) h =
-    All-cons (λ t. t < 3) (mirrored (e + before) t) (turned es (before + t) ts) (mirrored-below (e + before) t (All-head (λ t. t < 3) t ts h)) (turned-below es (before + t) ts (All-tail (λ t. t < 3) t ts h))
-
 -- the digits of a number, turned by flips, lie on the grid's axes
 pub IsDigits-turned : (axes : ℕ) (es : List ℕ) (n : ℕ) → length es ≡ axes → axes ≤ 4 → n < 3 ^ axes → IsDigits axes (digits_of (turned es 0 (ternary axes n)))
 IsDigits-turned axes es n len within h =
     IsPosition-padded axes 3 (turned es 0 (ternary axes n))
     (length-turned es 0 (ternary axes n) (len ∙ sym (length-ternary axes n)) ∙ length-ternary axes n) within
-    (turned-below es 0 (ternary axes n) (ternary-below axes n h))
+    (All-from_recursion (λ k. k < 3) _ (Each-digits axes _ (turned_below es 0 axes (ternary axes n) len (ternary-below axes n h))))
 
 -- each child's digits lie on the grid's axes
 pub IsDigits-child_digits : (axes : ℕ) (way : Way) (es : List ℕ) → length es ≡ axes → axes ≤ 4 → All (IsDigits axes) (child_digits axes way es)
@@ -163,115 +154,11 @@ slice_get-children axes way cell n = slice_get-map (child_at cell) (child_digits
 pub bits-flips : (axes n : ℕ) (pos : List ℕ) → ((axis : ℕ) → axis < axes → n / 2 ^ axis % 2 ≡ flip pos axis) → bits axes n ≡ flips axes pos
 bits-flips axes n pos same = fill_by_all (flip pos) (bits axes n) axes 0 (length-bits axes n) (λ axis h. get_or-bits axes n axis 0 h ∙ same axis h)
 
--- every digit mirrored
-abbrev pub complement : List ℕ → List ℕ
-complement ts = map (λ t. 2 - t) ts
-
-map-reverse : {A B : Type 0} (f : A → B) (xs : List A) → map f (reverse xs) ≡ reverse (map f xs)
-map-reverse f [] = refl
-map-reverse f (x ∷ xs) =
-    ap (map f) (reverse-append (x ∷ []) xs) ∙ map-append f (reverse xs) (x ∷ []) ∙ ap (λ ys. ys ++ f x ∷ []) (map-reverse f xs)
-    ∙ sym (reverse-append (f x ∷ []) (map f xs))
-
-pub map_same : {A B : Type 0} (f g : A → B) (xs : List A) → All (λ x. f x ≡ g x) xs → map f xs ≡ map g xs
-map_same f g [] h = refl
-map_same f g (x ∷ xs) h =
-    let head : f x ≡ g x = All-head (λ x. f x ≡ g x) x xs h in
-    let tail : map f xs ≡ map g xs = map_same f g xs (All-tail (λ x. f x ≡ g x) x xs h) in
-    cc
-
-map-complement : {B : Type 0} (f : List ℕ → B) (ls : List (List ℕ)) → map f (map complement ls) ≡ map (λ ts. f (complement ts)) ls
-map-complement f [] = refl
-map-complement f (ts ∷ ls) = ap (λ more. f (complement ts) ∷ more) (map-complement f ls)
-
-complement-block : (t : ℕ) (ls : List (List ℕ)) → map complement (map (λ ts. t ∷ ts) ls) ≡ map (λ ts. (2 - t) ∷ ts) (map complement ls)
-complement-block t [] = refl
-complement-block t (ts ∷ ls) = ap (λ more. ((2 - t) ∷ complement ts) ∷ more) (complement-block t ls)
-
--- mirroring every digit of every list reverses the order
-pub complement-digit_lists : (k : ℕ) → map complement (digit_lists k) ≡ reverse (digit_lists k)
-complement-digit_lists zero = refl
-complement-digit_lists (suc k) =
-    let block : ℕ → List (List ℕ) = λ t. map (λ ts. t ∷ ts) (digit_lists k) in
-    let turn : (t : ℕ) → map complement (block t) ≡ reverse (block (2 - t)) =
-    λ t. complement-block t (digit_lists k) ∙ ap (map (λ ts. (2 - t) ∷ ts)) (complement-digit_lists k) ∙ map-reverse (λ ts. (2 - t) ∷ ts) (digit_lists k) in
-    let left : map complement (digit_lists (suc k)) ≡ map complement (block 0) ++ (map complement (block 1) ++ (map complement (block 2) ++ [])) =
-    simp map-append in
-    let right : reverse (digit_lists (suc k)) ≡ reverse (block 2) ++ (reverse (block 1) ++ (reverse (block 0) ++ [])) =
-    simp (reverse-append, append_assoc, append-nil) in
-    let zeroth = turn 0 in
-    let first = turn 1 in
-    let second = turn 2 in
-    cc
-
-mirrored-even : (turns t : ℕ) → turns % 2 ≡ 0 → mirrored turns t ≡ t
-mirrored-even turns t e = ap (λ (r : ℕ). if r == 0 then t else (2 - t)) e
-
-mirrored-odd : (turns t : ℕ) → turns % 2 ≡ 1 → mirrored turns t ≡ 2 - t
-mirrored-odd turns t e = ap (λ (r : ℕ). if r == 0 then t else (2 - t)) e
-
--- a mirrored digit is turned as the digit is with one turn more
-mirrored-complement : (a b t : ℕ) → t < 3 → (a + b) % 2 ≡ 1 → mirrored a (2 - t) ≡ mirrored b t
-mirrored-complement a b t below odd =
-    elim (cases_lt (a % 2) 1) [
-      | inl even ↦
-          let ev : a % 2 ≡ 0 = omega arith in
-          let od : b % 2 ≡ 1 = omega arith in
-          mirrored-even a (2 - t) ev ∙ sym (mirrored-odd b t od)
-      | inr other ↦
-          let od : a % 2 ≡ 1 = omega arith in
-          let ev : b % 2 ≡ 0 = omega arith in
-          let twice : 2 - (2 - t) ≡ t = omega arith in
-          mirrored-odd a (2 - t) od ∙ twice ∙ sym (mirrored-even b t ev)
-    ]
-
--- the flips of the other way
-abbrev pub complement_flips : List ℕ → List ℕ
-complement_flips es = map (λ e. 1 - e) es
-
-turned-complement : (es : List ℕ) (a b : ℕ) (ts : List ℕ) → a % 2 ≡ b % 2 → All (λ e. e < 2) es → All (λ t. t < 3) ts → turned es a (complement ts) ≡ turned (complement_flips es) b ts
-turned-complement [] a b ts same parities below = refl
-turned-complement (e ∷ es) a b [] same parities below = refl
-turned-complement (e ∷ es) a b (t ∷ ts) same parities below =
-    let parity : e < 2 = All-head (λ e. e < 2) e es parities in
-    let digit : t < 3 = All-head (λ t. t < 3) t ts below in
-    let head : mirrored (e + a) (2 - t) ≡ mirrored (1 - e + b) t = mirrored-complement (e + a) (1 - e + b) t digit (omega arith) in
-    let tail : turned es (a + (2 - t)) (complement ts) ≡ turned (complement_flips es) (b + t) ts =
-    turned-complement es (a + (2 - t)) (b + t) ts (omega arith) (All-tail (λ e. e < 2) e es parities) (All-tail (λ t. t < 3) t ts below) in
-    cc
-
--- all digits of all lists are digits
-pub digit_lists-below : (k : ℕ) → All (All (λ t. t < 3)) (digit_lists k)
-digit_lists-below k n d h =
-    let inside : n < 3 ^ k = omega (arith, length-digit_lists k) in
-    let P : List ℕ → Type 0 = All (λ t. t < 3) in
-    subst P (sym (get_or_from_slice_get (digit_lists k) n (ternary k n) d (slice_get-digit_lists k n inside))) (ternary-below k n inside)
-
--- One formula for both ways: the inverted order is the forward one with every flip complemented.
-pub child_digits-inverted : (axes : ℕ) (es : List ℕ) → All (λ e. e < 2) es → child_digits axes Inverted es ≡ child_digits axes Forward (complement_flips es)
-child_digits-inverted axes es parities =
-    let there : List ℕ → Digits = λ ts. digits_of (turned es 0 ts) in
-    let back : List ℕ → Digits = λ ts. digits_of (turned (complement_flips es) 0 ts) in
-    sym (map-reverse there (digit_lists axes)) ∙ ap (map there) (sym (complement-digit_lists axes)) ∙ map-complement there (digit_lists axes)
-    ∙ map_same (λ ts. there (complement ts)) back (digit_lists axes)
-    (λ n d h. ap digits_of (turned-complement es 0 0 _ refl parities (digit_lists-below axes n d h)))
-
 pub sum-cons : (x : ℕ) (xs : List ℕ) → sum (x ∷ xs) ≡ x + sum xs
 sum-cons x xs = sum_by-cons (λ x. x) x xs
-
--- a flip is a parity
-pub flips-below : (axes : ℕ) (pos : List ℕ) → All (λ e. e < 2) (flips axes pos)
-flips-below axes pos = All-map (λ e. e < 2) (flip pos) (range_with_len 0 axes) (λ k d h. omega arith)
 
 pub length-flips : (axes : ℕ) (pos : List ℕ) → length (flips axes pos) ≡ axes
 length-flips axes pos = length-map-range_with_len (flip pos) 0 axes
 
 pub length-children : (axes : ℕ) (way : Way) (cell : Place) → length (children axes way cell) ≡ 3 ^ axes
 length-children axes way cell = length-map (child_digits axes way (flips axes cell.pos)) (child_at cell) ∙ length-child_digits axes way (flips axes cell.pos)
-
--- each child of a cell is a cell
-pub IsCellPlace-children : (axes : ℕ) (way : Way) (cell : Place) → axes ≤ 4 → IsCellPlace axes cell → cell.level < 20 → All (IsCellPlace axes) (children axes way cell)
-IsCellPlace-children axes way cell within h level =
-    All-map (IsCellPlace axes) (child_at cell) (child_digits axes way (flips axes cell.pos))
-    (All-weaker (IsDigits axes) (λ digits. IsCellPlace axes (child_at cell digits)) (λ digits d. IsCellPlace-child_at axes cell digits h level d) (child_digits axes way (flips axes cell.pos))
-    (IsDigits-child_digits axes way (flips axes cell.pos) (length-flips axes cell.pos) within))

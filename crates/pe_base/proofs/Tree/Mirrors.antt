@@ -12,6 +12,12 @@ Digits3 zero (t ∷ ts) = 1 ≤ 0
 Digits3 (suc n) [] = 1 ≤ 0
 Digits3 (suc n) (t ∷ ts) = (t < 3) × Digits3 n ts
 
+pub Each-digits : (n : ℕ) (ts : List ℕ) → Digits3 n ts → Each (λ t. t < 3) ts
+Each-digits zero [] d = tt
+Each-digits zero (t ∷ ts) d = absurd (omega arith)
+Each-digits (suc n) [] d = absurd (omega arith)
+Each-digits (suc n) (t ∷ ts) d = (d.0, Each-digits n ts d.1)
+
 abbrev pub complement : List ℕ → List ℕ
 complement ts = map (λ t. 2 - t) ts
 

@@ -74,6 +74,10 @@ length-finer [] ks e = refl
 length-finer (x ∷ xs) [] e = absurd (omega arith)
 length-finer (x ∷ xs) (k ∷ ks) e = ap suc (length-finer xs ks (omega arith))
 
+pub finer-zeros : (n : ℕ) → finer (replicate n 0) (replicate n 0) ≡ replicate n 0
+finer-zeros zero = refl
+finer-zeros (suc n) = ap (λ ys. 0 ∷ ys) (finer-zeros n)
+
 pub slice_index-finer : (xs ks : List ℕ) (axis : ℕ) → length xs ≡ length ks → slice_index (finer xs ks) axis ≡ 3 * slice_index xs axis + slice_index ks axis
 slice_index-finer [] [] axis e = refl
 slice_index-finer [] (k ∷ ks) axis e = absurd (omega arith)

@@ -11,7 +11,8 @@ use Rattle.pe_base.specs.Tree.Curve.{digit_lists, turned, children, order}
 use Rattle.pe_base.specs.Steps.Around.{is_corner, around, steps}
 use Rattle.pe_base.specs.Steps.Faces.{is_step}
 use Rattle.pe_base.proofs.Lists.{Each, Each-all, Each-weaker, Each-append, Each-map, Each-flat_map}
-use Rattle.pe_base.proofs.Tree.Mirrors.{Digits3, digit_lists_below, sum_of, turned_twice}
+use Rattle.pe_base.proofs.Tree.PlaceLaws.{length-finer}
+use Rattle.pe_base.proofs.Tree.Mirrors.{Digits3, digit_lists_below, sum_of, turned_twice, Each-digits}
 use Rattle.pe_base.proofs.Tree.Children.{flips_in, length-flips, child_pos, child_of, child_ks, child_ks-below, children_are, length-digits}
 
 -- the number with some digits in base 3, the first digit leading
@@ -96,12 +97,6 @@ rests-finer [] (k ∷ ks) l b = absurd (omega arith)
 rests-finer (x ∷ pos) [] l b = absurd (omega arith)
 rests-finer (x ∷ pos) (k ∷ ks) l b = ap₂ (λ y ys. y ∷ ys) (omega (arith, b.0)) (rests-finer pos ks (omega arith) b.1)
 
-pub Each-digits : (n : ℕ) (ts : List ℕ) → Digits3 n ts → Each (λ t. t < 3) ts
-Each-digits zero [] d = tt
-Each-digits zero (t ∷ ts) d = absurd (omega arith)
-Each-digits (suc n) [] d = absurd (omega arith)
-Each-digits (suc n) (t ∷ ts) d = (d.0, Each-digits n ts d.1)
-
 Each-zeros : (n : ℕ) → Each (λ t. t < 3) (replicate n 0)
 Each-zeros zero = tt
 Each-zeros (suc n) = (omega arith, Each-zeros n)
@@ -116,13 +111,8 @@ length-child_digits axes way cell ts four d =
 pub thirds-child : (axes : ℕ) (way : Way) (cell : Place) (ts : List ℕ) → axes ≤ 4 → length cell.pos ≡ 4 → Digits3 axes ts → thirds (child_pos axes way cell.pos ts) ≡ cell.pos
 thirds-child axes way cell ts four l d = thirds-finer cell.pos _ (l ∙ sym (length-child_digits axes way cell ts four d)) (child_digits-below axes way cell ts d)
 
-pub length-finer_four : (pos ks : List ℕ) → length pos ≡ length ks → length (finer pos ks) ≡ length pos
-length-finer_four [] ks l = refl
-length-finer_four (x ∷ pos) [] l = absurd (omega arith)
-length-finer_four (x ∷ pos) (k ∷ ks) l = ap suc (length-finer_four pos ks (omega arith))
-
 pub child_four : (axes : ℕ) (way : Way) (cell : Place) (ts : List ℕ) → axes ≤ 4 → length cell.pos ≡ 4 → Digits3 axes ts → length (child_pos axes way cell.pos ts) ≡ 4
-child_four axes way cell ts four l d = length-finer_four cell.pos _ (l ∙ sym (length-child_digits axes way cell ts four d)) ∙ l
+child_four axes way cell ts four l d = length-finer cell.pos _ (l ∙ sym (length-child_digits axes way cell ts four d)) ∙ l
 
 -- a child's rank: that of the parent, and then the digits along the curve
 pub rank-child : (axes : ℕ) (way : Way) (level : ℕ) (cell : Place) (ts : List ℕ) → axes ≤ 4 → length cell.pos ≡ 4 → Digits3 axes ts

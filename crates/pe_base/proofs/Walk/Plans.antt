@@ -1,7 +1,6 @@
 -- A traversal by rules of plans that are seen through others is that by the rules of what is seen.
 use Rattle.std.proofs.Common.{◌≡◌, ℕ, refl}
 use Rattle.pe_base.specs.Acts.Effects.{Rules, rules_through}
-use Rattle.pe_base.specs.Walk.Core.{Setting}
 use Rattle.pe_base.specs.Walk.Grids.{Grid}
 use Rattle.pe_base.specs.Walk.Walk.{traverse}
 
