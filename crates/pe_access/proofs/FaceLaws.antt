@@ -3,14 +3,16 @@ use Rattle.std.proofs.Common.{◌≡◌, ℕ, zero, suc, ◌+◌, ◌-◌, ◌*�
 use Rattle.std.specs.Prelude.{◌==◌, if◌then◌else◌, sum, slice_index, nat_lt, not}
 use Rattle.std.specs.Option.{option_map}
 use Rattle.std.proofs.lemmas.Bool.{or_cases, and_parts, eqb-true, eqb-false, eq-eqb, ne_eqb, lt-ltb, le-ltb, false≢true, cases_lt}
+use Rattle.std.proofs.Math.Bool.{not-not}
 use Rattle.pe_base.specs.declared.way.Way.{Way}
 use Rattle.pe_base.specs.Tree.Places.{moved}
 use Rattle.pe_base.specs.Steps.Routes.{way_turns}
 use Rattle.pe_base.proofs.Steps.RouteLaws.{Below}
-use Rattle.pe_base.proofs.Steps.Spans.{Spot, fits, fits_all, coarse, two, two_on, low, low_on, other, is_even, is_other, deeper, enter, parents, same_test}
+use Rattle.pe_base.proofs.Steps.Spans.{Spot, fits, fits_all, coarse, two, two_on, low, low_on, other, is_even, is_other, deeper, enter, parents}
 use Rattle.pe_base.proofs.Steps.Levels.{entry, or_else, fits-parents}
 use Rattle.pe_base.proofs.Steps.Rounds.{spots}
 use Rattle.pe_base.proofs.Steps.StackLaws.{length-parents}
+use Rattle.pe_base.proofs.Tree.Corners.{same_tests}
 use Rattle.pe_access.specs.declared.route.Route.TheVariants.{Temp}
 use Rattle.pe_access.specs.Lines.{Face, Relation, Earlier, Later, Outside, Line, bit_of, is_relation, root_line, root_face, child_line, near_face, far_face, face_at}
 use Rattle.pe_access.specs.States.{route_of}
@@ -79,7 +81,7 @@ fastest-pick relation axis (side ∷ bs) (c ∷ cs) (line ∷ lines) e f odd =
     let shift : choice_of g p ≡ choice_of h (behind p) = choice-behind h g p (λ i. omega arith) in
     let found : Choice = record { route = Temp (2 * axis + (bit_of line.odd + side) % 2); level = face.level } in
     let same : found ≡ record { route = Temp (h 0); level = face.level } = ap (λ (n : ℕ). let a : Choice = record { route = Temp n; level = face.level } in a) stack in
-    let side-is : (side == 0) ≡ (c + side == c) = same_test side 0 (c + side) c (λ k. omega arith) (λ k. omega arith) in
+    let side-is : (side == 0) ≡ (c + side == c) = same_tests side 0 (c + side) c (λ k. omega arith) (λ k. omega arith) in
     ap (λ b. faster relation axis side line b) more
     ∙ elim (is_relation face.relation relation) as (λ v. (if v && nat_lt p.level face.level then found else choice_of g p) ≡ choice_of h (stronger (if v then Some face.level else None) p)) [
       | true ↦ elim (nat_lt p.level face.level) as (λ v. (if v then found else choice_of g p) ≡ choice_of h (if v then record { axis = Some 0; level = face.level } else behind p)) [ true ↦ same | false ↦ shift ]
@@ -106,10 +108,6 @@ near-seen : (relation : Relation) (a b : ℕ) → Sees relation a b → is_relat
 near-seen Earlier a b h = elim (is_even a) as (λ v. is_relation (if v then Earlier else Later) Earlier ≡ v) [ true ↦ refl | false ↦ refl ] ∙ even-same a b (sym h)
 near-seen Later a b h = elim (is_even a) as (λ v. is_relation (if v then Earlier else Later) Later ≡ not v) [ true ↦ refl | false ↦ refl ] ∙ sym (even-next b a h)
 near-seen Outside a b h = absurd h
-
-not-not : (v : Bool) → not (not v) ≡ v
-not-not true = refl
-not-not false = refl
 
 far-seen : (relation : Relation) (a b : ℕ) → Sees relation a b → is_relation (if is_even a then Later else Earlier) relation ≡ not (is_even b)
 far-seen Earlier a b h = elim (is_even a) as (λ v. is_relation (if v then Later else Earlier) Earlier ≡ not v) [ true ↦ refl | false ↦ refl ] ∙ ap not (even-same a b (sym h))

@@ -6,12 +6,13 @@ use Rattle.std.specs.Option.{option_map, option_or}
 use Rattle.std.proofs.lemmas.Bool.{or_parts, or_from, and_left, eq-eqb, ne_eqb, false≢true, cases_lt, cases_Bool}
 use Rattle.std.proofs.lemmas.List.Elements.{All-head, All-tail, All-nil, All-cons, All-append, All-map, All-weaker}
 use Rattle.std.proofs.lemmas.List.Folds.{find-append}
+use Rattle.std.proofs.Math.Bool.{or-false}
 use Rattle.pe_base.specs.declared.way.Way.{Way}
 use Rattle.pe_base.specs.Tree.Curve.{mirrored}
 use Rattle.pe_base.specs.Steps.Routes.{way_turns}
 use Rattle.pe_base.specs.Tree.Places.{is_same_pos}
 use Rattle.pe_base.proofs.Steps.RouteLaws.{Below}
-use Rattle.pe_base.proofs.Steps.Spans.{is_even, parents, or_none}
+use Rattle.pe_base.proofs.Steps.Spans.{is_even, parents}
 use Rattle.pe_base.proofs.Steps.Levels.{kids, cells}
 use Rattle.pe_base.proofs.Lists.{In}
 use Rattle.pe_base.proofs.Tree.Ranks.{same_list}
@@ -131,7 +132,7 @@ first-zero true b p u w us vs ps e h up same par =
     (λ k less. find-nothing test (3 * p + k) (kids (b + k) ps) (λ cs. or_from _ _ (and_left (3 * p + k == u) (is_same_pos cs us) (ne_eqb (3 * p + k) u (λ q. omega arith))) (and_left (3 * p + k == w) (is_same_pos cs vs) (ne_eqb (3 * p + k) w (λ q. omega arith)))))
     (find-under test (λ cs. is_same_pos cs us) (3 * p + u % 3) (kids (b + u % 3) ps) (λ cs.
     ap (λ v. (v && is_same_pos cs us) || (3 * p + u % 3 == w && is_same_pos cs vs)) (eq-eqb (3 * p + u % 3) u here)
-    ∙ ap (λ v. is_same_pos cs us || (v && is_same_pos cs vs)) (ne_eqb (3 * p + u % 3) w (λ q. omega arith)) ∙ or_none (is_same_pos cs us))
+    ∙ ap (λ v. is_same_pos cs us || (v && is_same_pos cs vs)) (ne_eqb (3 * p + u % 3) w (λ q. omega arith)) ∙ or-false (is_same_pos cs us))
     ∙ ap (option_map (λ cs. (3 * p + u % 3) ∷ cs)) (find-kids (b + u % 3) us ps par)
     ∙ ap (λ (c : ℕ). Some (c ∷ us)) here)
 first-zero false b p u w us vs ps e h up same par =
@@ -320,7 +321,7 @@ not-same xs ys h = elim (cases_Bool (is_same_pos xs ys)) [ inl t ↦ absurd (h (
 first-edge : (b : ℕ) (us vs : List ℕ) (v : Bool) → (parents us ≡ parents vs → ⊥) → find (is_either us vs) (kids b (first_of v (parents us) (parents vs))) ≡ Some (first_of v us vs)
 first-edge b us vs true differ =
     find-same (is_either us vs) (λ x. is_same_pos x us) (kids b (parents us))
-    (All-weaker (λ cs. parents cs ≡ parents us) (λ cs. is_either us vs cs ≡ is_same_pos cs us) (λ cs e. ap (λ w. is_same_pos cs us || w) (other-child (parents us) cs vs e (not-same (parents us) (parents vs) differ)) ∙ or_none (is_same_pos cs us)) (kids b (parents us)) (kids-parents b (parents us)))
+    (All-weaker (λ cs. parents cs ≡ parents us) (λ cs. is_either us vs cs ≡ is_same_pos cs us) (λ cs e. ap (λ w. is_same_pos cs us || w) (other-child (parents us) cs vs e (not-same (parents us) (parents vs) differ)) ∙ or-false (is_same_pos cs us)) (kids b (parents us)) (kids-parents b (parents us)))
     ∙ find-kids b us (parents us) refl
 first-edge b us vs false differ =
     find-same (is_either us vs) (λ x. is_same_pos x vs) (kids b (parents vs))

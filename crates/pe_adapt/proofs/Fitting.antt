@@ -1,7 +1,7 @@
 -- The touch of a corner fits where its stack is there.
 use Rattle.std.proofs.Common.{◌≡◌, ℕ, zero, suc, ◌^◌, ◌<◌, Bool, true, false, ◌&&◌, List, [], ◌∷◌, length, Option, Some, None, refl, sym, subst, arith}
 use Rattle.std.specs.Prelude.{nat_lt, slice_index_or, IfSome, is_none}
-use Rattle.std.proofs.lemmas.Bool.{lt-ltb}
+use Rattle.std.proofs.lemmas.Bool.{lt-ltb, and_from}
 use Rattle.pe_base.specs.declared.place.Place.{Place}
 use Rattle.pe_base.specs.declared.event.Event.{Event}
 use Rattle.pe_base.specs.declared.event.Event.TheVariants.{TouchVertexFirstTime, TouchVertexLastTime, CreateInnerVertex, CreateHangingVertex, DestroyVertex, DestroyHangingVertex}
@@ -31,10 +31,6 @@ and_then-fit course next fits each = then-fits course.ending next fits each
 allowed-fit : {X : Type 0} (test : Bool) (course : Course X) → test ≡ true → Fits course → Fits (allowed test course)
 allowed-fit true course is fits = fits
 allowed-fit false course is fits = absurd (let no : false ≡ true = is in cc)
-
-tests : (a b : Bool) → a ≡ true → b ≡ true → (a && b) ≡ true
-tests true b first second = second
-tests false b first second = first
 
 module _ {Plan : Type 0} (set : Setting Plan) where
   abbrev seen_at : Place → VertexRecord × Family → Seen
@@ -92,7 +88,7 @@ module _ {Plan : Type 0} (set : Setting Plan) where
     pop-fits s count some =
         let at = stack_at-map f held s in
         allowed-fit _ (top_of (items_at (map_holdings f held) s) (popped (map_holdings f held) s))
-        (tests _ _ (lt-ltb s (stack_count (map_holdings f held)) (subst (λ n. s < n) (sym (stack_count-map f held)) (there held.stacks s some)))
+        (and_from _ _ (lt-ltb s (stack_count (map_holdings f held)) (subst (λ n. s < n) (sym (stack_count-map f held)) (there held.stacks s some)))
         (lt-ltb (stack_at (map_holdings f held) s).pops (2 ^ 63) (subst (λ stack. stack.pops < 2 ^ 63) (sym at) count)))
         (top-fits (items_at (map_holdings f held) s) (popped (map_holdings f held) s) (subst (λ n. 0 < n) (sym (len_at-map f held s)) some))
 
@@ -100,7 +96,7 @@ module _ {Plan : Type 0} (set : Setting Plan) where
     push-fits s it small count out =
         let at = stack_at-map f held s in
         allowed-fit _ _
-        (tests _ _ (tests _ _ (lt-ltb s (stack_count (map_holdings f held)) (subst (λ n. s < n) (sym (stack_count-map f held)) small))
+        (and_from _ _ (and_from _ _ (lt-ltb s (stack_count (map_holdings f held)) (subst (λ n. s < n) (sym (stack_count-map f held)) small))
         (lt-ltb (stack_at (map_holdings f held) s).pushes (2 ^ 63) (subst (λ stack. stack.pushes < 2 ^ 63) (sym at) count))) (lt-ltb 0 held.out out)) refl
 
     goes-fits : (output : ℕ) (to : Option ℕ) (o : Option VertexRecord) → stack_or set output to < stack_count held → (stack_at held (stack_or set output to)).pushes < 2 ^ 63 → 0 < held.out

@@ -3,7 +3,7 @@ use Rattle.std.proofs.Common.{◌≡◌, ℕ, zero, suc, ◌+◌, ◌-◌, ◌*�
 use Rattle.std.specs.Prelude.{slice_index, slice_get, nat_lt, ◌==◌, ◌||◌, not, if◌then◌else◌}
 use Rattle.std.specs.List.{list_all, list_any}
 use Rattle.std.specs.Option.{option_map}
-use Rattle.std.proofs.lemmas.Bool.{ltb-true, eqb-true, eqb-false}
+use Rattle.std.proofs.lemmas.Bool.{ltb-true, eqb-true, eqb-false, and_parts}
 use Rattle.pe_base.specs.declared.place.Place.{Place}
 use Rattle.pe_base.specs.declared.place.Digits.{Digits}
 use Rattle.pe_base.specs.declared.state.State.{State}
@@ -23,24 +23,20 @@ use Rattle.pe_adapt.specs.Marked.{IsQuiet}
 use Rattle.pe_adapt.specs.Touches.{corner_number, state_in_hand}
 use Rattle.pe_adapt.proofs.KindLaws.{corner_number-corner, parent-cell}
 
-both : (a b : Bool) → (a && b) ≡ true → (a ≡ true) × (b ≡ true)
-both true b is = (refl, is)
-both false b is = absurd cc
-
 between : (axes bound : ℕ) (pos : List ℕ) → list_all (λ x. nat_lt 0 x && nat_lt x bound) (take axes pos) ≡ true → (axis : ℕ) → axis < axes → axis < length pos
     → (0 < slice_index pos axis) × (slice_index pos axis < bound)
 between axes bound [] all axis here inside = absurd (omega arith)
 between zero bound (x ∷ xs) all axis here inside = absurd (omega arith)
 between (suc axes) bound (x ∷ xs) all zero here inside =
-    let tests = both (nat_lt 0 x) (nat_lt x bound) (both (nat_lt 0 x && nat_lt x bound) (list_all (λ y. nat_lt 0 y && nat_lt y bound) (take axes xs)) all).0 in
+    let tests = and_parts (nat_lt 0 x) (nat_lt x bound) (and_parts (nat_lt 0 x && nat_lt x bound) (list_all (λ y. nat_lt 0 y && nat_lt y bound) (take axes xs)) all).0 in
     (ltb-true 0 x tests.0, ltb-true x bound tests.1)
 between (suc axes) bound (x ∷ xs) all (suc axis) here inside =
-    between axes bound xs (both (nat_lt 0 x && nat_lt x bound) (list_all (λ y. nat_lt 0 y && nat_lt y bound) (take axes xs)) all).1 axis (omega arith) (omega arith)
+    between axes bound xs (and_parts (nat_lt 0 x && nat_lt x bound) (list_all (λ y. nat_lt 0 y && nat_lt y bound) (take axes xs)) all).1 axis (omega arith) (omega arith)
 
 zeros : (axes : ℕ) (pos : List ℕ) → list_all (λ x. x == 0) (drop axes pos) ≡ true → (axis : ℕ) → axes ≤ axis → slice_index pos axis ≡ 0
 zeros axes [] all axis behind = refl
-zeros zero (x ∷ xs) all zero behind = eqb-true x 0 (both (x == 0) (list_all (λ x. x == 0) xs) all).0
-zeros zero (x ∷ xs) all (suc axis) behind = zeros zero xs (both (x == 0) (list_all (λ x. x == 0) xs) all).1 axis (omega arith)
+zeros zero (x ∷ xs) all zero behind = eqb-true x 0 (and_parts (x == 0) (list_all (λ x. x == 0) xs) all).0
+zeros zero (x ∷ xs) all (suc axis) behind = zeros zero xs (and_parts (x == 0) (list_all (λ x. x == 0) xs) all).1 axis (omega arith)
 zeros (suc axes) (x ∷ xs) all zero behind = absurd (omega arith)
 zeros (suc axes) (x ∷ xs) all (suc axis) behind = zeros axes xs all axis (omega arith)
 
@@ -49,8 +45,8 @@ pub inside-is : (axes : ℕ) (vertex : Place) → axes ≤ 4 → vertex.level �
 inside-is axes vertex few level is =
     let between_test = list_all (λ x. nat_lt 0 x && nat_lt x (3 ^ vertex.level)) (take axes vertex.pos) in
     let zero_test = list_all (λ x. x == 0) (drop axes vertex.pos) in
-    let all = both (length vertex.pos == 4 && between_test) zero_test is in
-    let front = both (length vertex.pos == 4) between_test all.0 in
+    let all = and_parts (length vertex.pos == 4 && between_test) zero_test is in
+    let front = and_parts (length vertex.pos == 4) between_test all.0 in
     let four : length vertex.pos ≡ 4 = eqb-true (length vertex.pos) 4 front.0 in
     record {
       level = level;

@@ -14,6 +14,8 @@ use Rattle.pe_base.specs.Life.Kinds.{kind_from, level_one_kind}
 use Rattle.pe_base.specs.Life.Carriers.{passes, is_carried, kind_by}
 use Rattle.pe_base.specs.Acts.Effects.{VertexRecord}
 use Rattle.std.proofs.lemmas.Bool.Decides.{nat_tests}
+use Rattle.std.proofs.lemmas.Bool.{eq-eqb}
+use Rattle.std.proofs.Math.Bool.{or-false}
 use Rattle.pe_base.proofs.Lists.{Each-weaker}
 use Rattle.pe_base.proofs.Tree.PlaceLaws.{IsPosition-below}
 use Rattle.pe_stacks.specs.declared.record.Vertex.{Vertex}
@@ -148,18 +150,11 @@ kind-first axes traversal cell digits k its marks' within is first child olds ne
 unlike : (j k : ℕ) → (j ≡ k → ⊥) → (j == k) ≡ false
 unlike j k differ = grind (arith, nat_tests)
 
-alike : (j k : ℕ) → j ≡ k → (j == k) ≡ true
-alike j k same = grind (arith, nat_tests)
-
-either : (a : Bool) → (a || false) ≡ a
-either true = refl
-either false = refl
-
 pub marked-other : (a b : Bool) (j k : ℕ) → (j ≡ k → ⊥) → (a || j == k && b) ≡ a
-marked-other a b j k differ = ap (λ t. a || t && b) (unlike j k differ) ∙ either a
+marked-other a b j k differ = ap (λ t. a || t && b) (unlike j k differ) ∙ or-false a
 
 pub marked-here : (a b : Bool) (j k : ℕ) → j ≡ k → a ≡ false → (a || j == k && b) ≡ b
-marked-here a b j k same unmarked = ap (λ t. a || t && b) (alike j k same) ∙ ap (λ t. t || b) unmarked
+marked-here a b j k same unmarked = ap (λ t. a || t && b) (eq-eqb j k same) ∙ ap (λ t. t || b) unmarked
 
 -- the marks of full corners
 module _ {V : Type 0} where
@@ -191,7 +186,7 @@ module _ {V : Type 0} where
           let one : v ≡ u = cc in
           more j (omega arith) ∙ marked-here (before j) (test u.state) j k same (rest j (omega arith) (omega arith)) ∙ ap (λ (w : Vertex V). test w.state) (sym one)
       by_number false j below v is at test before after more done rest =
-          let differ : j ≡ k → ⊥ = λ same. absurd (let no : true ≡ false = sym (alike j k same) ∙ at in cc) in
+          let differ : j ≡ k → ⊥ = λ same. absurd (let no : true ≡ false = sym (eq-eqb j k same) ∙ at in cc) in
           more j (omega arith) ∙ marked-other (before j) (test u.state) j k differ ∙ done j (omega arith) v is
 
   full-at : (o : Option (Vertex V)) → IsSome o → (v : Vertex V) × (o ≡ Some v)

@@ -1,5 +1,6 @@
 -- Temporary stacks are few.
 use Rattle.std.proofs.Common.{◌≡◌, ℕ, suc, ◌+◌, ◌<◌, ◌≤◌, Bool, true, false, ◌&&◌, List, [], ◌∷◌, length, Option, Some, refl, ap, arith}
+use Rattle.std.proofs.lemmas.Bool.{and_parts}
 use Rattle.std.specs.Prelude.{nat_eq, find, if◌then◌else◌, ◌==◌}
 use Rattle.std.specs.Option.{option_map}
 use Rattle.pe_base.specs.declared.place.Place.{Place}
@@ -9,10 +10,6 @@ use Rattle.pe_base.specs.Steps.Around.{around, steps}
 use Rattle.pe_base.specs.Steps.Routes.{axis_between, axis_of, waiting_stack, stack_out}
 use Rattle.pe_base.specs.Walk.Core.{Setting}
 use Rattle.pe_adapt.specs.Touches.{stack_or}
-
-both : (a b : Bool) → (a && b) ≡ true → (a ≡ true) × (b ≡ true)
-both true b is = (refl, is)
-both false b is = absurd cc
 
 at_most : (t : Bool) (n m : ℕ) → n ≤ m → (if t then n + 1 else 0) ≤ m + 1
 at_most true n m less = omega arith
@@ -27,7 +24,7 @@ same-long : (xs ys : List ℕ) → is_same_pos xs ys ≡ true → length xs ≡ 
 same-long [] [] is = refl
 same-long [] (y ∷ ys) is = absurd (let no : false ≡ true = is in cc)
 same-long (x ∷ xs) [] is = absurd (let no : false ≡ true = is in cc)
-same-long (x ∷ xs) (y ∷ ys) is = ap suc (same-long xs ys (both (nat_eq x y) (is_same_pos xs ys) is).1)
+same-long (x ∷ xs) (y ∷ ys) is = ap suc (same-long xs ys (and_parts (nat_eq x y) (is_same_pos xs ys) is).1)
 
 module _ {Plan : Type 0} (set : Setting Plan) (output : ℕ) (vertex : Place) where
   found-or : (test : Place × Place → Bool) (x : Place × Place) (rest : Option (Place × Place)) (t : Bool) → test x ≡ t → ((step : Place × Place) → test step ≡ true → axis_of step ≤ 4)
@@ -45,4 +42,4 @@ module _ {Plan : Type 0} (set : Setting Plan) (output : ℕ) (vertex : Place) wh
   pub stack_out-small : (axes : ℕ) (way : Way) (cell : Place) → output < 10 → length cell.pos ≡ 4 → stack_or set output (stack_out axes way vertex cell) < 10
   stack_out-small axes way cell below four =
       found-small (λ step. is_same step.0 cell) (steps (around axes way vertex)) below
-      (λ step same. omega (arith, axis-small step.0.pos step.1.pos, same-long step.0.pos cell.pos (both (step.0.level == cell.level) (is_same_pos step.0.pos cell.pos) same).1))
+      (λ step same. omega (arith, axis-small step.0.pos step.1.pos, same-long step.0.pos cell.pos (and_parts (step.0.level == cell.level) (is_same_pos step.0.pos cell.pos) same).1))

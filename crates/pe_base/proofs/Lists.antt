@@ -14,6 +14,10 @@ pub Each-weaker : {X : Type 0} (P Q : X → Type 0) → ((x : X) → P x → Q x
 Each-weaker P Q h [] e = tt
 Each-weaker P Q h (x ∷ xs) e = (h x e.0, Each-weaker P Q h xs e.1)
 
+pub Each-both : {X : Type 0} (P Q R : X → Type 0) → ((x : X) → P x → Q x → R x) → (xs : List X) → Each P xs → Each Q xs → Each R xs
+Each-both P Q R h [] e f = tt
+Each-both P Q R h (x ∷ xs) e f = (h x e.0 f.0, Each-both P Q R h xs e.1 f.1)
+
 pub Each-append : {X : Type 0} (P : X → Type 0) (xs ys : List X) → Each P xs → Each P ys → Each P (xs ++ ys)
 Each-append P [] ys e f = f
 Each-append P (x ∷ xs) ys e f = (e.0, Each-append P xs ys e.1 f)
@@ -45,10 +49,6 @@ flat_map_same f g (x ∷ xs) e = ap₂ (λ y r. y ++ r) e.0 (flat_map_same f g x
 pub flat_map_none : {X Y : Type 0} (f : X → List Y) (xs : List X) → Each (λ x. f x ≡ []) xs → flat_map f xs ≡ []
 flat_map_none f [] e = refl
 flat_map_none f (x ∷ xs) e = ap₂ (λ y r. y ++ r) e.0 (flat_map_none f xs e.1)
-
-pub flat_map-map : {X Y Z : Type 0} (g : Y → List Z) (f : X → Y) (xs : List X) → flat_map g (map f xs) ≡ flat_map (λ x. g (f x)) xs
-flat_map-map g f [] = refl
-flat_map-map g f (x ∷ xs) = ap (λ r. g (f x) ++ r) (flat_map-map g f xs)
 
 pub map-flat_map : {X Y Z : Type 0} (g : Y → Z) (f : X → List Y) (xs : List X) → map g (flat_map f xs) ≡ flat_map (λ x. map g (f x)) xs
 map-flat_map g f [] = refl
@@ -105,6 +105,10 @@ filter_same p q (x ∷ xs) e = ap₂ (λ b r. cond b (x ∷ r) r) e.0 (filter_sa
 pub filter_none : {X : Type 0} (p : X → Bool) (xs : List X) → Each (λ x. p x ≡ false) xs → filter p xs ≡ []
 filter_none p [] e = refl
 filter_none p (x ∷ xs) e = ap₂ (λ b r. cond b (x ∷ r) r) e.0 (filter_none p xs e.1)
+
+pub filter_all : {X : Type 0} (p : X → Bool) (xs : List X) → Each (λ x. p x ≡ true) xs → filter p xs ≡ xs
+filter_all p [] e = refl
+filter_all p (x ∷ xs) e = ap₂ (λ b r. cond b (x ∷ r) r) e.0 (filter_all p xs e.1)
 
 -- items that give nothing may be left out
 pub flat_map-filter : {X Y : Type 0} (f : X → List Y) (p : X → Bool) (xs : List X) → Each (λ x. p x ≡ false → f x ≡ []) xs → flat_map f xs ≡ flat_map f (filter p xs)

@@ -1,17 +1,13 @@
 -- Calls on a depot, as steps of the machine: what each asks for, and what it is.
 use Rattle.std.proofs.Common.{◌≡◌, ℕ, ◌+◌, ◌^◌, ◌<◌, Bool, true, false, ◌&&◌, List, [], ◌∷◌, map, length, Some, refl, sym, ap, subst, ◌∙◌, arith}
 use Rattle.std.specs.Prelude.{nat_lt, slice_get}
-use Rattle.std.proofs.lemmas.Bool.{ltb-true}
+use Rattle.std.proofs.lemmas.Bool.{ltb-true, and_parts}
 use Rattle.pe_base.specs.Walk.Course.{Course, done, at_once}
 use Rattle.pe_stacks.specs.Holdings.{Holdings, stack_count, stack_at, items_at, len_at, lent, given_up, pushed, popped}
 use Rattle.pe_hang.specs.InHand.{map_holdings}
 use Rattle.pe_hang.specs.Moves.{allowed, may_rise, lend, give_up, top_of, pop, push, MayPop, MayPush}
 use Rattle.pe_hang.specs.Follows.{Fits}
 use Rattle.pe_hang.proofs.OnStacks.{stack_count-map, stack_at-map, len_at-map, pushed-map, popped-map}
-
-both : (a b : Bool) → (a && b) ≡ true → (a ≡ true) × (b ≡ true)
-both true b is = (refl, is)
-both false b is = absurd cc
 
 -- a step that may be made only where a test passes
 pub allowed-fits : {X : Type 0} (test : Bool) (course : Course X) → Fits (allowed test course) → test ≡ true
@@ -41,7 +37,7 @@ module _ {X Y : Type 0} (f : X → Y) where
   pub pop-may : (held : Holdings X) (s : ℕ) → Fits (pop s (map_holdings f held)) → MayPop held s
   pop-may held s fits =
       let tests = allowed-fits _ (top_of (items_at (map_holdings f held) s) (popped (map_holdings f held) s)) fits in
-      let each = both (nat_lt s (stack_count (map_holdings f held))) (may_rise (stack_at (map_holdings f held) s).pops) tests in
+      let each = and_parts (nat_lt s (stack_count (map_holdings f held))) (may_rise (stack_at (map_holdings f held) s).pops) tests in
       let top : Fits (top_of (items_at (map_holdings f held) s) (popped (map_holdings f held) s)) =
       subst Fits (allowed-is _ (top_of (items_at (map_holdings f held) s) (popped (map_holdings f held) s)) fits) fits in
       record {
@@ -68,8 +64,8 @@ module _ {X Y : Type 0} (f : X → Y) where
   pub push-may : (of_cell : Bool) (s : ℕ) (x : X) (held : Holdings X) → Fits (push of_cell s (f x) (map_holdings f held)) → MayPush held s
   push-may of_cell s x held fits =
       let tests = allowed-fits _ (pushing of_cell s x held) fits in
-      let all = both (nat_lt s (stack_count (map_holdings f held)) && may_rise (stack_at (map_holdings f held) s).pushes) (nat_lt 0 held.out) tests in
-      let each = both (nat_lt s (stack_count (map_holdings f held))) (may_rise (stack_at (map_holdings f held) s).pushes) all.0 in
+      let all = and_parts (nat_lt s (stack_count (map_holdings f held)) && may_rise (stack_at (map_holdings f held) s).pushes) (nat_lt 0 held.out) tests in
+      let each = and_parts (nat_lt s (stack_count (map_holdings f held))) (may_rise (stack_at (map_holdings f held) s).pushes) all.0 in
       record {
         stack = subst (λ n. s < n) (stack_count-map f held) (ltb-true _ _ each.0);
         count = subst (λ stack. stack.pushes < 2 ^ 63) (stack_at-map f held s) (ltb-true _ _ each.1);

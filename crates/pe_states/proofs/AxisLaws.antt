@@ -3,6 +3,7 @@ use Rattle.std.proofs.Common.{◌≡◌, ℕ, zero, suc, ◌+◌, ◌-◌, ◌*�
 use Rattle.std.specs.List.{list_any}
 use Rattle.std.specs.Prelude.{slice_index}
 use Rattle.std.proofs.lemmas.List.{length-take-le}
+use Rattle.std.proofs.Math.Bool.{or-false}
 use Rattle.pe_base.specs.declared.place.Digits.{Digits}
 use Rattle.pe_base.specs.Tree.Places.{bits, moved}
 use Rattle.pe_base.specs.Life.Carriers.{thirds, carrier_positions}
@@ -10,7 +11,6 @@ use Rattle.pe_base.proofs.Tree.Corners.{IsBits}
 use Rattle.pe_states.specs.Carriers.{number_of, carrier_numbers}
 use Rattle.pe_states.specs.Marks.{is_marked, is_old_at, is_new_at, some_carrier}
 use Rattle.pe_states.specs.Sides.{on_side, IsSpread, AreSpread, IsRow}
-use Rattle.pe_states.proofs.Bits.{or_none}
 use Rattle.pe_states.proofs.Numbers.{IsBits-bits, number_of-bits}
 use Rattle.pe_states.proofs.Tests.{any_same, any_map, any_flat_map, any_swap}
 
@@ -31,7 +31,7 @@ within_run width low (suc (suc b)) h k = absurd (omega arith)
 
 pub spread_along : (ks bs : List ℕ) (width m m' low high : ℕ) → AreSpread width ks m m' → IsBits (length ks) bs → low < width
     → is_marked m' (spot width low (number_of bs) (2 ^ length ks) high) ≡ list_any (λ os. is_marked m (spot width low (number_of os) (2 ^ length ks) high)) (carrier_positions (moved ks bs))
-spread_along [] [] width m m' low high made here inside = ap (λ (x : ℕ). is_marked x (spot width low 0 1 high)) made ∙ sym (or_none _)
+spread_along [] [] width m m' low high made here inside = ap (λ (x : ℕ). is_marked x (spot width low 0 1 high)) made ∙ sym (or-false _)
 spread_along [] (b ∷ bs) width m m' low high made here inside = absurd (omega arith)
 spread_along (k ∷ ks) [] width m m' low high made here inside = absurd (omega arith)
 spread_along (k ∷ ks) (b ∷ bs) width m m' low high made here inside =

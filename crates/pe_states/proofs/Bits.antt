@@ -24,17 +24,9 @@ min_test (suc zero) (suc zero) h k = refl
 min_test (suc (suc x)) y h k = absurd (omega arith)
 min_test x (suc (suc y)) h k = absurd (omega arith)
 
-pub or_none : (a : Bool) → (a || false) ≡ a
-or_none true = refl
-or_none false = refl
-
 pub and_true : (a b : Bool) → b ≡ true → (a && b) ≡ a
 and_true true b e = e
 and_true false b e = refl
-
-pub and_false : (a b : Bool) → b ≡ false → (a && b) ≡ false
-and_false true b e = e
-and_false false b e = refl
 
 pub marked_or : (a b n : ℕ) → is_marked (bit_or a b) n ≡ (is_marked a n || is_marked b n)
 marked_or a b n = ap (λ (x : ℕ). x == 1) (bit_at_or a b n) ∙ max_test (bit_at a n) (bit_at b n) (bit_at-lt a n) (bit_at-lt b n)

@@ -4,14 +4,15 @@ use Rattle.std.specs.Prelude.{◌==◌, bit_or, bit_and, nat_lt, nat_le, if◌th
 use Rattle.std.specs.Int.{bit_at}
 use Rattle.std.specs.List.{list_any, list_all, range_with_len}
 use Rattle.std.proofs.Math.Nat.{mul-le-mul_left}
-use Rattle.std.proofs.lemmas.Bool.{cases_lt, cond_both, and_parts, or_cases, eq-eqb, eqb-true, ltb-true, leb-true, le-ltb, both_ways, true≢false}
+use Rattle.std.proofs.lemmas.Bool.{cases_lt, cond_both, and_parts, or_cases, eq-eqb, eqb-true, ltb-true, leb-true, le-ltb, both_ways, true≢false, and_right}
 use Rattle.std.proofs.lemmas.Nat.{div-mul-add, pow_pos, shr_split, and_le_r, or_lt}
 use Rattle.std.proofs.lemmas.Nat.Bits.{bit_at_cat_low}
+use Rattle.std.proofs.Math.Bool.{or-false}
 use Rattle.pe_base.specs.Life.Carriers.{thirds}
 use Rattle.pe_base.proofs.Lists.{Each-all, list_any_none}
 use Rattle.pe_states.specs.Marks.{is_marked}
 use Rattle.pe_states.specs.Sides.{is_near_at, are_near, on_side, IsSpread}
-use Rattle.pe_states.proofs.Bits.{marked_or, marked_and, not_marked, marked_shr, marked_shl_low, marked_shl_high, or_none, and_true, and_false, passed}
+use Rattle.pe_states.proofs.Bits.{marked_or, marked_and, not_marked, marked_shr, marked_shl_low, marked_shl_high, and_true, passed}
 
 -- a number of the near side's bits, with the width of its runs
 pub record IsNearSide (width near : ℕ) : Type 0 where
@@ -141,10 +142,10 @@ module _ (width near digit m : ℕ) where
   both_on n h = marked_or near_marks far_marks n ∙ ap₂ (λ a b. a || b) (near_on n h) (far_on n h)
 
   near_off : (n : ℕ) → is_marked near n ≡ false → is_marked near_marks n ≡ false
-  near_off n h = marked_and m near n ∙ and_false (is_marked m n) (is_marked near n) h
+  near_off n h = marked_and m near n ∙ and_right (is_marked m n) (is_marked near n) h
 
   far_off : (n : ℕ) → is_marked near n ≡ false → is_marked far_marks n ≡ false
-  far_off n h = marked_and (m / 2 ^ width) near n ∙ and_false (is_marked (m / 2 ^ width) n) (is_marked near n) h
+  far_off n h = marked_and (m / 2 ^ width) near n ∙ and_right (is_marked (m / 2 ^ width) n) (is_marked near n) h
 
   both_off : (n : ℕ) → is_marked near n ≡ false → is_marked (bit_or near_marks far_marks) n ≡ false
   both_off n h = marked_or near_marks far_marks n ∙ ap₂ (λ a b. a || b) (near_off n h) (far_off n h)
@@ -174,7 +175,7 @@ module _ (width near digit m : ℕ) where
         | inl less ↦ shifted_low n below less
         | inr more ↦ shifted_high n below more ∙ high_off (n - width) (h.before more)
       ] in
-      marked_or low_marks (high_marks * 2 ^ width % 2 ^ 32) n ∙ ap₂ (λ a b. a || b) (low_on n h.here) shifted ∙ or_none _
+      marked_or low_marks (high_marks * 2 ^ width % 2 ^ 32) n ∙ ap₂ (λ a b. a || b) (low_on n h.here) shifted ∙ or-false _
 
   -- a far corner of the child
   at_far : (n : ℕ) → n < 32 → OnFar width near n → is_marked spread_marks n ≡ (if digit == 2 then is_marked m n else (is_marked m (n - width) || is_marked m n))
@@ -186,15 +187,15 @@ module _ (width near digit m : ℕ) where
 
 -- the carriers' sides, by the digit
 near_thirds : (p : ℕ → Bool) (digit : ℕ) → digit < 3 → (if digit == 0 then p 0 else (p 0 || p 1)) ≡ list_any p (thirds (digit + 0))
-near_thirds p zero h = sym (or_none (p 0))
-near_thirds p (suc zero) h = ap (λ b. p 0 || b) (sym (or_none (p 1)))
-near_thirds p (suc (suc zero)) h = ap (λ b. p 0 || b) (sym (or_none (p 1)))
+near_thirds p zero h = sym (or-false (p 0))
+near_thirds p (suc zero) h = ap (λ b. p 0 || b) (sym (or-false (p 1)))
+near_thirds p (suc (suc zero)) h = ap (λ b. p 0 || b) (sym (or-false (p 1)))
 near_thirds p (suc (suc (suc digit))) h = absurd (omega arith)
 
 far_thirds : (p : ℕ → Bool) (digit : ℕ) → digit < 3 → (if digit == 2 then p 1 else (p 0 || p 1)) ≡ list_any p (thirds (digit + 1))
-far_thirds p zero h = ap (λ b. p 0 || b) (sym (or_none (p 1)))
-far_thirds p (suc zero) h = ap (λ b. p 0 || b) (sym (or_none (p 1)))
-far_thirds p (suc (suc zero)) h = sym (or_none (p 1))
+far_thirds p zero h = ap (λ b. p 0 || b) (sym (or-false (p 1)))
+far_thirds p (suc zero) h = ap (λ b. p 0 || b) (sym (or-false (p 1)))
+far_thirds p (suc (suc zero)) h = sym (or-false (p 1))
 far_thirds p (suc (suc (suc digit))) h = absurd (omega arith)
 
 -- each corner of the child has the marks of its carriers along the axis

@@ -20,6 +20,7 @@ use Rattle.pe_stacks.specs.declared.record.Vertex.{Vertex}
 use Rattle.pe_stacks.specs.Corners.{IsFull}
 use Rattle.pe_stacks.specs.Holdings.{Holdings, KeepsRoom, stack_count, stack_at, popped, popped_from}
 use Rattle.std.proofs.lemmas.List.{length-set}
+use Rattle.std.proofs.lemmas.Bool.{and_parts}
 use Rattle.pe_mapping.specs.Held.{Held, Keeps}
 use Rattle.pe_mapping.specs.Sights.{Numbers, seen_corners}
 use Rattle.pe_access.specs.Numbers.{stack_of}
@@ -43,10 +44,6 @@ use Rattle.pe_walk.specs.Streams.{AreStreams}
 use Rattle.pe_walk.specs.InHand.{IsWalked, setting_in, ports_of, failure_in}
 use Rattle.pe_walk.specs.Corners.{Hand, machine_of, found_in, filled_in, MayGo, GoesAlong}
 
-both : (a b : Bool) → (a && b) ≡ true → (a ≡ true) × (b ≡ true)
-both true b is = (refl, is)
-both false b is = absurd cc
-
 -- a walked cell's position is far below the greatest number
 pub walked-pos : (axes : ℕ) (settings : Settings) (cell : WalkedCell) → IsWalked axes settings cell → (axis : ℕ) → slice_index cell.place.pos axis < 3 ^ 20
 walked-pos axes settings cell is axis = omega (arith, cell_below axes cell.place is.place axis, level_below cell.place.level is.place.level)
@@ -63,10 +60,10 @@ module _ {Plan : Type 0} (set : Setting Plan) (ports : Ports) (cell : Place) (k 
   load-tests m fits = allowed-fits (tally_may_rise m.tally && is_placed set.axes (kind_here m) here) _ fits
 
   pub load-rises : (m : Machine) → Fits (load_corner set ports cell k m) → tally_may_rise m.tally ≡ true
-  load-rises m fits = (both (tally_may_rise m.tally) (is_placed set.axes (kind_here m) here) (load-tests m fits)).0
+  load-rises m fits = (and_parts (tally_may_rise m.tally) (is_placed set.axes (kind_here m) here) (load-tests m fits)).0
 
   pub load-placed : (m : Machine) → Fits (load_corner set ports cell k m) → is_placed set.axes (kind_here m) here ≡ true
-  load-placed m fits = (both (tally_may_rise m.tally) (is_placed set.axes (kind_here m) here) (load-tests m fits)).1
+  load-placed m fits = (and_parts (tally_may_rise m.tally) (is_placed set.axes (kind_here m) here) (load-tests m fits)).1
 
   abbrev first_here : Bool
   first_here = is_none (stack_in set.axes (way set) here cell)
@@ -101,10 +98,10 @@ module _ {Plan : Type 0} (set : Setting Plan) (ports : Ports) (cell : Place) (k 
   store-tests it m fits = allowed-fits (tally_may_rise m.tally && is_placed set.axes it.kind here) (storing it m) fits
 
   pub store-rises : (it : VertexRecord) (m : Machine) → Fits (store_corner set ports cell k it m) → tally_may_rise m.tally ≡ true
-  store-rises it m fits = (both (tally_may_rise m.tally) (is_placed set.axes it.kind here) (store-tests it m fits)).0
+  store-rises it m fits = (and_parts (tally_may_rise m.tally) (is_placed set.axes it.kind here) (store-tests it m fits)).0
 
   pub store-placed : (it : VertexRecord) (m : Machine) → Fits (store_corner set ports cell k it m) → is_placed set.axes it.kind here ≡ true
-  store-placed it m fits = (both (tally_may_rise m.tally) (is_placed set.axes it.kind here) (store-tests it m fits)).1
+  store-placed it m fits = (and_parts (tally_may_rise m.tally) (is_placed set.axes it.kind here) (store-tests it m fits)).1
 
   pub store-desk : (it : VertexRecord) (m : Machine) → Fits (store_corner set ports cell k it m) → Fits (corners.store_corner set (output ports) cell k it (desk_of m))
   store-desk it m fits =

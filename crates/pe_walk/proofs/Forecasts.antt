@@ -4,6 +4,7 @@ use Rattle.std.specs.Prelude.{is_some, nat_lt, if◌then◌else◌}
 use Rattle.std.specs.Option.{option_map, unwrap_or}
 use Rattle.std.specs.List.{list_any}
 use Rattle.std.proofs.lemmas.Bool.Decides.{nat_tests}
+use Rattle.std.proofs.lemmas.Bool.{and_parts, eqb-true, or_cases, or_right, or_left, cases_lt}
 use Rattle.pe_base.specs.declared.place.Place.{Place}
 use Rattle.pe_base.specs.declared.state.State.{State}
 use Rattle.pe_base.specs.declared.state.State.TheVariants.{Unrefined, Refining}
@@ -21,13 +22,10 @@ use Rattle.pe_base.specs.Walk.Grids.{Grid, StoredVertex, state_in, is_stored_ver
 use Rattle.pe_base.specs.Walk.Streams.{goes_below}
 use Rattle.pe_base.specs.Walk.Foreseen.{next_traversal, was, will, will_on, kind_foreseen, counts, touched_state, old_foreseen, new_foreseen, walks, walked}
 use Rattle.pe_base.proofs.Lists.{Each, Each-all, Each-map}
-use Rattle.pe_base.proofs.Tree.Ranks.{and_left, and_right}
-use Rattle.pe_base.proofs.Steps.Counts.{true_eq}
 use Rattle.pe_base.proofs.Walk.TableLaws.{first_touch_keeps_old}
 use Rattle.pe_walk.specs.Takings.{Grown}
 use Rattle.pe_walk.specs.Outlooks.{outlook, stored_outlook, stored_walked, IsNew, ForecastFits, StoredFits}
 use Rattle.pe_walk.proofs.Outlooks.{Carried, inside_place, carried_walk, carried_below, carried_counts, carried_within}
-use Rattle.pe_walk.proofs.Tests.{or_either, or_right_true}
 
 -- what is known of a grid between two traversals, or before the first
 pub record Sound (grid : Grid) : Type 0 where
@@ -126,14 +124,11 @@ module _ (start_level : ℕ) (grid : Grid) (low : start_level ≤ grid.greatest)
       go Hanging h = absurd (true≢false (sym h))
 
   active_within : (vertex : Place) → active vertex ≡ true → vertex.level < grid.greatest
-  active_within vertex t = elim (deep_or_not vertex.level grid.greatest) [
+  active_within vertex t = elim (cases_lt vertex.level grid.greatest) [
     | inl h ↦ h
     | inr h ↦ absurd (go (kind_foreseen start_level grid vertex) h t)
   ]
     where
-      deep_or_not : (a b : ℕ) → (a < b) ⊎ (b ≤ a)
-      deep_or_not a b = grind arith
-
       plain : grid.greatest ≤ vertex.level → unwrap_or (state_in grid vertex) Unrefined ≡ Unrefined
       plain h = of (state_in grid vertex) (λ s e. sound.finest vertex s e h)
         where
@@ -146,7 +141,7 @@ module _ (start_level : ℕ) (grid : Grid) (low : start_level ≤ grid.greatest)
       unstarted false f e = true≢false (sym e)
 
       below_start : (b : Bool) (a c : ℕ) → c ≤ a → (b && nat_lt a c) ≡ true → 1 ≤ 0
-      below_start b a c h e = let l : nat_lt a c ≡ true = and_right b _ e in grind (arith, nat_tests)
+      below_start b a c h e = let l : nat_lt a c ≡ true = (and_parts b _ e).1 in grind (arith, nat_tests)
 
       go : (k : Kind) → grid.greatest ≤ vertex.level → (is_old (touched_state start_level grid k vertex) || is_new (touched_state start_level grid k vertex)) ≡ true → ⊥
       go Kept h e = true≢false (sym e ∙ ap (λ s. is_old (first_touch s Kept) || is_new (first_touch s Kept)) (plain h))
@@ -167,20 +162,16 @@ module _ (start_level : ℕ) (grid : Grid) (low : start_level ≤ grid.greatest)
   will_inside : (n : ℕ) (vertex : Place) → will_on start_level grid n vertex ≡ true → is_inside grid.axes vertex ≡ true
   will_inside zero vertex t = absurd (true≢false (sym t))
   will_inside (suc zero) vertex t = t
-  will_inside (suc (suc n)) vertex t = and_left (is_inside grid.axes vertex) _ t
+  will_inside (suc (suc n)) vertex t = (and_parts (is_inside grid.axes vertex) _ t).0
 
   pub counts_inside : (vertex : Place) → counts start_level grid vertex ≡ true → is_inside grid.axes vertex ≡ true
   counts_inside vertex t = elim (stored_either vertex t) [
-    | inl h ↦ and_left (is_inside grid.axes vertex) _ (sound.stored vertex h)
+    | inl h ↦ (and_parts (is_inside grid.axes vertex) _ (sound.stored vertex h)).0
     | inr h ↦ will_inside vertex.level vertex h
   ]
 
   pub carrier_levels : (vertex : Place) → Each (λ m. m.level ≡ vertex.level - 1) (carriers vertex)
   carrier_levels vertex = Each-map (λ m. m.level ≡ vertex.level - 1) (λ pos. record { level = vertex.level - 1; pos = pos }) (carrier_positions vertex.pos) (Each-all _ (λ pos. refl) (carrier_positions vertex.pos))
-
-  or_left_true : (a b : Bool) → a ≡ true → (a || b) ≡ true
-  or_left_true true b h = refl
-  or_left_true false b h = absurd (true≢false (sym h))
 
   carried : (vertex : Place) → counts start_level grid vertex ≡ true → (vertex.level ≡ 1) ⊎ ((2 ≤ vertex.level) × (list_any active (carriers vertex) ≡ true))
   carried vertex t = elim (two_or_deeper grid.axes vertex sound.dim (counts_inside vertex t)) [
@@ -189,9 +180,9 @@ module _ (start_level : ℕ) (grid : Grid) (low : start_level ≤ grid.greatest)
   ]
     where
       by_old : 2 ≤ vertex.level → was start_level grid vertex ≡ true → list_any active (carriers vertex) ≡ true
-      by_old deep h = elim (or_either (vertex.level == 1) (list_any (λ m. passes is_old (state_in grid m)) (carriers vertex)) (and_right (is_inside grid.axes vertex) _ (sound.stored vertex h))) [
-        | inl e ↦ absurd (let one : vertex.level ≡ 1 = true_eq vertex.level 1 e in omega arith)
-        | inr e ↦ any_weaker (λ m. passes is_old (state_in grid m)) active (λ m. Unit {0}) (λ m u p. or_left_true (old_foreseen start_level grid m) _ (old_stored m ∙ p)) (carriers vertex) (Each-all _ (λ m. tt) (carriers vertex)) e
+      by_old deep h = elim (or_cases (vertex.level == 1) (list_any (λ m. passes is_old (state_in grid m)) (carriers vertex)) (and_parts (is_inside grid.axes vertex) _ (sound.stored vertex h)).1) [
+        | inl e ↦ absurd (let one : vertex.level ≡ 1 = eqb-true vertex.level 1 e in omega arith)
+        | inr e ↦ any_weaker (λ m. passes is_old (state_in grid m)) active (λ m. Unit {0}) (λ m u p. or_left (old_foreseen start_level grid m) _ (old_stored m ∙ p)) (carriers vertex) (Each-all _ (λ m. tt) (carriers vertex)) e
       ]
 
       by_new : (n : ℕ) → vertex.level ≡ n → 2 ≤ n → will_on start_level grid n vertex ≡ true → list_any active (carriers vertex) ≡ true
@@ -199,8 +190,8 @@ module _ (start_level : ℕ) (grid : Grid) (low : start_level ≤ grid.greatest)
       by_new (suc zero) e deep h = absurd (omega arith)
       by_new (suc (suc n)) e deep h =
           any_weaker (λ m. is_new (touched_state start_level grid (kind_from (was start_level grid m) (will_on start_level grid (suc n) m)) m)) active (λ m. m.level ≡ vertex.level - 1)
-          (λ m level p. or_right_true (old_foreseen start_level grid m) _ (ap (λ k. is_new (touched_state start_level grid (kind_from (was start_level grid m) (will_on start_level grid k m)) m)) (let at : m.level ≡ suc n = omega (arith, level, e) in at) ∙ p))
-          (carriers vertex) (carrier_levels vertex) (and_right (is_inside grid.axes vertex) _ h)
+          (λ m level p. or_right (old_foreseen start_level grid m) _ (ap (λ k. is_new (touched_state start_level grid (kind_from (was start_level grid m) (will_on start_level grid k m)) m)) (let at : m.level ≡ suc n = omega (arith, level, e) in at) ∙ p))
+          (carriers vertex) (carrier_levels vertex) (and_parts (is_inside grid.axes vertex) _ h).1
 
   walks_by : (cell : Place) → walks start_level grid cell ≡ (cell.level == 0 || list_any active (corners grid.axes cell))
   walks_by cell = go (cell.level == 0) (next_traversal grid == 1) ∙ ap (λ b. cell.level == 0 || b) (sym (any_or (old_foreseen start_level grid) (new_foreseen start_level grid) (corners grid.axes cell)))
@@ -258,23 +249,20 @@ module _ (grid : Grid) (is : IsWellFormed grid) where
       go (Some it) h = refl
 
   refined_within : (vertex : Place) → refined vertex ≡ true → vertex.level < grid.greatest
-  refined_within vertex t = elim (deep_or_not vertex.level grid.greatest) [
+  refined_within vertex t = elim (cases_lt vertex.level grid.greatest) [
     | inl h ↦ h
     | inr h ↦ absurd (go (state_in grid vertex) (λ s e. is.finest vertex s e h) t)
   ]
     where
-      deep_or_not : (a b : ℕ) → (a < b) ⊎ (b ≤ a)
-      deep_or_not a b = grind arith
-
       go : (o : Option State) → ((s : State) → o ≡ Some s → s ≡ Unrefined) → passes is_old o ≡ true → ⊥
       go None f h = true≢false (sym h)
       go (Some s) f h = true≢false (sym h ∙ ap is_old (f s refl))
 
   stored_carrier : (vertex : Place) → here vertex ≡ true → (vertex.level ≡ 1) ⊎ ((2 ≤ vertex.level) × (list_any refined (carriers vertex) ≡ true))
-  stored_carrier vertex t = elim (two_or_deeper grid.axes vertex is.axes (and_left (is_inside grid.axes vertex) _ (sym (is.vertices vertex) ∙ t))) [
+  stored_carrier vertex t = elim (two_or_deeper grid.axes vertex is.axes (and_parts (is_inside grid.axes vertex) _ (sym (is.vertices vertex) ∙ t)).0) [
     | inl h ↦ inl h
-    | inr h ↦ elim (or_either (vertex.level == 1) (list_any refined (carriers vertex)) (and_right (is_inside grid.axes vertex) _ (sym (is.vertices vertex) ∙ t))) [
-      | inl e ↦ inl (true_eq vertex.level 1 e)
+    | inr h ↦ elim (or_cases (vertex.level == 1) (list_any refined (carriers vertex)) (and_parts (is_inside grid.axes vertex) _ (sym (is.vertices vertex) ∙ t)).1) [
+      | inl e ↦ inl (eqb-true vertex.level 1 e)
       | inr e ↦ inr (h, e)
     ]
   ]
@@ -284,7 +272,7 @@ module _ (grid : Grid) (is : IsWellFormed grid) where
     dim = is.axes;
     few = is.few_levels;
     some = is.some_level;
-    inside = λ v t. and_left (is_inside grid.axes v) _ (sym (is.vertices v) ∙ t);
+    inside = λ v t. (and_parts (is_inside grid.axes v) _ (sym (is.vertices v) ∙ t)).0;
     carrier = stored_carrier;
     active_counts = refined_here;
     active_within = refined_within;

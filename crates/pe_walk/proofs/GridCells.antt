@@ -3,6 +3,7 @@ use Rattle.std.proofs.Common.{◌≡◌, inl, inr, ℕ, suc, ◌-◌, ◌≤◌,
 use Rattle.std.specs.Prelude.{is_some}
 use Rattle.std.specs.List.{flat_map, list_any}
 use Rattle.std.proofs.lemmas.List.Sums.{length-filter, count_by-le-length}
+use Rattle.std.proofs.lemmas.Bool.{ne_eqb}
 use Rattle.pe_base.specs.declared.place.Place.{Place}
 use Rattle.pe_base.specs.Tree.Places.{root, corners}
 use Rattle.pe_base.specs.Tree.Curve.{children}
@@ -14,7 +15,6 @@ use Rattle.pe_base.specs.Walk.Maps.{at}
 use Rattle.pe_base.specs.Walk.Grids.{Grid, IsWellFormed}
 use Rattle.pe_base.specs.Walk.Streams.{if_walks, walked_cells, stream_vertices, stream_cells}
 use Rattle.pe_base.proofs.Lists.{Each-all}
-use Rattle.pe_base.proofs.Steps.Counts.{eq_false}
 use Rattle.pe_walk.specs.Tokens.{Outlook}
 use Rattle.pe_walk.specs.Outlooks.{was_stored, outlook, stored_outlook, stored_walked}
 use Rattle.pe_walk.specs.Takings.{Grown}
@@ -31,7 +31,7 @@ use Rattle.pe_walk.proofs.Tokens.ExactTraffic.{traffic_by_tally}
 walks_counting : (axes greatest : ℕ) (counts active walks walked : Place → Bool) → Carried axes greatest counts active walks walked → (cell : Place) → 1 ≤ cell.level → walks cell ≡ true → list_any counts (corners axes cell) ≡ true
 walks_counting axes greatest counts active walks walked carried cell deep e =
     any_weaker active counts (λ v. Unit {0}) (λ v u t. carried.active_counts v t) (corners axes cell) (Each-all _ (λ v. tt) (corners axes cell))
-    (ap (λ b. b || list_any active (corners axes cell)) (sym (eq_false cell.level 0 (λ h. omega (arith, h, deep)))) ∙ sym (carried.walks_by cell) ∙ e)
+    (ap (λ b. b || list_any active (corners axes cell)) (sym (ne_eqb cell.level 0 (λ h. omega (arith, h, deep)))) ∙ sym (carried.walks_by cell) ∙ e)
 
 pub few_cells_of_traversals : FewCellsOfTraversals
 few_cells_of_traversals start_level grid swapped low is = elim is [

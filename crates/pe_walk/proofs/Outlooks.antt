@@ -4,6 +4,7 @@ use Rattle.std.specs.Prelude.{nat_lt}
 use Rattle.std.specs.List.{list_any, list_all, range_with_len, All, Contains}
 use Rattle.std.proofs.lemmas.Bool.Decides.{nat_tests}
 use Rattle.std.proofs.lemmas.List.{reverse-reverse}
+use Rattle.std.proofs.lemmas.Bool.{and_parts, eq-eqb, ne_eqb, eqb-true, or_cases, or_right}
 use Rattle.pe_base.specs.declared.place.Place.{Place}
 use Rattle.pe_base.specs.declared.way.Way.{Way}
 use Rattle.pe_base.specs.Tree.Dim.{IsDim}
@@ -17,8 +18,8 @@ use Rattle.pe_base.specs.Walk.Laws.{IsCornerOf}
 use Rattle.pe_base.proofs.Lists.{Each, Each-all, Each-weaker, Each-map, Each-reverse, Each-filter, In, Each-In, In-map}
 use Rattle.pe_base.proofs.Tree.Mirrors.{Digits3, digit_lists_below}
 use Rattle.pe_base.proofs.Tree.Children.{child_of, children_are}
-use Rattle.pe_base.proofs.Tree.Ranks.{thirds-child, list_any-Each, and_left, and_right}
-use Rattle.pe_base.proofs.Steps.Counts.{OnGrid, true_eq, eq_true, eq_false}
+use Rattle.pe_base.proofs.Tree.Ranks.{thirds-child, list_any-Each}
+use Rattle.pe_base.proofs.Steps.Counts.{OnGrid}
 use Rattle.pe_base.proofs.Faces.Waits.{loads_touched}
 use Rattle.pe_base.proofs.Faces.Bridge.{on_grid}
 use Rattle.pe_base.proofs.Walk.CarrierLaws.{number_of, number_of-below, bits-number_of, carriers_are_parents}
@@ -27,13 +28,13 @@ use Rattle.pe_walk.proofs.Unwalked.{contains_in, in_contains, cell_four}
 use Rattle.pe_walk.proofs.Trees.{cell_position, root_is_cell}
 use Rattle.pe_walk.proofs.Steps.{corner_bits, order_on_grid}
 use Rattle.pe_walk.proofs.Tokens.Walks.{each_with}
-use Rattle.pe_walk.proofs.Tests.{or_either, or_right_true, all_of}
+use Rattle.pe_walk.proofs.Tests.{all_of}
 
 any_in : {X : Type 0} (p : X → Bool) (x : X) (xs : List X) → In x xs → p x ≡ true → list_any p xs ≡ true
 any_in p x [] i t = absurd (omega arith)
 any_in p x (y ∷ xs) i t = elim i [
   | inl e ↦ ap (λ b. b || list_any p xs) (sym (ap p e) ∙ t)
-  | inr j ↦ ap (λ b. p y || b) (any_in p x xs j t) ∙ or_right_true (p y) true refl
+  | inr j ↦ ap (λ b. p y || b) (any_in p x xs j t) ∙ or_right (p y) true refl
 ]
 
 pub each_all : {X : Type 0} (P : X → Type 0) (xs : List X) → Each P xs → All P xs
@@ -75,7 +76,7 @@ carriers_above axes way vertex dim on = Each-weaker _ _ (λ c i. found c i.0 i.1
     found c i t =
         let here : In c (order axes way c.level) = subst (λ n. In c (order axes way n)) (sym i.1.0) i.0 in
         let is = cell_position axes way c dim.1 (in_contains (order axes way c.level) c here) in
-        let bs = corner_bits axes c.pos vertex.pos (omega (arith, i.1.1)) (on.1 ∙ sym i.1.1) (on.2 ∙ sym i.1.2) (and_right (vertex.level == c.level) _ t) in
+        let bs = corner_bits axes c.pos vertex.pos (omega (arith, i.1.1)) (on.1 ∙ sym i.1.1) (on.2 ∙ sym i.1.2) (and_parts (vertex.level == c.level) _ t).1 in
         let k = number_of bs.0 in
         let same : corner axes c k ≡ vertex = ap₂ (λ n p. let v : Place = record { level = n; pos = p } in v) i.1.0 (ap (moved c.pos) (bits-number_of axes bs.0 bs.2) ∙ bs.3) in
         subst (λ v. Each (IsCornerOf axes (parent_of c)) (carriers v)) same (all_of (IsCornerOf axes (parent_of c)) (carriers (corner axes c k)) (carriers_are_parents axes c k dim (number_of-below axes bs.0 bs.2) is))
@@ -95,13 +96,13 @@ pub record Carried (axes greatest : ℕ) (counts active walks walked : Place →
 pub all_front : (p : ℕ → Bool) (n : ℕ) (pos : List ℕ) (i : ℕ) → list_all p (take n pos) ≡ true → i < n → i < length pos → p (slice_index pos i) ≡ true
 all_front p zero pos i h l m = absurd (omega arith)
 all_front p (suc n) [] i h l m = absurd (omega arith)
-all_front p (suc n) (x ∷ pos) zero h l m = and_left (p x) _ h
-all_front p (suc n) (x ∷ pos) (suc i) h l m = all_front p n pos i (and_right (p x) _ h) (omega arith) (omega arith)
+all_front p (suc n) (x ∷ pos) zero h l m = (and_parts (p x) _ h).0
+all_front p (suc n) (x ∷ pos) (suc i) h l m = all_front p n pos i (and_parts (p x) _ h).1 (omega arith) (omega arith)
 
 all_zero : (pos : List ℕ) (i : ℕ) → list_all (λ x. x == 0) pos ≡ true → slice_index pos i ≡ 0
 all_zero [] i h = refl
-all_zero (x ∷ pos) zero h = true_eq x 0 (and_left (x == 0) _ h)
-all_zero (x ∷ pos) (suc i) h = all_zero pos i (and_right (x == 0) _ h)
+all_zero (x ∷ pos) zero h = eqb-true x 0 (and_parts (x == 0) _ h).0
+all_zero (x ∷ pos) (suc i) h = all_zero pos i (and_parts (x == 0) _ h).1
 
 pub all_behind : (n : ℕ) (pos : List ℕ) (i : ℕ) → list_all (λ x. x == 0) (drop n pos) ≡ true → n ≤ i → slice_index pos i ≡ 0
 all_behind zero pos i h l = all_zero pos i h
@@ -113,15 +114,15 @@ all_behind (suc n) (x ∷ pos) (suc i) h l = all_behind n pos i h (omega arith)
 pub inside_place : (axes : ℕ) (vertex : Place) → axes ≤ 4 → is_inside axes vertex ≡ true → IsPosition axes (3 ^ vertex.level) vertex.pos × ((axis : ℕ) → axis < axes → 0 < slice_index vertex.pos axis)
 inside_place axes vertex four t =
     let between = λ (x : ℕ). nat_lt 0 x && nat_lt x (3 ^ vertex.level) in
-    let front : (length vertex.pos == 4 && list_all between (take axes vertex.pos)) ≡ true = and_left (length vertex.pos == 4 && list_all between (take axes vertex.pos)) _ t in
-    let long : length vertex.pos ≡ 4 = true_eq (length vertex.pos) 4 (and_left (length vertex.pos == 4) _ front) in
-    let at : (axis : ℕ) → axis < axes → between (slice_index vertex.pos axis) ≡ true = λ axis a. all_front between axes vertex.pos axis (and_right (length vertex.pos == 4) _ front) a (omega arith) in (
+    let front : (length vertex.pos == 4 && list_all between (take axes vertex.pos)) ≡ true = (and_parts (length vertex.pos == 4 && list_all between (take axes vertex.pos)) _ t).0 in
+    let long : length vertex.pos ≡ 4 = eqb-true (length vertex.pos) 4 (and_parts (length vertex.pos == 4) _ front).0 in
+    let at : (axis : ℕ) → axis < axes → between (slice_index vertex.pos axis) ≡ true = λ axis a. all_front between axes vertex.pos axis (and_parts (length vertex.pos == 4) _ front).1 a (omega arith) in (
       record {
         four = long;
-        inside = λ axis a. below (slice_index vertex.pos axis) (3 ^ vertex.level) (and_right (nat_lt 0 (slice_index vertex.pos axis)) _ (at axis a));
-        rest = λ axis a. all_behind axes vertex.pos axis (and_right (length vertex.pos == 4 && list_all between (take axes vertex.pos)) _ t) a;
+        inside = λ axis a. below (slice_index vertex.pos axis) (3 ^ vertex.level) (and_parts (nat_lt 0 (slice_index vertex.pos axis)) _ (at axis a)).1;
+        rest = λ axis a. all_behind axes vertex.pos axis (and_parts (length vertex.pos == 4 && list_all between (take axes vertex.pos)) _ t).1 a;
       },
-      (λ axis a. below 0 (slice_index vertex.pos axis) (and_left (nat_lt 0 (slice_index vertex.pos axis)) _ (at axis a))),
+      (λ axis a. below 0 (slice_index vertex.pos axis) (and_parts (nat_lt 0 (slice_index vertex.pos axis)) _ (at axis a)).0),
     )
   where
     below : (x y : ℕ) → nat_lt x y ≡ true → x < y
@@ -132,13 +133,13 @@ module _ (axes greatest : ℕ) (counts active walks walked : Place → Bool) (wa
   four = c.dim.1
 
   root_goes : (cell : Place) → cell.level ≡ 0 → walks cell ≡ true
-  root_goes cell e = c.walks_by cell ∙ ap (λ b. b || list_any active (corners axes cell)) (eq_true cell.level 0 e)
+  root_goes cell e = c.walks_by cell ∙ ap (λ b. b || list_any active (corners axes cell)) (eq-eqb cell.level 0 e)
 
   -- all cells around what counts are walked
   around_walked : (vertex : Place) → counts vertex ≡ true → Each (λ cell. walked cell ≡ true) (around axes way vertex)
   around_walked vertex h = elim (c.carrier vertex h) [
-    | inl e ↦ Each-weaker _ _ (λ cell i. c.walked_by cell ∙ or_right_true (cell.level == 0) _ (root_goes (parent_of cell) (omega (arith, i.0.0)))) (around axes way vertex) levels
-    | inr k ↦ Each-weaker _ _ (λ cell i. c.walked_by cell ∙ or_right_true (cell.level == 0) _ (c.walks_by (parent_of cell) ∙ or_right_true ((parent_of cell).level == 0) _
+    | inl e ↦ Each-weaker _ _ (λ cell i. c.walked_by cell ∙ or_right (cell.level == 0) _ (root_goes (parent_of cell) (omega (arith, i.0.0)))) (around axes way vertex) levels
+    | inr k ↦ Each-weaker _ _ (λ cell i. c.walked_by cell ∙ or_right (cell.level == 0) _ (c.walks_by (parent_of cell) ∙ or_right ((parent_of cell).level == 0) _
         (list_any-Each active (IsCornerOf axes (parent_of cell)) (list_any active (corners axes (parent_of cell)) ≡ true) (λ m a at. any_in active m (corners axes (parent_of cell))
         (subst (λ p. In p (corners axes (parent_of cell))) (sym at.2) (In-map (corner axes (parent_of cell)) at.0 (range_with_len 0 (2 ^ axes)) (in_range at.0 0 (2 ^ axes) (omega arith) (omega (arith, at.1))))) a)
         (carriers vertex) k.1 i))) (around axes way vertex) (carriers_above axes way vertex c.dim on)
@@ -154,15 +155,15 @@ module _ (axes greatest : ℕ) (counts active walks walked : Place → Bool) (wa
   below_it : (cell child : Place) → IsCell axes way cell → Contains (children axes way cell) child → walked child ≡ walks cell
   below_it cell child is_cell k =
       let kid = Each-In (λ p. (p.level ≡ cell.level + 1) × (parent_of p ≡ cell)) child (children axes way cell) (kids_parent axes way cell four (cell_four axes way cell four is_cell)) (contains_in (children axes way cell) child k) in
-      c.walked_by child ∙ ap₂ (λ b p. b || walks p) (eq_false child.level 0 (λ e. omega (arith, e, kid.0))) kid.1
+      c.walked_by child ∙ ap₂ (λ b p. b || walks p) (ne_eqb child.level 0 (λ e. omega (arith, e, kid.0))) kid.1
 
   active_corner : (cell : Place) → walks cell ≡ true → (cell.level ≡ 0) ⊎ (list_any active (corners axes cell) ≡ true)
-  active_corner cell t = elim (or_either (cell.level == 0) (list_any active (corners axes cell)) (sym (c.walks_by cell) ∙ t)) [ inl e ↦ inl (true_eq cell.level 0 e) | inr e ↦ inr e ]
+  active_corner cell t = elim (or_cases (cell.level == 0) (list_any active (corners axes cell)) (sym (c.walks_by cell) ∙ t)) [ inl e ↦ inl (eqb-true cell.level 0 e) | inr e ↦ inr e ]
 
   -- a cell below which the walk goes on is walked
   goes_walked : (cell : Place) → IsCell axes way cell → walks cell ≡ true → walked cell ≡ true
   goes_walked cell is_cell t = elim (active_corner cell t) [
-    | inl e ↦ c.walked_by cell ∙ ap (λ b. b || walks (parent_of cell)) (eq_true cell.level 0 e)
+    | inl e ↦ c.walked_by cell ∙ ap (λ b. b || walks (parent_of cell)) (eq-eqb cell.level 0 e)
     | inr a ↦ list_any-Each active (λ q. (q.level ≡ cell.level) × In cell (around axes way q)) (walked cell ≡ true)
         (λ q is at. Each-In (λ p. walked p ≡ true) cell (around axes way q) (around_walked q (c.active_counts q is)) at.1) (corners axes cell) a (around_corners axes way cell four is_cell)
   ]

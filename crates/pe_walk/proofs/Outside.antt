@@ -1,5 +1,6 @@
 -- Faces to earlier cells, to later ones, and on the boundary of the root.
 use Rattle.std.proofs.Common.{◌≡◌, ℕ, zero, suc, ◌+◌, ◌<◌, ◌≤◌, Bool, true, List, [], ◌∷◌, length, get_or, refl, sym, ap₂, ◌∙◌, subst, inl, inr, arith}
+use Rattle.std.proofs.lemmas.Bool.{and_parts}
 use Rattle.pe_base.specs.declared.place.Place.{Place}
 use Rattle.pe_base.specs.declared.way.Way.{Way}
 use Rattle.pe_base.specs.Tree.Ways.{opposite}
@@ -11,7 +12,7 @@ use Rattle.pe_base.proofs.Lists.{Each, Each-weaker, Each-map, Each-flat_map, Eac
 use Rattle.pe_base.proofs.Tree.Mirrors.{Digits3, digit_lists_below}
 use Rattle.pe_base.proofs.Tree.Children.{child_of, children_are}
 use Rattle.pe_base.proofs.Faces.FaceLists.{is_child_at, leaving_is}
-use Rattle.pe_base.proofs.Tree.Ranks.{thirds, Rising, OnLevel, order_on_level, thirds-child, steps_within, list_any-Each, is_same-true, and_left, and_right}
+use Rattle.pe_base.proofs.Tree.Ranks.{thirds, Rising, OnLevel, order_on_level, thirds-child, steps_within, list_any-Each, is_same-true, same_places}
 use Rattle.pe_base.proofs.Faces.Quiet.{across_child, at_face_none, false_unless}
 use Rattle.pe_walk.specs.Laws.{ComesBefore}
 
@@ -65,17 +66,14 @@ pub step_in : (axes : ℕ) (way : Way) (vertex a b : Place) → is_step axes way
 step_in axes way vertex a b t =
     let cells = order axes way vertex.level in
     list_any-Each _ (λ s. In s.0 cells × In s.1 cells) (In a cells × In b cells)
-    (λ s e w. (subst (λ p. In p cells) (same s.0 a (and_left (is_same s.0 a) (is_same s.1 b) e)) w.0, subst (λ p. In p cells) (same s.1 b (and_right (is_same s.0 a) (is_same s.1 b) e)) w.1))
+    (λ s e w. (subst (λ p. In p cells) (same_places s.0 a (and_parts (is_same s.0 a) (is_same s.1 b) e).0) w.0, subst (λ p. In p cells) (same_places s.1 b (and_parts (is_same s.0 a) (is_same s.1 b) e).1) w.1))
     (steps (around axes way vertex)) t (steps_within (λ p. In p cells) (around axes way vertex)
     (Each-weaker _ (λ p. In p cells) (λ p h. h.0) (around axes way vertex) (Each-filter (λ p. In p cells) (is_corner vertex) cells (each_itself cells))))
-  where
-    same : (x y : Place) → is_same x y ≡ true → x ≡ y
-    same x y e = let k = is_same-true x y e in ap₂ (λ l p. let v : Place = record { level = l; pos = p } in v) k.0 k.1
 
 pub outside_arriving : (axes : ℕ) (way : Way) (counts : Place → Bool) (levels : ℕ) (face : Face) (cell : Place) → axes ≤ 4 → face.axis < axes → face.side < 2 → length cell.pos ≡ 4 → NoneAcross axes way face cell.level cell
     → arriving axes way counts levels face cell ≡ []
 outside_arriving axes way counts levels face cell four a b l none = at_face_none axes way (comes_across axes way counts face) face (λ level c. (c.level ≡ level) × NoneAcross axes way face level c)
-    (λ level c v on q. false_unless _ (λ t. q.1 (subst (λ n. In (across face c) (order axes way n)) on (step_in axes way v (across face c) c (and_right (counts v) _ t)).0)))
+    (λ level c v on q. false_unless _ (λ t. q.1 (subst (λ n. In (across face c) (order axes way n)) on (step_in axes way v (across face c) c (and_parts (counts v) _ t).1).0)))
     (λ level c ts k d at q. (omega (arith, q.0), none_child axes way way face level c ts four a b q.0 k d at q.1))
     four a b (cell.level + levels) levels cell.level cell refl l refl (refl, none)
 
@@ -83,6 +81,6 @@ pub outside_leaving : (axes : ℕ) (way : Way) (counts : Place → Bool) (levels
     → leaving axes way counts levels face cell ≡ []
 outside_leaving axes way counts levels face cell four a b l none = leaving_is axes way counts levels face cell
     ∙ at_face_none axes (opposite way) (goes_across axes way counts face) face (λ level c. (c.level ≡ level) × NoneAcross axes way face level c)
-    (λ level c v on q. false_unless _ (λ t. q.1 (subst (λ n. In (across face c) (order axes way n)) on (step_in axes way v c (across face c) (and_right (counts v) _ t)).1)))
+    (λ level c v on q. false_unless _ (λ t. q.1 (subst (λ n. In (across face c) (order axes way n)) on (step_in axes way v c (across face c) (and_parts (counts v) _ t).1).1)))
     (λ level c ts k d at q. (omega (arith, q.0), none_child axes way (opposite way) face level c ts four a b q.0 k d at q.1))
     four a b (cell.level + levels) levels cell.level cell refl l refl (refl, none)

@@ -3,6 +3,7 @@ use Rattle.std.proofs.Common.{◌≡◌, ℕ, zero, suc, ◌+◌, ◌-◌, ◌^�
 use Rattle.std.specs.List.{Contains}
 use Rattle.std.proofs.lemmas.List.{get_or-set_same}
 use Rattle.std.proofs.lemmas.Bool.Decides.{nat_tests}
+use Rattle.std.proofs.lemmas.Bool.{and_parts, eq-eqb}
 use Rattle.pe_base.specs.declared.place.Place.{Place}
 use Rattle.pe_base.specs.declared.way.Way.{Way}
 use Rattle.pe_base.specs.Tree.Places.{IsInside, moved}
@@ -13,7 +14,7 @@ use Rattle.pe_base.specs.Steps.Faces.{Face, Touch, beside, across, is_step, corn
 use Rattle.pe_base.proofs.Lists.{Each, Each-all, Each-weaker, Each-filter, In, In-map, In-flat_map, In-filter, In-reverse, Each-In, Each-flat_map, Each-reverse}
 use Rattle.pe_base.proofs.Tree.Corners.{IsBits, bit_lists, own_corners, slice_index-moved}
 use Rattle.pe_base.proofs.Faces.FaceLists.{face_of, up_cell, across-up, leaving_is}
-use Rattle.pe_base.proofs.Tree.Ranks.{OnLevel, order_on_level, and_left, and_right}
+use Rattle.pe_base.proofs.Tree.Ranks.{OnLevel, order_on_level}
 use Rattle.pe_base.proofs.Steps.Counts.{OnGrid, root_on_grid, children_on_grid}
 use Rattle.pe_base.proofs.Steps.RouteLaws.{within_cube, step_neighbours}
 use Rattle.pe_walk.specs.Laws.{Crosses}
@@ -34,10 +35,10 @@ corner_bits zero pos q l m e t = ([], inl refl, tt, plain pos ∙ sym e)
 corner_bits (suc n) [] q l m e t = absurd (omega arith)
 corner_bits (suc n) (x ∷ pos) [] l m e t = absurd (omega arith)
 corner_bits (suc n) (x ∷ pos) (y ∷ q) l m e t =
-    let rest = corner_bits n pos q (omega arith) (omega arith) e (and_right (y == x || y == x + 1) _ t) in
+    let rest = corner_bits n pos q (omega arith) (omega arith) e (and_parts (y == x || y == x + 1) _ t).1 in
     let put : (b : ℕ) → b < 2 → In (b ∷ rest.0) ((0 ∷ rest.0) ∷ (1 ∷ rest.0) ∷ []) → y ≡ x + b → (bs : List ℕ) × In bs (bit_lists (suc n)) × IsBits (suc n) bs × (moved (x ∷ pos) bs ≡ y ∷ q) =
     λ b h i is. (b ∷ rest.0, In-flat_map (λ bs. (0 ∷ bs) ∷ (1 ∷ bs) ∷ []) rest.0 (b ∷ rest.0) (bit_lists n) rest.1 i, (h, rest.2), ap₂ (λ z zs. z ∷ zs) (sym is) rest.3) in
-    elim (near_far y x (and_left (y == x || y == x + 1) _ t)) [
+    elim (near_far y x (and_parts (y == x || y == x + 1) _ t).0) [
       | inl is ↦ put 0 (omega arith) (inl refl) (omega arith)
       | inr is ↦ put 1 (omega arith) (inr (inl refl)) is
     ]
@@ -106,7 +107,7 @@ own_contains : (axes : ℕ) (test : Touch → Bool) (axis side : ℕ) (cell vert
     → slice_index vertex.pos axis ≡ slice_index cell.pos axis + side → test (record { vertex = vertex; cell = cell }) ≡ true
     → In vertex (at_face test (cell.level + 0) (face_of axis side) cell (reverse (corner_touches axes cell)))
 own_contains axes test axis side cell vertex four a v c corner plane passes =
-    let bits = corner_bits axes cell.pos vertex.pos (omega (arith, c.1)) (v.1 ∙ sym c.1) (v.2 ∙ sym c.2) (and_right (vertex.level == cell.level) _ corner) in
+    let bits = corner_bits axes cell.pos vertex.pos (omega (arith, c.1)) (v.1 ∙ sym c.1) (v.2 ∙ sym c.2) (and_parts (vertex.level == cell.level) _ corner).1 in
     let place = λ (pos : List ℕ). let k : Place = record { level = cell.level; pos = pos } in k in
     let found = λ (bs : List ℕ). slice_index bs axis == side in
     let is : place (moved cell.pos bits.0) ≡ vertex = ap₂ (λ n p. let k : Place = record { level = n; pos = p } in k) c.0 bits.3 in
@@ -114,23 +115,20 @@ own_contains axes test axis side cell vertex four a v c corner plane passes =
     subst (In vertex) (sym (own_corners axes test (cell.level + 0) axis side cell four a (omega (arith, c.1))))
     (In-reverse vertex _ (In-filter _ vertex _ passes
     (subst (λ k. In k (map place (map (moved cell.pos) (filter found (bit_lists axes))))) is
-    (In-map place (moved cell.pos bits.0) _ (In-map (moved cell.pos) bits.0 _ (In-filter found bits.0 (bit_lists axes) (same_true _ _ bit) bits.1))))))
-  where
-    same_true : (x y : ℕ) → x ≡ y → (x == y) ≡ true
-    same_true x y h = grind (arith, nat_tests)
+    (In-map place (moved cell.pos bits.0) _ (In-map (moved cell.pos) bits.0 _ (In-filter found bits.0 (bit_lists axes) (eq-eqb _ _ bit) bits.1))))))
 
 -- the coordinate of the plane between two cells of a step
 between : (axis side : ℕ) (vertex a b : Place) → side < 2 → axis < length a.pos → axis < length b.pos → ShareFace (face_of axis side) a b → is_corner vertex a ≡ true → is_corner vertex b ≡ true
     → (slice_index vertex.pos axis ≡ slice_index a.pos axis + side) × (slice_index vertex.pos axis ≡ slice_index b.pos axis + (1 - side))
 between axis zero vertex a b s la lb share ca cb =
     let e : slice_index a.pos axis ≡ slice_index b.pos axis + 1 = ap (λ p. slice_index p.pos axis) (sym share.1) ∙ get_or-set_same b.pos axis (slice_index b.pos axis + 1) 0 lb in
-    let x = corner_coordinate axis vertex.pos a.pos la (and_right (vertex.level == a.level) _ ca) in
-    let y = corner_coordinate axis vertex.pos b.pos lb (and_right (vertex.level == b.level) _ cb) in
+    let x = corner_coordinate axis vertex.pos a.pos la (and_parts (vertex.level == a.level) _ ca).1 in
+    let y = corner_coordinate axis vertex.pos b.pos lb (and_parts (vertex.level == b.level) _ cb).1 in
     (omega (arith, e, x.0, x.1, y.0, y.1), omega (arith, e, x.0, x.1, y.0, y.1))
 between axis (suc zero) vertex a b s la lb share ca cb =
     let e : slice_index b.pos axis ≡ slice_index a.pos axis + 1 = ap (λ p. slice_index p.pos axis) (sym share.0) ∙ get_or-set_same a.pos axis (slice_index a.pos axis + 1) 0 la in
-    let x = corner_coordinate axis vertex.pos a.pos la (and_right (vertex.level == a.level) _ ca) in
-    let y = corner_coordinate axis vertex.pos b.pos lb (and_right (vertex.level == b.level) _ cb) in
+    let x = corner_coordinate axis vertex.pos a.pos la (and_parts (vertex.level == a.level) _ ca).1 in
+    let y = corner_coordinate axis vertex.pos b.pos lb (and_parts (vertex.level == b.level) _ cb).1 in
     (omega (arith, e, x.0, x.1, y.0, y.1), omega (arith, e, x.0, x.1, y.0, y.1))
 between axis (suc (suc side)) vertex a b s la lb share ca cb = absurd (omega arith)
 
@@ -167,10 +165,10 @@ pub in_corners_only : (axes : ℕ) (way : Way) (counts : Place → Bool) (face :
     → (counts vertex ≡ true) × (is_step axes way vertex (across face cell) cell ≡ true)
 in_corners_only axes way counts face cell vertex four is_face l c =
     let t = own_only axes (comes_across axes way counts face) face cell vertex four is_face l (contains_in (in_corners axes way counts face cell) vertex c) in
-    (and_left (counts vertex) _ t, and_right (counts vertex) _ t)
+    ((and_parts (counts vertex) _ t).0, (and_parts (counts vertex) _ t).1)
 
 pub out_corners_only : (axes : ℕ) (way : Way) (counts : Place → Bool) (face : Face) (cell vertex : Place) → axes ≤ 4 → IsFace axes face → length cell.pos ≡ 4 → Contains (out_corners axes way counts face cell) vertex
     → (counts vertex ≡ true) × (is_step axes way vertex cell (across face cell) ≡ true)
 out_corners_only axes way counts face cell vertex four is_face l c =
     let t = own_only axes (goes_across axes way counts face) face cell vertex four is_face l (subst (In vertex) (leaving_is axes way counts 0 face cell) (contains_in (out_corners axes way counts face cell) vertex c)) in
-    (and_left (counts vertex) _ t, and_right (counts vertex) _ t)
+    ((and_parts (counts vertex) _ t).0, (and_parts (counts vertex) _ t).1)

@@ -4,6 +4,7 @@ use Rattle.std.specs.Prelude.{is_some, is_none, nat_lt, if◌then◌else◌}
 use Rattle.std.specs.Option.{option_map, unwrap_or}
 use Rattle.std.specs.List.{list_any, list_all}
 use Rattle.std.proofs.lemmas.Bool.Decides.{nat_tests}
+use Rattle.std.proofs.lemmas.Bool.{and_parts, eq-eqb, ne_eqb, eqb-true, and_right, or_right}
 use Rattle.pe_base.specs.declared.place.Place.{Place}
 use Rattle.pe_base.specs.declared.way.Way.TheVariants.{Forward, Inverted}
 use Rattle.pe_base.specs.declared.state.State.{State}
@@ -23,8 +24,6 @@ use Rattle.pe_base.specs.Walk.Grids.{Grid, StoredVertex, state_in, is_cell, is_r
 use Rattle.pe_base.specs.Walk.Streams.{goes_below, next_way, stream_vertices, stream_cells, walked_loads, walked_cells, is_first}
 use Rattle.pe_base.specs.Walk.Foreseen.{next_traversal, was, will, will_on, touched_state, old_foreseen, new_foreseen, below, walks, walked}
 use Rattle.pe_base.proofs.Lists.{Each, Each-all, Each-weaker, filter_same, filter_none}
-use Rattle.pe_base.proofs.Tree.Ranks.{and_right}
-use Rattle.pe_base.proofs.Steps.Counts.{true_eq, eq_true, eq_false}
 use Rattle.pe_walk.specs.Tokens.{turned}
 use Rattle.pe_walk.specs.Takings.{loads_of, is_read, reads_of, writes_of, cell_reads_of, cell_writes_of, Grown}
 use Rattle.pe_walk.specs.Outlooks.{was_stored, outlook, stored_outlook, stored_walked, IsNew}
@@ -35,7 +34,7 @@ use Rattle.pe_walk.proofs.Trees.{cell_position}
 use Rattle.pe_walk.proofs.Forecasts.{Sound, formed, fresh, old_stored, forecast_grown, forecast_fits, stored_grown, carrier_levels, two_or_deeper}
 use Rattle.pe_walk.proofs.Tokens.Turning.{writes-turned, cell_writes-turned}
 use Rattle.pe_walk.proofs.Tokens.Streams.{fits_turned, streams_are_one}
-use Rattle.pe_walk.proofs.Tests.{or_right_true, and_twice}
+use Rattle.pe_walk.proofs.Tests.{and_twice}
 
 -- the streams of a grid are what a walk with no events reads
 stream_reads : (grid : Grid) (swapped : Bool) → reads_of (stored_outlook grid swapped) grid.greatest root ≡ stream_vertices grid
@@ -44,7 +43,7 @@ stream_reads grid swapped = ap (map (λ t. t.vertex)) (filter_same (is_read (sto
 
 -- the test of a cell, at a cell of the tree
 pub cell_test : (axes : ℕ) (cell : Place) → IsPosition axes (3 ^ cell.level) cell.pos → is_cell axes cell ≡ not (cell.level == 0)
-cell_test axes cell is = ap₂ (λ x y. ((nat_lt 0 cell.level && x) && y) && list_all (λ z. z == 0) (drop axes cell.pos)) (eq_true (length cell.pos) 4 is.four) (front axes cell.pos (λ i h l. is.inside i h))
+cell_test axes cell is = ap₂ (λ x y. ((nat_lt 0 cell.level && x) && y) && list_all (λ z. z == 0) (drop axes cell.pos)) (eq-eqb (length cell.pos) 4 is.four) (front axes cell.pos (λ i h l. is.inside i h))
     ∙ ap (λ z. ((nat_lt 0 cell.level && true) && true) && z) (behind axes cell.pos is.rest) ∙ plain (nat_lt 0 cell.level) ∙ above cell.level
   where
     front : (n : ℕ) (pos : List ℕ) → ((i : ℕ) → i < n → i < length pos → slice_index pos i < 3 ^ cell.level) → list_all (λ x. nat_lt x (3 ^ cell.level)) (take n pos) ≡ true
@@ -57,7 +56,7 @@ cell_test axes cell is = ap₂ (λ x y. ((nat_lt 0 cell.level && x) && y) && lis
 
     zeros : (pos : List ℕ) → ((i : ℕ) → slice_index pos i ≡ 0) → list_all (λ z. z == 0) pos ≡ true
     zeros [] h = refl
-    zeros (x ∷ pos) h = ap₂ (λ a b. a && b) (eq_true x 0 (h 0)) (zeros pos (λ i. h (suc i)))
+    zeros (x ∷ pos) h = ap₂ (λ a b. a && b) (eq-eqb x 0 (h 0)) (zeros pos (λ i. h (suc i)))
 
     behind : (n : ℕ) (pos : List ℕ) → ((i : ℕ) → n ≤ i → slice_index pos i ≡ 0) → list_all (λ z. z == 0) (drop n pos) ≡ true
     behind zero pos h = zeros pos (λ i. h i (omega arith))
@@ -79,8 +78,8 @@ next_way_of : (n : ℕ) → opposite (way_of n) ≡ way_of (n + 1)
 next_way_of n = go (n % 2 == 1) (n % 2) (omega arith) refl
   where
     go : (b : Bool) (r : ℕ) → r ≡ n % 2 → (n % 2 == 1) ≡ b → opposite (if b then Forward else Inverted) ≡ way_of (n + 1)
-    go true r k e = let odd : n % 2 ≡ 1 = true_eq (n % 2) 1 e in ap (λ b. if b then Forward else Inverted) (sym (eq_false ((n + 1) % 2) 1 (λ h. omega (arith, h, odd))))
-    go false r k e = let even : n % 2 ≢ 1 = (λ h. true≢false (sym (eq_true (n % 2) 1 h) ∙ e)) in ap (λ b. if b then Forward else Inverted) (sym (eq_true ((n + 1) % 2) 1 (omega (arith, two n even))))
+    go true r k e = let odd : n % 2 ≡ 1 = eqb-true (n % 2) 1 e in ap (λ b. if b then Forward else Inverted) (sym (ne_eqb ((n + 1) % 2) 1 (λ h. omega (arith, h, odd))))
+    go false r k e = let even : n % 2 ≢ 1 = (λ h. true≢false (sym (eq-eqb (n % 2) 1 h) ∙ e)) in ap (λ b. if b then Forward else Inverted) (sym (eq-eqb ((n + 1) % 2) 1 (omega (arith, two n even))))
       where
         two : (m : ℕ) → m % 2 ≢ 1 → m % 2 ≡ 0
         two m h = grind arith
@@ -134,19 +133,19 @@ first_dying Erasing = refl
 
 -- a stored cell is walked by the walk with no events
 pub stored_is_walked : (grid : Grid) → IsWellFormed grid → (cell : Place) → is_some (at grid.cells cell) ≡ true → stored_walked grid cell ≡ true
-stored_is_walked grid is cell t = or_right_true (cell.level == 0) _ (go (cell.level == 1) refl (and_right (is_cell grid.axes cell) _ (sym (is.cells cell) ∙ t)))
+stored_is_walked grid is cell t = or_right (cell.level == 0) _ (go (cell.level == 1) refl (and_parts (is_cell grid.axes cell) _ (sym (is.cells cell) ∙ t)).1)
   where
     go : (b : Bool) → (cell.level == 1) ≡ b → (b || is_refined_cell grid.axes (state_in grid) (parent_of cell)) ≡ true → goes_below grid (parent_of cell) ≡ true
-    go true e h = let one : cell.level ≡ 1 = true_eq cell.level 1 e in ap (λ b. b || is_refined_cell grid.axes (state_in grid) (parent_of cell)) (eq_true (cell.level - 1) 0 (omega (arith, one)))
-    go false e h = or_right_true ((parent_of cell).level == 0) _ h
+    go true e h = let one : cell.level ≡ 1 = eqb-true cell.level 1 e in ap (λ b. b || is_refined_cell grid.axes (state_in grid) (parent_of cell)) (eq-eqb (cell.level - 1) 0 (omega (arith, one)))
+    go false e h = or_right ((parent_of cell).level == 0) _ h
 
 module _ (start_level : ℕ) (grid : Grid) (low : start_level ≤ grid.greatest) (sound : Sound grid) where
   -- a kind of children, for cells below level 0
   below_deep : (cell : Place) → cell.level ≢ 0 → below start_level grid cell ≡ kind_from (list_any (old_foreseen start_level grid) (corners grid.axes cell)) (list_any (new_foreseen start_level grid) (corners grid.axes cell))
-  below_deep cell h = ap (λ b. if b then (if next_traversal grid == 1 then Born else Kept) else kind_from (list_any (old_foreseen start_level grid) (corners grid.axes cell)) (list_any (new_foreseen start_level grid) (corners grid.axes cell))) (eq_false cell.level 0 h)
+  below_deep cell h = ap (λ b. if b then (if next_traversal grid == 1 then Born else Kept) else kind_from (list_any (old_foreseen start_level grid) (corners grid.axes cell)) (list_any (new_foreseen start_level grid) (corners grid.axes cell))) (ne_eqb cell.level 0 h)
 
   below_root : (cell : Place) → cell.level ≡ 0 → below start_level grid cell ≡ (if next_traversal grid == 1 then Born else Kept)
-  below_root cell h = ap (λ b. if b then (if next_traversal grid == 1 then Born else Kept) else kind_from (list_any (old_foreseen start_level grid) (corners grid.axes cell)) (list_any (new_foreseen start_level grid) (corners grid.axes cell))) (eq_true cell.level 0 h)
+  below_root cell h = ap (λ b. if b then (if next_traversal grid == 1 then Born else Kept) else kind_from (list_any (old_foreseen start_level grid) (corners grid.axes cell)) (list_any (new_foreseen start_level grid) (corners grid.axes cell))) (eq-eqb cell.level 0 h)
 
   old_refined : (cell : Place) → list_any (old_foreseen start_level grid) (corners grid.axes cell) ≡ is_refined_cell grid.axes (state_in grid) cell
   old_refined cell = any_same (old_foreseen start_level grid) (λ v. passes is_old (state_in grid v)) (corners grid.axes cell) (Each-all _ (λ v. old_stored start_level grid low sound v) (corners grid.axes cell))
@@ -160,10 +159,10 @@ module _ (start_level : ℕ) (grid : Grid) (low : start_level ≤ grid.greatest)
     where
       deeper : cell.level ≢ 0 → (b : Bool) → (cell.level == 1) ≡ b → was_stored (below start_level grid (parent_of cell)) ≡ (b || is_refined_cell grid.axes (state_in grid) (parent_of cell))
       deeper h true e =
-          let one : cell.level ≡ 1 = true_eq cell.level 1 e in
-          ap was_stored (below_root (parent_of cell) (omega (arith, one)) ∙ ap (λ b. if b then Born else Kept) (eq_false (next_traversal grid) 1 (λ k. omega (arith, k, is.finished))))
+          let one : cell.level ≡ 1 = eqb-true cell.level 1 e in
+          ap was_stored (below_root (parent_of cell) (omega (arith, one)) ∙ ap (λ b. if b then Born else Kept) (ne_eqb (next_traversal grid) 1 (λ k. omega (arith, k, is.finished))))
       deeper h false e =
-          let two : cell.level ≢ 1 = (λ k. true≢false (sym (eq_true cell.level 1 k) ∙ e)) in
+          let two : cell.level ≢ 1 = (λ k. true≢false (sym (eq-eqb cell.level 1 k) ∙ e)) in
           ap was_stored (below_deep (parent_of cell) (far cell.level h two))
           ∙ was_kind (list_any (old_foreseen start_level grid) (corners grid.axes (parent_of cell))) (list_any (new_foreseen start_level grid) (corners grid.axes (parent_of cell)))
           ∙ old_refined (parent_of cell)
@@ -173,7 +172,7 @@ module _ (start_level : ℕ) (grid : Grid) (low : start_level ≤ grid.greatest)
 
       by_level : (b : Bool) → (cell.level == 0) ≡ b → (not b && was_stored (below start_level grid (parent_of cell))) ≡ (not (cell.level == 0) && (cell.level == 1 || is_refined_cell grid.axes (state_in grid) (parent_of cell)))
       by_level true e = ap (λ b. not b && (cell.level == 1 || is_refined_cell grid.axes (state_in grid) (parent_of cell))) (sym e)
-      by_level false e = deeper (λ k. true≢false (sym (eq_true cell.level 0 k) ∙ e)) (cell.level == 1) refl
+      by_level false e = deeper (λ k. true≢false (sym (eq-eqb cell.level 0 k) ∙ e)) (cell.level == 1) refl
           ∙ ap (λ b. not b && (cell.level == 1 || is_refined_cell grid.axes (state_in grid) (parent_of cell))) (sym e)
 
   reads_are : (swapped : Bool) → IsWellFormed grid → (reads_of (outlook start_level grid swapped) grid.greatest root ≡ stream_vertices grid) × (cell_reads_of (outlook start_level grid swapped) grid.greatest root ≡ stream_cells grid)
@@ -185,7 +184,7 @@ module _ (start_level : ℕ) (grid : Grid) (low : start_level ≤ grid.greatest)
         way = refl;
         vertices = λ v. counts_was (was start_level grid v) (will start_level grid v);
         cells = λ c i. cells_read is c (cell_position grid.axes (way_of (next_traversal grid)) c sound.dim.1 i);
-        cells_walked = λ c i t. or_right_true (c.level == 0) _ (was_not_hanging (below start_level grid (parent_of c)) (and_right (not (c.level == 0)) _ t));
+        cells_walked = λ c i t. or_right (c.level == 0) _ (was_not_hanging (below start_level grid (parent_of c)) (and_parts (not (c.level == 0)) _ t).1);
         also_cells_walked = λ c i t. stored_is_walked grid is c t;
       }) in (both.0 ∙ stream_reads grid swapped, both.1)
 
@@ -218,7 +217,7 @@ module _ (start_level : ℕ) (grid : Grid) (low : start_level ≤ grid.greatest)
 
         go : (n : ℕ) → vertex.level ≡ n → will_on start_level grid n vertex ≡ (is_inside grid.axes vertex && (vertex.level == 1 || list_any (λ m. passes is_old (state_in next m)) (carriers vertex)))
         go zero e = ap (λ b. b && (vertex.level == 1 || list_any (λ m. passes is_old (state_in next m)) (carriers vertex))) (sym (no_level e (is_inside grid.axes vertex) refl))
-        go (suc zero) e = plain (is_inside grid.axes vertex) ∙ ap (λ b. is_inside grid.axes vertex && (b || list_any (λ m. passes is_old (state_in next m)) (carriers vertex))) (sym (eq_true vertex.level 1 e))
+        go (suc zero) e = plain (is_inside grid.axes vertex) ∙ ap (λ b. is_inside grid.axes vertex && (b || list_any (λ m. passes is_old (state_in next m)) (carriers vertex))) (sym (eq-eqb vertex.level 1 e))
           where
             plain : (b : Bool) → b ≡ (b && true)
             plain true = refl
@@ -226,7 +225,7 @@ module _ (start_level : ℕ) (grid : Grid) (low : start_level ≤ grid.greatest)
         go (suc (suc n)) e =
             ap (λ b. is_inside grid.axes vertex && b) (any_same (λ m. is_new (touched_state start_level grid (kind_from (was start_level grid m) (will_on start_level grid (suc n) m)) m)) (λ m. passes is_old (state_in next m)) (carriers vertex)
             (Each-weaker _ _ (λ m level. ap (λ k. is_new (touched_state start_level grid (kind_from (was start_level grid m) (will_on start_level grid k m)) m)) (let same : suc n ≡ m.level = omega (arith, level, e) in same) ∙ sym (turned_new m)) (carriers vertex) (carrier_levels start_level grid low sound vertex)))
-            ∙ ap (λ b. is_inside grid.axes vertex && (b || list_any (λ m. passes is_old (state_in next m)) (carriers vertex))) (sym (eq_false vertex.level 1 (λ k. omega (arith, k, e))))
+            ∙ ap (λ b. is_inside grid.axes vertex && (b || list_any (λ m. passes is_old (state_in next m)) (carriers vertex))) (sym (ne_eqb vertex.level 1 (λ k. omega (arith, k, e))))
 
     -- a cell is stored where its parent has a refined corner
     stored_cell_next : (cell : Place) → (is_cell grid.axes cell && is_stored (below start_level grid (parent_of cell))) ≡ is_stored_cell grid.axes (state_in next) cell
@@ -245,15 +244,15 @@ module _ (start_level : ℕ) (grid : Grid) (low : start_level ≤ grid.greatest)
         by_level : (a : Bool) → (cell.level == 0) ≡ a → (b : Bool) → (cell.level == 1) ≡ b
             → (is_cell grid.axes cell && is_stored (below start_level grid (parent_of cell))) ≡ (is_cell grid.axes cell && (cell.level == 1 || is_refined_cell grid.axes (state_in next) (parent_of cell)))
         by_level true e b f =
-            let none = no_cell (true_eq cell.level 0 e) in
+            let none = no_cell (eqb-true cell.level 0 e) in
             ap (λ x. x && is_stored (below start_level grid (parent_of cell))) none ∙ ap (λ x. x && (cell.level == 1 || is_refined_cell grid.axes (state_in next) (parent_of cell))) (sym none)
         by_level false e true f =
-            let one : cell.level ≡ 1 = true_eq cell.level 1 f in
+            let one : cell.level ≡ 1 = eqb-true cell.level 1 f in
             ap (λ x. is_cell grid.axes cell && x) (ap is_stored (below_root (parent_of cell) (omega (arith, one))) ∙ by_kind (next_traversal grid == 1)
             ∙ ap (λ b. b || is_refined_cell grid.axes (state_in next) (parent_of cell)) (sym f))
         by_level false e false f =
             ap (λ x. is_cell grid.axes cell && x)
-            (ap is_stored (below_deep (parent_of cell) (far cell.level (λ k. true≢false (sym (eq_true cell.level 0 k) ∙ e)) (λ k. true≢false (sym (eq_true cell.level 1 k) ∙ f))))
+            (ap is_stored (below_deep (parent_of cell) (far cell.level (λ k. true≢false (sym (eq-eqb cell.level 0 k) ∙ e)) (λ k. true≢false (sym (eq-eqb cell.level 1 k) ∙ f))))
             ∙ stored_kind (list_any (old_foreseen start_level grid) (corners grid.axes (parent_of cell))) (list_any (new_foreseen start_level grid) (corners grid.axes (parent_of cell)))
             ∙ sym (refined_next (parent_of cell)) ∙ ap (λ b. b || is_refined_cell grid.axes (state_in next) (parent_of cell)) (sym f))
 
@@ -279,7 +278,7 @@ module _ (start_level : ℕ) (grid : Grid) (low : start_level ≤ grid.greatest)
           way = next_way_of (next_traversal grid) ∙ ap (λ n. way_of (n + 1)) (sym is.finished);
           vertices = λ v. counts_will (was start_level grid v) (will start_level grid v) ∙ ap (λ b. b && b) (sym (is.vertices v));
           cells = λ c i. ap (λ b. b && is_stored (below start_level grid (parent_of c))) (sym (cell_test grid.axes c (cell_position grid.axes (opposite (way_of (next_traversal grid))) c sound.dim.1 i))) ∙ sym (is.cells c);
-          cells_walked = λ c i t. or_right_true (c.level == 0) _ (stored_not_hanging (below start_level grid (parent_of c)) (and_right (not (c.level == 0)) _ t));
+          cells_walked = λ c i t. or_right (c.level == 0) _ (stored_not_hanging (below start_level grid (parent_of c)) (and_parts (not (c.level == 0)) _ t).1);
           also_cells_walked = λ c i t. stored_is_walked next next_formed c t;
         }) in (
           writes-turned o grid.greatest root sound.dim.1 ∙ both.0 ∙ ap (λ n. reads_of p n root) (sym is.greatest) ∙ stream_reads next swapped,
@@ -305,13 +304,9 @@ module _ (start_level : ℕ) (grid : Grid) (low : start_level ≤ grid.greatest)
   never_was cell = go (cell.level == 0) refl
     where
       go : (b : Bool) → (cell.level == 0) ≡ b → was_stored (below start_level grid cell) ≡ false
-      go true e = ap was_stored (below_root start_level grid low (fresh grid new) cell (true_eq cell.level 0 e) ∙ ap (λ b. if b then Born else Kept) (eq_true (next_traversal grid) 1 (omega (arith, new.unfinished))))
-      go false e = ap was_stored (below_deep start_level grid low (fresh grid new) cell (λ k. true≢false (sym (eq_true cell.level 0 k) ∙ e)))
+      go true e = ap was_stored (below_root start_level grid low (fresh grid new) cell (eqb-true cell.level 0 e) ∙ ap (λ b. if b then Born else Kept) (eq-eqb (next_traversal grid) 1 (omega (arith, new.unfinished))))
+      go false e = ap was_stored (below_deep start_level grid low (fresh grid new) cell (λ k. true≢false (sym (eq-eqb cell.level 0 k) ∙ e)))
           ∙ was_kind (list_any (old_foreseen start_level grid) (corners grid.axes cell)) (list_any (new_foreseen start_level grid) (corners grid.axes cell)) ∙ none_old (corners grid.axes cell)
-
-  and_false : (a b : Bool) → b ≡ false → (a && b) ≡ false
-  and_false true b h = h
-  and_false false b h = refl
 
   new_reads : (swapped : Bool) → (reads_of (outlook start_level grid swapped) grid.greatest root ≡ stream_vertices grid) × (cell_reads_of (outlook start_level grid swapped) grid.greatest root ≡ stream_cells grid)
   new_reads swapped =
@@ -320,9 +315,9 @@ module _ (start_level : ℕ) (grid : Grid) (low : start_level ≤ grid.greatest)
       let cs = walked_cells grid.axes (next_way grid) (walks start_level grid) grid.greatest root in
       let us = walked_loads grid.axes (next_way grid) (goes_below grid) grid.greatest root in
       let ds = walked_cells grid.axes (next_way grid) (goes_below grid) grid.greatest root in (
-        ap (map (λ t. t.vertex)) (filter_none (is_read o) ts (Each-all _ (λ t. and_false (o.counts t.vertex) _ (ap (λ b. b && is_none (stack_in grid.axes (next_way grid) t.vertex t.cell)) (unstored t.vertex))) ts)
+        ap (map (λ t. t.vertex)) (filter_none (is_read o) ts (Each-all _ (λ t. and_right (o.counts t.vertex) _ (ap (λ b. b && is_none (stack_in grid.axes (next_way grid) t.vertex t.cell)) (unstored t.vertex))) ts)
             ∙ sym (filter_none _ us (Each-all _ (λ t. ap (λ b. b && is_first grid.axes (next_way grid) t) (unstored t.vertex)) us))),
-        filter_none o.reads_cell cs (Each-all _ (λ c. and_false (not (c.level == 0)) _ (never_was (parent_of c))) cs)
+        filter_none o.reads_cell cs (Each-all _ (λ c. and_right (not (c.level == 0)) _ (never_was (parent_of c))) cs)
             ∙ sym (filter_none (λ c. is_some (at grid.cells c)) ds (Each-all _ (λ c. ap is_some (new.no_cells c)) ds)),
       )
 

@@ -9,14 +9,6 @@ and_turned true false = refl
 and_turned false true = refl
 and_turned false false = refl
 
-pub or_either : (a b : Bool) → (a || b) ≡ true → (a ≡ true) ⊎ (b ≡ true)
-or_either true b h = inl refl
-or_either false b h = inr h
-
-pub or_right_true : (a b : Bool) → b ≡ true → (a || b) ≡ true
-or_right_true true b h = refl
-or_right_true false b h = h
-
 pub and_twice : (a b : Bool) → (a && (a && b)) ≡ (a && b)
 and_twice true b = refl
 and_twice false b = refl

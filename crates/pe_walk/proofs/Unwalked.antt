@@ -1,5 +1,6 @@
 -- Cells that are not walked.
 use Rattle.std.proofs.Common.{◌≡◌, ℕ, zero, suc, ◌+◌, ◌<◌, ◌≤◌, Bool, true, false, List, [], ◌∷◌, ◌++◌, filter, length, get_or, refl, sym, ap, ap₂, ◌∙◌, subst, true≢false, inl, inr, append-nil, arith}
+use Rattle.std.proofs.lemmas.Bool.{and_parts}
 use Rattle.std.specs.List.{All, Contains}
 use Rattle.pe_base.specs.declared.place.Place.{Place}
 use Rattle.pe_base.specs.declared.way.Way.{Way}
@@ -14,7 +15,7 @@ use Rattle.pe_base.proofs.Tree.Mirrors.{Digits3, digit_lists_below}
 use Rattle.pe_base.proofs.Tree.Children.{child_of, children_are, reverse-children}
 use Rattle.pe_base.proofs.Tree.Corners.{own_corners}
 use Rattle.pe_base.proofs.Faces.FaceLists.{is_child_at, at_face_parts, leaving_is}
-use Rattle.pe_base.proofs.Tree.Ranks.{OnLevel, order_on_level, child_four, steps_within, list_any-Each, is_same-true, and_left, and_right}
+use Rattle.pe_base.proofs.Tree.Ranks.{OnLevel, order_on_level, child_four, steps_within, list_any-Each, is_same-true, same_places}
 use Rattle.pe_base.proofs.Faces.Quiet.{at_face_none, false_unless}
 use Rattle.pe_base.proofs.Faces.Waits.{digits_in, InTree, child_in_tree}
 use Rattle.pe_base.proofs.Steps.Counts.{reverse-order}
@@ -63,11 +64,8 @@ module _ (axes : ℕ) (way : Way) (walked counts : Place → Bool) (walk : IsWal
   step_walked : (vertex a b : Place) → counts vertex ≡ true → is_step axes way vertex a b ≡ true → (walked a ≡ true) × (walked b ≡ true)
   step_walked vertex a b c t =
       list_any-Each _ (λ s. (walked s.0 ≡ true) × (walked s.1 ≡ true)) ((walked a ≡ true) × (walked b ≡ true))
-      (λ s e w. (subst (λ p. walked p ≡ true) (same s.0 a (and_left (is_same s.0 a) (is_same s.1 b) e)) w.0, subst (λ p. walked p ≡ true) (same s.1 b (and_right (is_same s.0 a) (is_same s.1 b) e)) w.1))
+      (λ s e w. (subst (λ p. walked p ≡ true) (same_places s.0 a (and_parts (is_same s.0 a) (is_same s.1 b) e).0) w.0, subst (λ p. walked p ≡ true) (same_places s.1 b (and_parts (is_same s.0 a) (is_same s.1 b) e).1) w.1))
       (steps (around axes way vertex)) t (steps_within (λ p. walked p ≡ true) (around axes way vertex) (all_each (λ p. walked p ≡ true) (around axes way vertex) (walk.all_around vertex c)))
-    where
-      same : (x y : Place) → is_same x y ≡ true → x ≡ y
-      same x y e = let k = is_same-true x y e in ap₂ (λ l p. let v : Place = record { level = l; pos = p } in v) k.0 k.1
 
   -- cells of the tree that are not walked
   abbrev Unwalked : Way → Place → Type 0
@@ -82,13 +80,13 @@ module _ (axes : ℕ) (way : Way) (walked counts : Place → Bool) (walk : IsWal
 
   pub unwalked_arriving : (finest levels : ℕ) (face : Face) (cell : Place) → face.axis < axes → face.side < 2 → length cell.pos ≡ 4 → finest ≡ cell.level + levels → Unwalked way cell → at_face (comes_across axes way counts face) finest face cell (loads axes way levels cell) ≡ []
   unwalked_arriving finest levels face cell a b l is h = at_face_none axes way (comes_across axes way counts face) face (λ level c. Unwalked way c)
-      (λ level c v e q. false_unless _ (λ t. absurd (true≢false (sym (step_walked v (across face c) c (and_left (counts v) _ t) (and_right (counts v) _ t)).1 ∙ q.0))))
+      (λ level c v e q. false_unless _ (λ t. absurd (true≢false (sym (step_walked v (across face c) c (and_parts (counts v) _ t).0 (and_parts (counts v) _ t).1).1 ∙ q.0))))
       (λ level c ts k d at q. unwalked_child way c ts d q)
       four a b finest levels cell.level cell refl l is h
 
   pub unwalked_leaving : (finest levels : ℕ) (face : Face) (cell : Place) → face.axis < axes → face.side < 2 → length cell.pos ≡ 4 → finest ≡ cell.level + levels → Unwalked (opposite way) cell → at_face (goes_across axes way counts face) finest face cell (loads axes (opposite way) levels cell) ≡ []
   unwalked_leaving finest levels face cell a b l is h = at_face_none axes (opposite way) (goes_across axes way counts face) face (λ level c. Unwalked (opposite way) c)
-      (λ level c v e q. false_unless _ (λ t. absurd (true≢false (sym (step_walked v c (across face c) (and_left (counts v) _ t) (and_right (counts v) _ t)).0 ∙ q.0))))
+      (λ level c v e q. false_unless _ (λ t. absurd (true≢false (sym (step_walked v c (across face c) (and_parts (counts v) _ t).0 (and_parts (counts v) _ t).1).0 ∙ q.0))))
       (λ level c ts k d at q. unwalked_child (opposite way) c ts d q)
       four a b finest levels cell.level cell refl l is h
 

@@ -1,13 +1,14 @@
 -- The turns of the children on one stack, by the blocks in which they meet.
-use Rattle.std.proofs.Common.{◌≡◌, ◌≢◌, ℕ, zero, suc, ◌+◌, ◌*◌, ◌<◌, ◌≤◌, ◌⊎◌, Bool, true, false, cond, ◌||◌, ◌^◌, List, [], ◌∷◌, ◌++◌, map, filter, reverse, length, refl, sym, ap, ap₂, ◌∙◌, subst, subst₂, inl, inr, append_assoc, append-nil, mul-le-mul_right, arith}
+use Rattle.std.proofs.Common.{◌≡◌, ◌≢◌, ℕ, zero, suc, ◌+◌, ◌*◌, ◌<◌, ◌≤◌, ◌⊎◌, Bool, true, false, ◌||◌, ◌^◌, List, [], ◌∷◌, ◌++◌, map, filter, reverse, length, refl, sym, ap, ap₂, ◌∙◌, subst, subst₂, inl, inr, append_assoc, append-nil, mul-le-mul_right, arith}
 use Rattle.std.specs.List.{flat_map, list_any}
 use Rattle.std.proofs.lemmas.List.{map-append, reverse-append, reverse-reverse}
 use Rattle.std.proofs.lemmas.List.Elements.{filter-append}
 use Rattle.std.proofs.lemmas.List.Concat.{flat_map-append}
+use Rattle.std.proofs.lemmas.List.Folds.{flat_map-map}
 use Rattle.pe_base.specs.declared.place.Place.{Place}
 use Rattle.pe_base.specs.Tree.Curve.{digit_lists}
 use Rattle.pe_base.specs.Steps.Faces.{Turn, TurnsApart}
-use Rattle.pe_base.proofs.Lists.{Each, Each-weaker, Each-reverse, Each-filter, map-map, flat_map_same, flat_map_none, flat_map-map, filter-map, filter_none, map-reverse, reverse-cons}
+use Rattle.pe_base.proofs.Lists.{Each, Each-weaker, Each-reverse, Each-filter, map-map, flat_map_same, flat_map_none, filter-map, filter_none, map-reverse, reverse-cons, Each-both, filter_all}
 use Rattle.pe_base.proofs.Tree.Mirrors.{Digits3, complement, digit_lists_below, reverse-digit_lists}
 use Rattle.pe_base.proofs.Tree.Ranks.{value, Rising, Rising-above, digit_lists_rise}
 use Rattle.pe_base.proofs.Tree.Mirrors.{Each-digits}
@@ -46,10 +47,6 @@ Untouched-flat_map touches f (x ∷ xs) e = Untouched-append touches (f x) (flat
 abbrev pub Ordered : {X : Type 0} → (X → X → Type 0) → List X → Type 0
 Ordered R [] = Unit {0}
 Ordered R (x ∷ xs) = Each (R x) xs × Ordered R xs
-
-Each-both : {X : Type 0} (P Q R : X → Type 0) → ((x : X) → P x → Q x → R x) → (xs : List X) → Each P xs → Each Q xs → Each R xs
-Each-both P Q R h [] e f = tt
-Each-both P Q R h (x ∷ xs) e f = (h x e.0 f.0, Each-both P Q R h xs e.1 f.1)
 
 ordered_digits : (n : ℕ) (R : List ℕ → List ℕ → Type 0) → ((xs ys : List ℕ) → Digits3 n xs → Digits3 n ys → value n xs < value n ys → R xs ys) → Ordered R (digit_lists n)
 ordered_digits n R h = go 0 (digit_lists n) (digit_lists_below n) (digit_lists_rise n)
@@ -228,10 +225,6 @@ outer_block n takes gives touches outer all one apart rest free =
           (all_take takes gives touches (digit_lists n) rest (Each-weaker (Digits3 n) _ (λ ts d. none ts d (all ts d)) (digit_lists n) (digit_lists_below n))
           (ordered_digits n (λ x y. Untouched (touches x) (takes y)) (λ x y d e l. apart.later x y d e l (all y e))) fr)
     ]
-  where
-    filter_all : {X : Type 0} (p : X → Bool) (xs : List X) → Each (λ x. p x ≡ true) xs → filter p xs ≡ xs
-    filter_all p [] e = refl
-    filter_all p (x ∷ xs) e = ap₂ (λ b r. cond b (x ∷ r) r) e.0 (filter_all p xs e.1)
 
 -- two blocks that meet leave the stack as it was
 meeting_blocks : (n : ℕ) (takes gives next_takes next_gives : Lists) (touches next_touches : Touching) → ((ts : List ℕ) → Digits3 n ts → gives ts ≡ next_takes (complement ts)) → ((ts : List ℕ) → Digits3 n ts → takes ts ≡ []) → ((ts : List ℕ) → Digits3 n ts → next_gives ts ≡ [])

@@ -5,6 +5,8 @@ use Rattle.std.specs.List.{list_any}
 use Rattle.std.specs.Option.{option_map}
 use Rattle.std.proofs.lemmas.List.{length-set, get_or-set_same, get_or-set_other}
 use Rattle.std.proofs.lemmas.Bool.Decides.{nat_tests}
+use Rattle.std.proofs.lemmas.Bool.{and_parts, eq-eqb, eqb-true, cases_eq}
+use Rattle.std.proofs.Math.Bool.{or-false, and-false}
 use Rattle.pe_base.specs.declared.place.Place.{Place}
 use Rattle.pe_base.specs.declared.way.Way.{Way}
 use Rattle.pe_base.specs.Tree.Ways.{opposite}
@@ -17,8 +19,8 @@ use Rattle.pe_base.specs.Steps.Stacks.{is_stack, comes_by, goes_by, ComeByFaces,
 use Rattle.pe_base.proofs.Lists.{Each, Each-all, Each-weaker, Each-filter, map-map, map-reverse, filter-map, filter-reverse, filter_same, filter_none}
 use Rattle.pe_base.proofs.Tree.Mirrors.{up}
 use Rattle.pe_base.proofs.Tree.Corners.{IsBits, bit_lists, bit_lists_below, touch_at, corner_touches_are, slice_index-moved, slice_index-bits}
-use Rattle.pe_base.proofs.Tree.Ranks.{steps_within, list_any-Each, is_same-true, and_left, and_right}
-use Rattle.pe_base.proofs.Steps.Counts.{OnGrid, is_same_itself, same_itself, true_eq, eq_true}
+use Rattle.pe_base.proofs.Tree.Ranks.{steps_within, list_any-Each, same_places}
+use Rattle.pe_base.proofs.Steps.Counts.{OnGrid, is_same_itself, same_itself}
 use Rattle.pe_base.proofs.Steps.CornerPlaces.{length-moved}
 use Rattle.pe_base.proofs.Steps.RouteLaws.{step_neighbours}
 use Rattle.pe_base.proofs.Steps.Turned.{find_none, find_first, any_both, one_step_to, is_step-opposite, stack-opposite}
@@ -61,42 +63,29 @@ corner_within axes cell bs four is d = record {
 pub corner_coordinate : (axis : ℕ) (qs ps : List ℕ) → axis < length ps → is_corner_pos qs ps ≡ true → (slice_index ps axis ≤ slice_index qs axis) × (slice_index qs axis ≤ slice_index ps axis + 1)
 corner_coordinate axis qs [] h t = absurd (omega arith)
 corner_coordinate axis [] (p ∷ ps) h t = absurd (true≢false (sym t))
-corner_coordinate zero (q ∷ qs) (p ∷ ps) h t = both q p (and_left (q == p || q == p + 1) _ t)
+corner_coordinate zero (q ∷ qs) (p ∷ ps) h t = both q p (and_parts (q == p || q == p + 1) _ t).0
   where
     both : (a b : ℕ) → (a == b || a == b + 1) ≡ true → (b ≤ a) × (a ≤ b + 1)
     both a b e = elim (cases a b e) [ inl i ↦ (omega arith, omega arith) | inr i ↦ (omega arith, omega arith) ]
       where
         cases : (c d : ℕ) → (c == d || c == d + 1) ≡ true → (c ≡ d) ⊎ (c ≡ d + 1)
         cases c d k = grind (arith, nat_tests)
-corner_coordinate (suc axis) (q ∷ qs) (p ∷ ps) h t = corner_coordinate axis qs ps (omega arith) (and_right (q == p || q == p + 1) _ t)
+corner_coordinate (suc axis) (q ∷ qs) (p ∷ ps) h t = corner_coordinate axis qs ps (omega arith) (and_parts (q == p || q == p + 1) _ t).1
 
 -- both cells of a step have the vertex for a corner
 pub step_corners : (axes : ℕ) (way : Way) (vertex a b : Place) → is_step axes way vertex a b ≡ true → (is_corner vertex a ≡ true) × (is_corner vertex b ≡ true)
 step_corners axes way vertex a b t =
     list_any-Each _ (λ s. (is_corner vertex s.0 ≡ true) × (is_corner vertex s.1 ≡ true)) ((is_corner vertex a ≡ true) × (is_corner vertex b ≡ true))
-    (λ s e w. (subst (λ p. is_corner vertex p ≡ true) (same s.0 a (and_left (is_same s.0 a) (is_same s.1 b) e)) w.0, subst (λ p. is_corner vertex p ≡ true) (same s.1 b (and_right (is_same s.0 a) (is_same s.1 b) e)) w.1))
+    (λ s e w. (subst (λ p. is_corner vertex p ≡ true) (same_places s.0 a (and_parts (is_same s.0 a) (is_same s.1 b) e).0) w.0, subst (λ p. is_corner vertex p ≡ true) (same_places s.1 b (and_parts (is_same s.0 a) (is_same s.1 b) e).1) w.1))
     (steps (around axes way vertex)) t (steps_within (λ p. is_corner vertex p ≡ true) (around axes way vertex)
     (Each-weaker _ (λ p. is_corner vertex p ≡ true) (λ p h. h.1) (around axes way vertex) (Each-filter (λ p. Unit {0}) (is_corner vertex) (order axes way vertex.level) (Each-all (λ p. Unit {0}) (λ p. tt) (order axes way vertex.level)))))
-  where
-    same : (x y : Place) → is_same x y ≡ true → x ≡ y
-    same x y e = let k = is_same-true x y e in ap₂ (λ l p. let v : Place = record { level = l; pos = p } in v) k.0 k.1
 
 -- a cell that differs on an axis lies across no face of another axis
 pub one_axis : (axes axis j side s : ℕ) (a b : Place) → axis < length a.pos → slice_index b.pos axis ≢ slice_index a.pos axis → across (face_of j s) a ≡ b → j ≡ axis
-one_axis axes axis j side s a b l apart e = elim (which j axis) [
+one_axis axes axis j side s a b l apart e = elim (cases_eq j axis) [
   | inl h ↦ h
   | inr h ↦ absurd (apart (ap (λ p. slice_index p.pos axis) (sym e) ∙ get_or-set_other a.pos j axis (beside s (slice_index a.pos j)) 0 (λ k. h (sym k))))
 ]
-  where
-    which : (x y : ℕ) → (x ≡ y) ⊎ (x ≢ y)
-    which x y = grind arith
-
-or_none : (b : Bool) → (b || false) ≡ b
-or_none true = refl
-or_none false = refl
-
-pub same_places : (a b : Place) → is_same a b ≡ true → a ≡ b
-same_places a b e = let k = is_same-true a b e in ap₂ (λ l p. let v : Place = record { level = l; pos = p } in v) k.0 k.1
 
 -- a corner of a cell comes to it across no face, or across one
 pub one_across : (axes : ℕ) (way : Way) (cell : Place) (bs : List ℕ) → axes ≤ 4 → IsPosition axes (3 ^ cell.level) cell.pos → IsBits axes bs
@@ -114,7 +103,7 @@ one_across axes way cell bs four is d =
       })
       | inr one ↦
           let a = one.0.0 in
-          let found : (other : Place) → is_step axes way v other cell ≡ is_same a other = λ other. any_both (λ s. is_same s.0 other) ends all ∙ ap (list_any (λ s. is_same s.0 other)) one.1 ∙ or_none (is_same a other) in
+          let found : (other : Place) → is_step axes way v other cell ≡ is_same a other = λ other. any_both (λ s. is_same s.0 other) ends all ∙ ap (list_any (λ s. is_same s.0 other)) one.1 ∙ or-false (is_same a other) in
           let at_cell : is_same one.0.1 cell ≡ true = (subst (Each (λ s. Unit {0} × (ends s ≡ true))) one.1 (Each-filter (λ s. Unit {0}) ends all (Each-all (λ s. Unit {0}) (λ s. tt) all))).0.1 in
           let same : one.0.1 ≡ cell = same_places one.0.1 cell at_cell in
           let t : is_step axes way v a cell ≡ true = found a ∙ is_same_itself a in
@@ -132,7 +121,7 @@ one_across axes way cell bs four is d =
                 let long_a : i < length a.pos = omega (arith, ap (λ p. length p.pos) e, length-up i a.pos) in
                 let is_across : across (face_of i 0) cell ≡ a = ap (across (face_of i 0)) e ∙ across-up i a in
                 let x : slice_index cell.pos i ≡ slice_index a.pos i + 1 = ap (λ p. slice_index p.pos i) e ∙ get_or-set_same a.pos i (slice_index a.pos i + 1) 0 long_a in
-                let c = corner_coordinate i v.pos a.pos long_a (and_right (v.level == a.level) _ corner_a) in
+                let c = corner_coordinate i v.pos a.pos long_a (and_parts (v.level == a.level) _ corner_a).1 in
                 let lies : slice_index v.pos i ≡ slice_index cell.pos i + 0 = omega (arith, x, c.0, c.1, end, bit) in
                 inr (record {
                   face = face_of i 0;
@@ -145,7 +134,7 @@ one_across axes way cell bs four is d =
             | inr e ↦
                 let long_a : i < length a.pos = omega (arith, ap (λ p. length p.pos) e, length-up i cell.pos) in
                 let x : slice_index a.pos i ≡ slice_index cell.pos i + 1 = ap (λ p. slice_index p.pos i) e ∙ get_or-set_same cell.pos i (slice_index cell.pos i + 1) 0 long in
-                let c = corner_coordinate i v.pos a.pos long_a (and_right (v.level == a.level) _ corner_a) in
+                let c = corner_coordinate i v.pos a.pos long_a (and_parts (v.level == a.level) _ corner_a).1 in
                 let lies : slice_index v.pos i ≡ slice_index cell.pos i + 1 = omega (arith, x, c.0, c.1, end, bit) in
                 inr (record {
                   face = face_of i 1;
@@ -249,7 +238,7 @@ comes_across_it axes way counts s cell bs four is d inside = elim (one_across ax
     decide : (one : AcrossOne axes v cell (stack_in axes way v cell) (λ other. is_step axes way v other cell)) (b : Bool) → (s == stack_of one.face cell) ≡ b
         → (counts v && b) ≡ (is_on (cell.level + 0) face cell v && (counts v && is_same (across one.face cell) (across face cell)))
     decide one true e =
-        let k = face_of_stack s one.face.axis one.face.side (slice_index cell.pos one.face.axis) one.is_face.1 (true_eq s (stack_of one.face cell) e) in
+        let k = face_of_stack s one.face.axis one.face.side (slice_index cell.pos one.face.axis) one.is_face.1 (eqb-true s (stack_of one.face cell) e) in
         let same : face ≡ one.face = ap₂ face_of k.0 (ap (λ i. (slice_index cell.pos i + s % 2) % 2) k.0 ∙ k.1) in
         let on : is_on (cell.level + 0) one.face cell v ≡ true = ap (λ x. in_finest (cell.level + 0) cell.level x == in_finest (cell.level + 0) cell.level (plane one.face cell)) one.in_plane ∙ same_itself _ in
         both (counts v) ∙ ap₂ (λ a b. a && (counts v && b)) (sym on ∙ ap (λ f. is_on (cell.level + 0) f cell v) (sym same)) (sym (is_same_itself (across one.face cell)) ∙ ap (λ f. is_same (across one.face cell) (across f cell)) (sym same))
@@ -257,21 +246,17 @@ comes_across_it axes way counts s cell bs four is d inside = elim (one_across ax
         neither (counts v) (is_on (cell.level + 0) face cell v)
         ∙ ap (λ b. is_on (cell.level + 0) face cell v && (counts v && b)) (sym (false_unless (is_same (across one.face cell) (across face cell)) (λ t.
         let k = same_across axes one.face face cell (omega (arith, is.four)) one.is_face (omega arith, omega arith) one.shared (same_places (across one.face cell) (across face cell) t) in
-        absurd (true≢false (sym (eq_true s (stack_of one.face cell) (stack_of_face s one.face.axis one.face.side (slice_index cell.pos one.face.axis) one.is_face.1 k.0
+        absurd (true≢false (sym (eq-eqb s (stack_of one.face cell) (stack_of_face s one.face.axis one.face.side (slice_index cell.pos one.face.axis) one.is_face.1 k.0
         (ap (λ i. (slice_index cell.pos i + s % 2) % 2) (sym k.0) ∙ k.1))) ∙ e)))))
 
 -- behind the axes nothing comes
 comes_nowhere : (axes : ℕ) (way : Way) (counts : Place → Bool) (s : ℕ) (cell : Place) (bs : List ℕ) → axes ≤ 4 → IsPosition axes (3 ^ cell.level) cell.pos → IsBits axes bs → 2 * axes ≤ s → comes_by axes way counts s (touch_at cell bs) ≡ false
 comes_nowhere axes way counts s cell bs four is d behind = elim (one_across axes way cell bs four is d) [
-  | inl none ↦ ap (λ o. counts (corner_at cell bs) && is_stack s o) none.no_stack ∙ nothing (counts (corner_at cell bs))
+  | inl none ↦ ap (λ o. counts (corner_at cell bs) && is_stack s o) none.no_stack ∙ and-false (counts (corner_at cell bs))
   | inr one ↦ ap (λ o. counts (corner_at cell bs) && is_stack s o) one.its_stack
-      ∙ ap (λ b. counts (corner_at cell bs) && b) (false_unless (s == stack_of one.face cell) (λ t. let e : s ≡ 2 * one.face.axis + plane one.face cell % 2 = true_eq s (stack_of one.face cell) t in let a = one.is_face.0 in absurd (omega arith)))
-      ∙ nothing (counts (corner_at cell bs))
+      ∙ ap (λ b. counts (corner_at cell bs) && b) (false_unless (s == stack_of one.face cell) (λ t. let e : s ≡ 2 * one.face.axis + plane one.face cell % 2 = eqb-true s (stack_of one.face cell) t in let a = one.is_face.0 in absurd (omega arith)))
+      ∙ and-false (counts (corner_at cell bs))
 ]
-  where
-    nothing : (b : Bool) → (b && false) ≡ false
-    nothing true = refl
-    nothing false = refl
 
 touch_vertices : (test : Touch → Bool) (axes : ℕ) (cell : Place) → axes ≤ 4 → map (λ t. t.vertex) (filter test (reverse (corner_touches axes cell))) ≡ reverse (map (corner_at cell) (filter (λ bs. test (touch_at cell bs)) (bit_lists axes)))
 touch_vertices test axes cell four =

@@ -1,5 +1,7 @@
 -- What the walk of a cell does on one stack.
 use Rattle.std.proofs.Common.{◌≡◌, ℕ, zero, suc, ◌+◌, ◌-◌, ◌*◌, ◌%◌, ◌^◌, ◌<◌, ◌≤◌, Bool, true, false, ◌==◌, List, [], ◌∷◌, ◌++◌, map, filter, reverse, length, slice_index, replicate, refl, sym, ap, ap₂, ◌∙◌, subst, subst₂, inl, inr, append_assoc, append-nil, arith}
+use Rattle.std.proofs.lemmas.Bool.{eqb-true}
+use Rattle.std.proofs.lemmas.List.Folds.{flat_map-map}
 use Rattle.std.specs.List.{flat_map, list_any}
 use Rattle.pe_base.specs.declared.place.Place.{Place}
 use Rattle.pe_base.specs.declared.way.Way.{Way}
@@ -8,7 +10,7 @@ use Rattle.pe_base.specs.declared.way.Way.TheVariants.{Forward, Inverted}
 use Rattle.pe_base.specs.Tree.Places.{finer, is_same}
 use Rattle.pe_base.specs.Tree.Curve.{digit_lists, flip, children}
 use Rattle.pe_base.specs.Steps.Faces.{Turns, Turns, Face, Turn, TurnsApart, across, face_on, is_touched, loads, corner_touches, comes_across, goes_across, at_face, arriving, leaving, in_corners, out_corners, child_turn, corner_turn, cell_turns}
-use Rattle.pe_base.proofs.Lists.{In, In-map, Each-In, Each-left, Each-right, Each-parts, list_any_none, none_Each, Each, Each-weaker, Each-reverse, Each-filter, map-map, flat_map_same, flat_map-map, filter_same, filter-map, filter-reverse}
+use Rattle.pe_base.proofs.Lists.{In, In-map, Each-In, Each-left, Each-right, Each-parts, list_any_none, none_Each, Each, Each-weaker, Each-reverse, Each-filter, map-map, flat_map_same, filter_same, filter-map, filter-reverse}
 use Rattle.pe_base.proofs.Tree.Mirrors.{Digits3, complement, digit_lists_below, reverse-digit_lists, turned_complement}
 use Rattle.pe_base.specs.Steps.Routes.{way_turns}
 use Rattle.pe_base.proofs.Tree.Children.{Pairs-range, flips_in, length-flips, child_of, child_ks, child_index, children_are}
@@ -16,7 +18,7 @@ use Rattle.pe_base.proofs.Tree.Corners.{own_corners}
 use Rattle.pe_base.proofs.Faces.FaceLists.{face_of, is_child_at, at_face_parts, leaving_is}
 use Rattle.pe_base.proofs.Tree.Ranks.{value, rank, rank_of, rank-child, child_four}
 use Rattle.pe_base.proofs.Tree.Mirrors.{Each-digits}
-use Rattle.pe_base.proofs.Faces.Quiet.{later_child, earlier_child, still_child, arriving_none, leaving_none, later_or_earlier, across_child, rank-parent, less_below, value-below, when_same}
+use Rattle.pe_base.proofs.Faces.Quiet.{later_child, earlier_child, still_child, arriving_none, leaving_none, later_or_earlier, across_child, rank-parent, less_below, value-below}
 use Rattle.pe_base.proofs.Faces.Blocks.{Touching, Meet, Untouched, Untouched-append, Untouched-flat_map, Free, Apart, meet_behind, OneWay, blocks, outer_takes, outer_gives, TurnsApart-append}
 use Rattle.pe_base.proofs.Faces.Waits.{InTree, child_in_tree, digits_in, arriving_apart, leaving_apart, deeper_arriving, deeper_leaving}
 use Rattle.pe_base.proofs.Faces.Meetings.{meet_at}
@@ -53,7 +55,7 @@ module _ (axes : ℕ) (way : Way) (counts : Place → Bool) (levels axis parity 
 
   -- a child at the cell's face on the stack has its own face on the stack there
   same_face : (ts : List ℕ) → Digits3 axes ts → at ts ≡ true → face_on axis parity (below ts) ≡ face
-  same_face ts d o = ap (face_of axis) (omega (arith, child_index axes way cell ts axis a (omega arith) d, when_same (slice_index (child_ks axes way cell ts) axis) (2 * face.side) o))
+  same_face ts d o = ap (face_of axis) (omega (arith, child_index axes way cell ts axis a (omega arith) d, eqb-true (slice_index (child_ks axes way cell ts) axis) (2 * face.side) o))
 
   one_way : OneWay axes (λ ts. (turn ts).takes) (λ ts. (turn ts).gives) at
   one_way = elim (later_or_earlier axes way face cell.level cell a (omega arith) (omega arith)) [

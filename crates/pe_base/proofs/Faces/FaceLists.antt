@@ -4,6 +4,8 @@ use Rattle.std.specs.List.{flat_map}
 use Rattle.std.proofs.lemmas.List.{length-set, map-append, reverse-append}
 use Rattle.std.proofs.lemmas.List.Elements.{filter-append}
 use Rattle.std.proofs.lemmas.Bool.Decides.{nat_tests}
+use Rattle.std.proofs.lemmas.Bool.{eqb-true}
+use Rattle.std.proofs.lemmas.List.Folds.{flat_map-map}
 use Rattle.pe_base.specs.declared.place.Place.{Place}
 use Rattle.pe_base.specs.declared.way.Way.{Way}
 use Rattle.pe_base.specs.Tree.Ways.{opposite}
@@ -11,7 +13,7 @@ use Rattle.pe_base.specs.declared.way.Way.TheVariants.{Forward, Inverted}
 use Rattle.pe_base.specs.Tree.Places.{moved}
 use Rattle.pe_base.specs.Tree.Curve.{digit_lists, children}
 use Rattle.pe_base.specs.Steps.Faces.{Face, Touch, across, in_finest, is_step, corner_touches, loads, stores, comes_across, goes_across, at_face, arriving, leaving}
-use Rattle.pe_base.proofs.Lists.{Each, Each-all, Each-weaker, Each-append, Each-map, Each-flat_map, Each-filter, Each-reverse, flat_map_same, flat_map-map, flat_map-filter, reverse-flat_map, filter_same, filter_none}
+use Rattle.pe_base.proofs.Lists.{Each, Each-all, Each-weaker, Each-append, Each-map, Each-flat_map, Each-filter, Each-reverse, flat_map_same, flat_map-filter, reverse-flat_map, filter_same, filter_none}
 use Rattle.pe_base.proofs.Tree.Mirrors.{Digits3, digit_lists_below, turned_across, turned_across-digit, up}
 use Rattle.pe_base.proofs.Tree.Children.{flips_in, flips_agree, length-flips, child_of, child_ks, child_ks-below, child_index, child_length, children_are, reverse-children, slice_index-below}
 use Rattle.pe_base.proofs.Tree.Corners.{IsBits, bit_lists, bit_lists_below, shared_corners, slice_index-moved, slice_index-bits, touch_at, corner_touches_are, pow_three, same_tests, own_corners}
@@ -142,12 +144,9 @@ at_face_parts axes way test axis side finest levels cell four a b l is =
     ap (λ y. at_plane test finest axis y (loads axes way levels (child ts)))
     (ap (λ k. (slice_index cell.pos axis + side) * 3 ^ k) fl
     ∙ same_plane (slice_index cell.pos axis) (slice_index (child ts).pos axis) side levels
-    (child_index axes way cell ts axis a l d.0 ∙ ap (λ k. 3 * slice_index cell.pos axis + k) (when_same (slice_index (child_ks axes way cell ts) axis) (2 * side) d.1))
+    (child_index axes way cell ts axis a l d.0 ∙ ap (λ k. 3 * slice_index cell.pos axis + k) (eqb-true (slice_index (child_ks axes way cell ts) axis) (2 * side) d.1))
     ∙ ap (λ k. (slice_index (child ts).pos axis + side) * 3 ^ k) (let e : levels ≡ finest - (cell.level + 1) = omega arith in e)))
     (filter at (digit_lists axes)) (Each-filter (Digits3 axes) at (digit_lists axes) (digit_lists_below axes))))
-  where
-    when_same : (x y : ℕ) → (x == y) ≡ true → x ≡ y
-    when_same x y h = grind (arith, nat_tests)
 
 -- Neighbours agree, for two tests that say the same of a vertex in a cell and in the next cell on the axis: what
 -- the walk in one way finds at the far side of a cell, the walk in the other way finds at the near side of the next.

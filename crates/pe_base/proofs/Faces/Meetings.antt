@@ -1,6 +1,6 @@
 -- Two blocks of the children of a cell that meet at a plane of a stack.
-use Rattle.std.proofs.Common.{◌≡◌, ◌≢◌, ℕ, zero, suc, ◌+◌, ◌-◌, ◌*◌, ◌%◌, ◌^◌, ◌<◌, ◌≤◌, ◌⊎◌, Bool, true, false, ◌==◌, List, [], ◌∷◌, ◌++◌, length, slice_index, replicate, refl, sym, ap, ap₂, ◌∙◌, subst, inl, inr, arith}
-use Rattle.std.proofs.lemmas.Bool.Decides.{nat_tests}
+use Rattle.std.proofs.Common.{◌≡◌, ◌≢◌, ℕ, zero, suc, ◌+◌, ◌-◌, ◌*◌, ◌%◌, ◌^◌, ◌<◌, ◌≤◌, ◌⊎◌, Bool, ◌==◌, List, [], ◌∷◌, ◌++◌, length, slice_index, replicate, refl, sym, ap, ap₂, ◌∙◌, subst, inl, inr, arith}
+use Rattle.std.proofs.lemmas.Bool.{ne_eqb, eq-eqb}
 use Rattle.pe_base.specs.declared.place.Place.{Place}
 use Rattle.pe_base.specs.declared.way.Way.{Way}
 use Rattle.pe_base.specs.Tree.Curve.{mirrored}
@@ -144,16 +144,10 @@ module _ (axes : ℕ) (way : Way) (counts : Place → Bool) (levels parity level
             (subst (λ c. rank_of axes way (suc level) c < rank_of axes way (suc level) (child (first + 1) xs)) (sym (meeting-across axis parity _ _ (meets cs dc)).1)
             (omega (arith, ranks first cs f dc, ranks (first + 1) xs n d, value_next us first m axes cs xs within dc)))))
             (subst (λ k. rank_of axes way k (child (first + 1) xs) < rank_of axes way k (child (first + 1) ys)) lv (omega (arith, ranks (first + 1) xs n d, ranks (first + 1) ys n e, value_inside us (first + 1) m axes xs ys within r)));
-        inner = λ ts d. ap (λ k. k == 2 * side) (digit_behind axes way cell us first ts (whole first ts f d)) ∙ differ _ _ not_first;
-        inner_next = λ ts d. ap (λ k. k == 2 * side) (digit_behind axes way cell us (first + 1) ts (whole (first + 1) ts n d)) ∙ differ _ _ not_next;
-        outside = λ t b h k ts d. ap (λ x. x == 2 * side) (digit_behind axes way cell us t ts (whole t ts b d)) ∙ agree_on _ _ (is_other t b h k);
+        inner = λ ts d. ap (λ k. k == 2 * side) (digit_behind axes way cell us first ts (whole first ts f d)) ∙ ne_eqb _ _ not_first;
+        inner_next = λ ts d. ap (λ k. k == 2 * side) (digit_behind axes way cell us (first + 1) ts (whole (first + 1) ts n d)) ∙ ne_eqb _ _ not_next;
+        outside = λ t b h k ts d. ap (λ x. x == 2 * side) (digit_behind axes way cell us t ts (whole t ts b d)) ∙ eq-eqb _ _ (is_other t b h k);
       }
-    where
-      differ : (x y : ℕ) → x ≢ y → (x == y) ≡ false
-      differ x y h = grind (arith, nat_tests)
-
-      agree_on : (x y : ℕ) → x ≡ y → (x == y) ≡ true
-      agree_on x y h = grind (arith, nat_tests)
 
   meet_even : turns % 2 ≡ 0 → Meet m takes gives touches outer
   meet_even even =

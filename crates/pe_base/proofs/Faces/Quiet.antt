@@ -1,6 +1,6 @@
 -- Faces where nothing arrives, and faces where nothing is left.
 use Rattle.std.proofs.Common.{◌≡◌, ℕ, zero, suc, ◌+◌, ◌-◌, ◌*◌, ◌/◌, ◌%◌, ◌^◌, ◌<◌, ◌≤◌, ◌⊎◌, ◌≢◌, length-set, Bool, true, false, ◌==◌, List, [], ◌∷◌, ◌++◌, map, filter, reverse, length, set, take, drop, slice_index, slice_set, replicate, refl, sym, ap, ap₂, ◌∙◌, subst, inl, inr, pow-suc, mul-le-mul_right, take-append-drop, arith}
-use Rattle.std.proofs.lemmas.Bool.Decides.{nat_tests}
+use Rattle.std.proofs.lemmas.Bool.{and_parts, eqb-true}
 use Rattle.pe_base.specs.declared.place.Place.{Place}
 use Rattle.pe_base.specs.declared.way.Way.{Way}
 use Rattle.pe_base.specs.Tree.Ways.{opposite}
@@ -12,7 +12,7 @@ use Rattle.pe_base.proofs.Tree.Mirrors.{Digits3, digit_lists_below, sum_of, sum-
 use Rattle.pe_base.proofs.Tree.Children.{flips_in, length-flips, child_of, child_ks, child_ks-below, child_index}
 use Rattle.pe_base.proofs.Tree.Corners.{bit_lists, own_corners, pow_three}
 use Rattle.pe_base.proofs.Faces.FaceLists.{is_child_at, at_face_parts, leaving_is}
-use Rattle.pe_base.proofs.Tree.Ranks.{value, thirds, rests, rank, rank_of, thirds-finer, thirds-child, child_digits-below, length-child_digits, child_four, and_right, is_step-rises}
+use Rattle.pe_base.proofs.Tree.Ranks.{value, thirds, rests, rank, rank_of, thirds-finer, thirds-child, child_digits-below, length-child_digits, child_four, is_step-rises}
 
 -- the parent of a child's neighbour at a face of the parent is the parent's neighbour
 pub thirds-across : (axis side : ℕ) (pos ks : List ℕ) → side < 2 → length pos ≡ length ks → Each (λ k. k < 3) ks → slice_index ks axis ≡ 2 * side
@@ -59,9 +59,6 @@ Earlier axes way face level cell = rank_of axes way level (across face cell) < r
 abbrev pub Still : Face → Place → Type 0
 Still face cell = (face.side ≡ 0) × (slice_index cell.pos face.axis ≡ 0)
 
-pub when_same : (x y : ℕ) → (x == y) ≡ true → x ≡ y
-when_same x y h = grind (arith, nat_tests)
-
 -- the children at the face are as their parent is
 pub less_below : (a b w x y : ℕ) → a < b → x < (a + 1) * w → b * w ≤ y → x < y
 less_below a b w x y h lo hi = let m : (a + 1) * w ≤ b * w = mul-le-mul_right w (omega arith) in omega arith
@@ -70,7 +67,7 @@ pub across_child : (axes : ℕ) (way : Way) (face : Face) (cell : Place) (ts : L
     → thirds (across face (child_of axes way cell ts)).pos ≡ (across face cell).pos
 across_child axes way face cell ts four a b l d at =
     thirds-across face.axis face.side cell.pos (child_ks axes way cell ts ++ replicate (4 - axes) 0) b (l ∙ sym (length-child_digits axes way cell ts four d)) (child_digits-below axes way cell ts d)
-    (index face.axis axes (child_ks axes way cell ts) a (child_ks-below axes way cell ts d) ∙ when_same _ _ at)
+    (index face.axis axes (child_ks axes way cell ts) a (child_ks-below axes way cell ts d) ∙ eqb-true _ _ at)
   where
     index : (axis n : ℕ) (ks : List ℕ) → axis < n → Digits3 n ks → slice_index (ks ++ replicate (4 - axes) 0) axis ≡ slice_index ks axis
     index axis zero ks a d = absurd (omega arith)
@@ -97,7 +94,7 @@ earlier_child axes way walk face level cell ts four a b l d at h =
 pub still_child : (axes : ℕ) (walk : Way) (face : Face) (cell : Place) (ts : List ℕ) → face.axis < axes → length cell.pos ≡ 4 → axes ≤ 4 → Digits3 axes ts → is_child_at axes walk cell face ts ≡ true
     → Still face cell → Still face (child_of axes walk cell ts)
 still_child axes walk face cell ts a l four d at h =
-    (h.0, omega (arith, h.0, h.1, when_same (slice_index (child_ks axes walk cell ts) face.axis) (2 * face.side) at, child_index axes walk cell ts face.axis a (omega arith) d))
+    (h.0, omega (arith, h.0, h.1, eqb-true (slice_index (child_ks axes walk cell ts) face.axis) (2 * face.side) at, child_index axes walk cell ts face.axis a (omega arith) d))
 
 still_same : (axis side : ℕ) (pos : List ℕ) → side ≡ 0 → slice_index pos axis ≡ 0 → slice_set pos axis (beside side (slice_index pos axis)) ≡ pos
 still_same axis zero [] s h = refl
@@ -140,7 +137,7 @@ pub arriving_none : (axes : ℕ) (way : Way) (counts : Place → Bool) (levels l
 arriving_none axes way counts levels level face cell four a b on l q =
     at_face_none axes way (comes_across axes way counts face) face (λ level cell. (Later axes way face level cell) ⊎ (Still face cell))
     (λ level c v on q. false_unless _ (λ t.
-    let s = subst (λ n. rank_of axes way n (across face c) < rank_of axes way n c) on (is_step-rises axes way v (across face c) c four (and_right (counts v) _ t)) in
+    let s = subst (λ n. rank_of axes way n (across face c) < rank_of axes way n c) on (is_step-rises axes way v (across face c) c four (and_parts (counts v) _ t).1) in
     elim q [
       | inl later ↦ omega (arith, s, later)
       | inr still ↦ omega (arith, subst (λ p. rank axes way level p < rank_of axes way level c) (still_same face.axis face.side c.pos still.0 still.1) s)
@@ -158,7 +155,7 @@ leaving_none axes way counts levels level face cell four a b on l q =
     leaving_is axes way counts levels face cell
     ∙ at_face_none axes (opposite way) (goes_across axes way counts face) face (λ level cell. (Earlier axes way face level cell) ⊎ (Still face cell))
     (λ level c v on q. false_unless _ (λ t.
-    let s = subst (λ n. rank_of axes way n c < rank_of axes way n (across face c)) on (is_step-rises axes way v c (across face c) four (and_right (counts v) _ t)) in
+    let s = subst (λ n. rank_of axes way n c < rank_of axes way n (across face c)) on (is_step-rises axes way v c (across face c) four (and_parts (counts v) _ t).1) in
     elim q [
       | inl earlier ↦ omega (arith, s, earlier)
       | inr still ↦ omega (arith, subst (λ p. rank_of axes way level c < rank axes way level p) (still_same face.axis face.side c.pos still.0 still.1) s)

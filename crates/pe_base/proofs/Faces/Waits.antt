@@ -2,6 +2,7 @@
 use Rattle.std.proofs.Common.{◌≡◌, ℕ, zero, suc, ◌+◌, ◌*◌, ◌^◌, ◌<◌, ◌≤◌, ◌⊎◌, Bool, true, false, ◌&&◌, ◌||◌, ◌==◌, List, [], ◌∷◌, map, filter, reverse, length, slice_index, refl, sym, ap, ap₂, ◌∙◌, subst, subst₂, inl, inr, mul-le-mul_right, arith}
 use Rattle.std.specs.List.{list_any}
 use Rattle.std.proofs.lemmas.Bool.Decides.{nat_tests}
+use Rattle.std.proofs.lemmas.Bool.{and_parts}
 use Rattle.pe_base.specs.declared.place.Place.{Place}
 use Rattle.pe_base.specs.declared.way.Way.{Way}
 use Rattle.pe_base.specs.Tree.Ways.{opposite}
@@ -14,7 +15,7 @@ use Rattle.pe_base.proofs.Tree.Mirrors.{Digits3, digit_lists_below}
 use Rattle.pe_base.proofs.Tree.Children.{child_of, children_are}
 use Rattle.pe_base.proofs.Tree.Corners.{IsBits, bit_lists, bit_lists_below, own_corners, touch_at, corner_touches_are}
 use Rattle.pe_base.proofs.Faces.FaceLists.{is_child_at, at_face_parts, leaving_is}
-use Rattle.pe_base.proofs.Tree.Ranks.{thirds, rank, rank_of, thirds-child, child_four, and_left, and_right, is_same-true, IsClose, steps_close, around_rises, top, list_any-Each}
+use Rattle.pe_base.proofs.Tree.Ranks.{thirds, rank, rank_of, thirds-child, child_four, is_same-true, IsClose, steps_close, around_rises, top, list_any-Each}
 use Rattle.pe_base.proofs.Faces.Quiet.{rank-parent, across_child, false_unless}
 
 -- the position of the ancestor some levels above
@@ -174,8 +175,8 @@ nothing_between axes way vertex a b z four step i low high =
     let r = rank_of axes way vertex.level in
     list_any-Each _ (IsClose r (around axes way vertex)) (1 ≤ 0)
     (λ s t close.
-    let e : r s.0 ≡ r a = ap (rank axes way vertex.level) (is_same-true s.0 a (and_left (is_same s.0 a) (is_same s.1 b) t)).1 in
-    let f : r s.1 ≡ r b = ap (rank axes way vertex.level) (is_same-true s.1 b (and_right (is_same s.0 a) (is_same s.1 b) t)).1 in
+    let e : r s.0 ≡ r a = ap (rank axes way vertex.level) (is_same-true s.0 a (and_parts (is_same s.0 a) (is_same s.1 b) t).0).1 in
+    let f : r s.1 ≡ r b = ap (rank axes way vertex.level) (is_same-true s.1 b (and_parts (is_same s.0 a) (is_same s.1 b) t).1).1 in
     elim (Each-In (λ y. (r y ≤ r s.0) ⊎ (r s.1 ≤ r y)) z (around axes way vertex) close i) [
       | inl h ↦ omega arith
       | inr h ↦ omega arith
@@ -203,7 +204,7 @@ pub arriving_apart : (axes : ℕ) (way : Way) (counts : Place → Bool) (levels 
     → list_any (is_touched axes way others other) (arriving axes way counts levels face cell) ≡ false
 arriving_apart axes way counts levels others face cell other four a b l k i same low high =
     list_any_none (is_touched axes way others other) (arriving axes way counts levels face cell) (Each-weaker (AtFace (comes_across axes way counts face) face cell) _ (λ v h.
-    apart axes way others h.depth other v (across face h.inner) h.inner (across face cell).pos cell.pos four k i (h.level ∙ ap (deeper h.depth) (sym same)) h.beyond h.within (and_right (counts v) _ h.passes) low high)
+    apart axes way others h.depth other v (across face h.inner) h.inner (across face cell).pos cell.pos four k i (h.level ∙ ap (deeper h.depth) (sym same)) h.beyond h.within (and_parts (counts v) _ h.passes).1 low high)
     (arriving axes way counts levels face cell) (at_face_each axes way (comes_across axes way counts face) face four a b (cell.level + levels) levels cell l refl))
 
 pub leaving_apart : (axes : ℕ) (way : Way) (counts : Place → Bool) (levels others : ℕ) (face : Face) (cell other : Place) → axes ≤ 4 → face.axis < axes → face.side < 2 → length cell.pos ≡ 4 → length other.pos ≡ 4 → InTree axes way other → other.level ≡ cell.level
@@ -212,7 +213,7 @@ pub leaving_apart : (axes : ℕ) (way : Way) (counts : Place → Bool) (levels o
 leaving_apart axes way counts levels others face cell other four a b l k i same low high =
     ap (list_any (is_touched axes way others other)) (leaving_is axes way counts levels face cell)
     ∙ list_any_none (is_touched axes way others other) _ (Each-weaker (AtFace (goes_across axes way counts face) face cell) _ (λ v h.
-    apart axes way others h.depth other v h.inner (across face h.inner) cell.pos (across face cell).pos four k i (h.level ∙ ap (deeper h.depth) (sym same)) h.within h.beyond (and_right (counts v) _ h.passes) low high)
+    apart axes way others h.depth other v h.inner (across face h.inner) cell.pos (across face cell).pos four k i (h.level ∙ ap (deeper h.depth) (sym same)) h.within h.beyond (and_parts (counts v) _ h.passes).1 low high)
     _ (at_face_each axes (opposite way) (goes_across axes way counts face) face four a b (cell.level + levels) levels cell l refl))
 
 -- a vertex of a child's list is no corner of the cell

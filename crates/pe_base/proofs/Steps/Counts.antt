@@ -6,6 +6,7 @@ use Rattle.std.proofs.lemmas.List.{map-append, reverse-reverse}
 use Rattle.std.proofs.lemmas.List.Elements.{filter-append}
 use Rattle.std.proofs.lemmas.List.Concat.{flat_map_single, flat_map-append}
 use Rattle.std.proofs.lemmas.Bool.Decides.{nat_tests}
+use Rattle.std.proofs.lemmas.Bool.{eq-eqb, ne_eqb, eqb-true, eqb-false}
 use Rattle.pe_base.specs.declared.place.Place.{Place}
 use Rattle.pe_base.specs.declared.way.Way.{Way}
 use Rattle.pe_base.specs.Tree.Ways.{opposite}
@@ -159,18 +160,6 @@ pub children_on_grid : (axes : ℕ) (way : Way) (level : ℕ) (cell : Place) →
 children_on_grid axes way level cell four on = subst (Each (OnGrid axes (suc level))) (sym (children_are axes way cell))
     (Each-map (OnGrid axes (suc level)) (child_of axes way cell) (digit_lists axes) (Each-weaker (Digits3 axes) _ (λ ts d. child_on_grid axes way level cell ts four on d) (digit_lists axes) (digit_lists_below axes)))
 
-pub eq_true : (x y : ℕ) → x ≡ y → (x == y) ≡ true
-eq_true x y h = grind (arith, nat_tests)
-
-pub eq_false : (x y : ℕ) → x ≢ y → (x == y) ≡ false
-eq_false x y h = grind (arith, nat_tests)
-
-pub true_eq : (x y : ℕ) → (x == y) ≡ true → x ≡ y
-true_eq x y h = grind (arith, nat_tests)
-
-false_ne : (x y : ℕ) → (x == y) ≡ false → x ≢ y
-false_ne x y h = grind (arith, nat_tests)
-
 -- a coordinate is a cell's near one, or its far one, or neither
 near_or_far : (x y : ℕ) → (((x + 0 == y) ≡ true) × ((x + 1 == y) ≡ false) × ((y == x || y == x + 1) ≡ true))
     ⊎ ((((x + 0 == y) ≡ false) × ((x + 1 == y) ≡ true) × ((y == x || y == x + 1) ≡ true)) ⊎ (((x + 0 == y) ≡ false) × ((x + 1 == y) ≡ false) × ((y == x || y == x + 1) ≡ false)))
@@ -178,9 +167,9 @@ near_or_far x y = pick (y == x) (y == x + 1) refl refl
   where
     pick : (s t : Bool) → (y == x) ≡ s → (y == x + 1) ≡ t → (((x + 0 == y) ≡ true) × ((x + 1 == y) ≡ false) × ((s || t) ≡ true))
         ⊎ ((((x + 0 == y) ≡ false) × ((x + 1 == y) ≡ true) × ((s || t) ≡ true)) ⊎ (((x + 0 == y) ≡ false) × ((x + 1 == y) ≡ false) × ((s || t) ≡ false)))
-    pick true t e f = let k = true_eq y x e in inl (eq_true (x + 0) y (omega arith), eq_false (x + 1) y (omega arith), refl)
-    pick false true e f = let k = true_eq y (x + 1) f in inr (inl (eq_false (x + 0) y (omega arith), eq_true (x + 1) y (omega arith), refl))
-    pick false false e f = let k = false_ne y x e in let m = false_ne y (x + 1) f in inr (inr (eq_false (x + 0) y (omega arith), eq_false (x + 1) y (omega arith), refl))
+    pick true t e f = let k = eqb-true y x e in inl (eq-eqb (x + 0) y (omega arith), ne_eqb (x + 1) y (omega arith), refl)
+    pick false true e f = let k = eqb-true y (x + 1) f in inr (inl (ne_eqb (x + 0) y (omega arith), eq-eqb (x + 1) y (omega arith), refl))
+    pick false false e f = let k = eqb-false y x e in let m = eqb-false y (x + 1) f in inr (inr (ne_eqb (x + 0) y (omega arith), ne_eqb (x + 1) y (omega arith), refl))
 
 one_each : {X Y : Type 0} (cell : Place) (rest : X → Bool) (k : X → Y) (xs : List X) → flat_map (λ x. map (λ (y : Y). cell) (cond (rest x) (k x ∷ []) [])) xs ≡ map (λ (x : X). cell) (filter rest xs)
 one_each cell rest k [] = refl
@@ -232,14 +221,14 @@ pub own_touches : (axes : ℕ) (vertex cell : Place) → axes ≤ 4 → OnGrid a
 own_touches axes vertex cell four v c =
     let same = λ (t : Touch). is_same t.vertex vertex in
     let test = λ (bs : List ℕ). pointwise nat_eq (moved cell.pos bs) vertex.pos in
-    let level : (cell.level == vertex.level) ≡ true = eq_true cell.level vertex.level c.0 in
+    let level : (cell.level == vertex.level) ≡ true = eq-eqb cell.level vertex.level c.0 in
     ap (λ ts. map (λ (t : Touch). t.cell) (filter same (reverse ts))) (corner_touches_are axes cell four)
     ∙ ap (map (λ t. t.cell)) (filter-reverse same (map (touch_at cell) (bit_lists axes)) ∙ ap reverse (filter-map same (touch_at cell) (bit_lists axes)
     ∙ ap (map (touch_at cell)) (filter_same (λ bs. same (touch_at cell bs)) test (bit_lists axes) (Each-all _ (λ bs. ap (λ b. b && test bs) level) (bit_lists axes)))))
     ∙ map-reverse (λ t. t.cell) (map (touch_at cell) (filter test (bit_lists axes)))
     ∙ ap reverse (map-map (λ t. t.cell) (touch_at cell) (filter test (bit_lists axes))
     ∙ one_corner axes cell cell.pos vertex.pos (omega (arith, c.1)) (v.1 ∙ sym c.1) (v.2 ∙ sym c.2))
-    ∙ one (is_corner_pos vertex.pos cell.pos) ∙ ap (λ b. cond (b && is_corner_pos vertex.pos cell.pos) (cell ∷ []) []) (sym (eq_true vertex.level cell.level (sym c.0)))
+    ∙ one (is_corner_pos vertex.pos cell.pos) ∙ ap (λ b. cond (b && is_corner_pos vertex.pos cell.pos) (cell ∷ []) []) (sym (eq-eqb vertex.level cell.level (sym c.0)))
   where
     one : (b : Bool) → reverse (cond b (cell ∷ []) []) ≡ cond b (cell ∷ []) []
     one true = refl
@@ -249,7 +238,7 @@ own_touches axes vertex cell four v c =
 other_touches : (axes : ℕ) (vertex cell : Place) → axes ≤ 4 → cell.level ≢ vertex.level → touched_for vertex (reverse (corner_touches axes cell)) ≡ []
 other_touches axes vertex cell four h =
     ap (map (λ (t : Touch). t.cell)) (filter_none (λ t. is_same t.vertex vertex) (reverse (corner_touches axes cell)) (Each-reverse _ (corner_touches axes cell) (subst (Each _) (sym (corner_touches_are axes cell four))
-    (Each-map _ (touch_at cell) (bit_lists axes) (Each-all _ (λ bs. ap (λ b. b && pointwise nat_eq (moved cell.pos bs) vertex.pos) (eq_false cell.level vertex.level h)) (bit_lists axes))))))
+    (Each-map _ (touch_at cell) (bit_lists axes) (Each-all _ (λ bs. ap (λ b. b && pointwise nat_eq (moved cell.pos bs) vertex.pos) (ne_eqb cell.level vertex.level h)) (bit_lists axes))))))
 
 pub touched-append : (vertex : Place) (ts us : List Touch) → touched_for vertex (ts ++ us) ≡ touched_for vertex ts ++ touched_for vertex us
 touched-append vertex ts us = ap (map (λ t. t.cell)) (filter-append (λ t. is_same t.vertex vertex) ts us) ∙ map-append (λ t. t.cell) (filter (λ t. is_same t.vertex vertex) ts) (filter (λ t. is_same t.vertex vertex) us)

@@ -7,8 +7,9 @@ use Rattle.std.proofs.lemmas.Bool.{and_parts, eqb-true, eq-eqb, ne_eqb, false≢
 use Rattle.std.proofs.lemmas.List.{length-append, length-map}
 use Rattle.std.proofs.lemmas.List.Elements.{All-head, All-tail, filter_passes}
 use Rattle.pe_base.proofs.Steps.Walks.{Path, Walk}
-use Rattle.pe_base.proofs.Steps.Spans.{Spot, fits, fits_all, coarse, two, two_on, low, lead, other, split, is_even, is_other, gray, start, enter, deeper, Within, parents, same_test, gray_walk, parents-start}
+use Rattle.pe_base.proofs.Steps.Spans.{Spot, fits, fits_all, coarse, two, two_on, low, lead, other, split, is_even, is_other, gray, start, enter, deeper, Within, parents, gray_walk, parents-start}
 use Rattle.pe_base.proofs.Steps.Levels.{cells, holders, holders-suc, entry, entry-child, or_else, coarsest}
+use Rattle.pe_base.proofs.Tree.Corners.{same_tests}
 
 abbrev pub one : Bool → ℕ
 one v = if v then 1 else 0
@@ -66,7 +67,7 @@ inner (suc i) (s ∷ ss) = double (two s.x s.on) (inner i ss)
 deeper-suc : (i : ℕ) (o : Option ℕ) (t : Bool) → is_axis (suc i) (deeper o t) ≡ is_axis i o
 deeper-suc i None true = ne_eqb 0 (suc i) (λ h. omega arith)
 deeper-suc i None false = refl
-deeper-suc i (Some j) t = same_test (suc j) (suc i) j i (λ h. omega arith) (λ h. omega arith)
+deeper-suc i (Some j) t = same_tests (suc j) (suc i) j i (λ h. omega arith) (λ h. omega arith)
 
 deeper-zero : (o : Option ℕ) (t : Bool) → is_axis 0 (deeper o t) ≡ (is_first o && t)
 deeper-zero None true = eq-eqb 0 0 refl

@@ -2,7 +2,7 @@
 use Rattle.std.proofs.Common.{◌≡◌, ℕ, zero, suc, ◌+◌, ◌-◌, ◌*◌, ◌%◌, ◌^◌, ◌<◌, ◌≤◌, true, ◌&&◌, ◌||◌, List, [], ◌∷◌, ◌++◌, map, take, drop, length, Option, sym, ap, ap₂, ◌∙◌, subst, subst₂, refl, inl, inr, ◌⊎◌, arith, pow-suc}
 use Rattle.std.specs.Prelude.{◌==◌, if◌then◌else◌, replicate, slice_index}
 use Rattle.std.specs.List.{zip}
-use Rattle.std.proofs.lemmas.Bool.{eq-eqb, ne_eqb, cases_lt}
+use Rattle.std.proofs.lemmas.Bool.{eq-eqb, ne_eqb, cases_lt, and_parts}
 use Rattle.std.proofs.lemmas.List.{length-take-le}
 use Rattle.std.proofs.lemmas.List.Elements.{All-from_recursion}
 use Rattle.pe_base.specs.declared.place.Place.{Place}
@@ -13,7 +13,7 @@ use Rattle.pe_base.specs.Steps.Faces.{IsFace, ShareFace, across, is_step}
 use Rattle.pe_base.specs.Steps.Routes.{way_turns, axis_between, axis_of, StepsAcrossFaces}
 use Rattle.pe_base.proofs.Lists.{Each, Each-weaker}
 use Rattle.pe_base.proofs.Tree.Mirrors.{up}
-use Rattle.pe_base.proofs.Tree.Ranks.{list_any-Each, is_same-true, and_left, and_right}
+use Rattle.pe_base.proofs.Tree.Ranks.{list_any-Each, same_places}
 use Rattle.pe_base.proofs.Faces.FaceLists.{face_of, up_cell, across-up}
 use Rattle.pe_base.proofs.Steps.Walks.{Path}
 use Rattle.pe_base.proofs.Steps.Spans.{Spot, fits, fits_all, coarse, Crosses}
@@ -229,11 +229,8 @@ around-neighbours axes way vertex within h =
 pub step_neighbours : (axes : ℕ) (way : Way) (vertex a b : Place) → axes ≤ 4 → IsPosition axes (suc (3 ^ vertex.level)) vertex.pos → is_step axes way vertex a b ≡ true → AreNeighbours axes (axis_of (a, b)) a b
 step_neighbours axes way vertex a b within h t =
     list_any-Each _ (λ s. AreNeighbours axes (axis_of s) s.0 s.1) (AreNeighbours axes (axis_of (a, b)) a b)
-    (λ s e n. subst₂ (λ x y. AreNeighbours axes (axis_of (x, y)) x y) (same s.0 a (and_left (is_same s.0 a) (is_same s.1 b) e)) (same s.1 b (and_right (is_same s.0 a) (is_same s.1 b) e)) n)
+    (λ s e n. subst₂ (λ x y. AreNeighbours axes (axis_of (x, y)) x y) (same_places s.0 a (and_parts (is_same s.0 a) (is_same s.1 b) e).0) (same_places s.1 b (and_parts (is_same s.0 a) (is_same s.1 b) e).1) n)
     (steps (around axes way vertex)) t (around-neighbours axes way vertex within h)
-  where
-    same : (x y : Place) → is_same x y ≡ true → x ≡ y
-    same x y e = let k = is_same-true x y e in ap₂ (λ l p. let u : Place = record { level = l; pos = p } in u) k.0 k.1
 
 -- and share a face
 pub steps-share : (axes : ℕ) (way : Way) (vertex : Place) → axes ≤ 4 → IsInside axes vertex → StepsAcrossFaces axes way vertex

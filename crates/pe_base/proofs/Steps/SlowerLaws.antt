@@ -6,17 +6,19 @@ use Rattle.std.proofs.Math.Nat.{mul-mod_right, div-add-mod}
 use Rattle.std.proofs.lemmas.Bool.{eqb-true, eqb-false, ne_eqb, lt-ltb, le-ltb, false≢true, cases_lt, cases_Bool}
 use Rattle.std.proofs.lemmas.List.{get_or-take, length-map}
 use Rattle.std.proofs.lemmas.List.Sums.{sum_by-cons}
+use Rattle.std.proofs.Math.Bool.{and-false, and-true}
 use Rattle.pe_base.specs.declared.place.Place.{Place}
 use Rattle.pe_base.specs.declared.way.Way.{Way}
 use Rattle.pe_base.specs.Tree.Places.{IsInside, at}
 use Rattle.pe_base.specs.Steps.Around.{around, steps, threes, is_slower, crossings}
 use Rattle.pe_base.specs.Steps.Routes.{way_turns, axis_of}
 use Rattle.pe_base.proofs.Steps.Walks.{Path}
-use Rattle.pe_base.proofs.Steps.Spans.{Spot, coarse, two, two_on, Crosses, same_test}
+use Rattle.pe_base.proofs.Steps.Spans.{Spot, coarse, two, two_on, Crosses}
 use Rattle.pe_base.proofs.Steps.Levels.{holders, entry}
 use Rattle.pe_base.proofs.Steps.Rounds.{spots, around-holders}
 use Rattle.pe_base.proofs.Steps.RouteLaws.{Below-front, length-front, at-front, round_at, steps-round, axis_of-step, fits_vertex}
 use Rattle.pe_base.proofs.Steps.CrossingLaws.{one, tally, is_axis, ons, on_at, two_at, before, Strict, strict-at, strict-coarse, slow, crossed-slow, at-old, size}
+use Rattle.pe_base.proofs.Tree.Corners.{same_tests}
 
 -- how often a plane of a point goes on to the level above
 abbrev pub times : ℕ → Spot → ℕ
@@ -35,14 +37,6 @@ slowers level k i d (s ∷ ss) = one (slower level k i d s) + slowers level (k +
 abbrev before_from : ℕ → ℕ → List Spot → ℕ
 before_from k i [] = 0
 before_from k i (s ∷ ss) = one (two s.x s.on && nat_lt k i) + before_from (k + 1) i ss
-
-and-false : (v : Bool) → (v && false) ≡ false
-and-false true = refl
-and-false false = refl
-
-and-true : (v : Bool) → (v && true) ≡ v
-and-true true = refl
-and-true false = refl
 
 before_from-past : (k i : ℕ) (ss : List Spot) → i ≤ k → before_from k i ss ≡ 0
 before_from-past k i [] h = refl
@@ -79,7 +73,7 @@ lt-suc a b = elim (cases_lt a b) [
 -- at an axis whose plane goes on
 old-slower : (on whole first : Bool) (d e : ℕ) → let n = if on && whole then suc e else 0 in (on && (nat_lt (suc d) n || (n == suc d && first))) ≡ ((on && whole) && (nat_lt d e || (e == d && first)))
 old-slower true true first d e =
-    ap (λ v. v || (suc e == suc d && first)) (lt-suc d e) ∙ ap (λ v. nat_lt d e || (v && first)) (same_test (suc e) (suc d) e d (λ h. omega arith) (λ h. omega arith))
+    ap (λ v. v || (suc e == suc d && first)) (lt-suc d e) ∙ ap (λ v. nat_lt d e || (v && first)) (same_tests (suc e) (suc d) e d (λ h. omega arith) (λ h. omega arith))
 old-slower true false first d e =
     ap (λ v. v || (0 == suc d && first)) (le-ltb (suc d) 0 (omega arith)) ∙ ap (λ v. v && first) (ne_eqb 0 (suc d) (λ h. omega arith))
 old-slower false whole first d e = refl
@@ -148,7 +142,7 @@ third-divided q n h =
     let back : q / 3 % m ≡ 0 → q % (m * 3) ≡ 0 = λ e.
     let all : q ≡ (m * 3) * (q / 3 / m) = omega (arith, part, e, h) in
     ap (λ (k : ℕ). k % (m * 3)) all ∙ mul-mod_right (m * 3) (q / 3 / m) in
-    ap (λ (k : ℕ). q % k == 0) power ∙ same_test (q % (m * 3)) 0 (q / 3 % m) 0 there back
+    ap (λ (k : ℕ). q % k == 0) power ∙ same_tests (q % (m * 3)) 0 (q / 3 % m) 0 there back
 
 not-divided : (q n : ℕ) → (q % 3 ≡ 0 → ⊥) → (q % 3 ^ (n + 1) == 0) ≡ false
 not-divided q n h =

@@ -2,8 +2,10 @@
 -- planes the point lies inside the cell.
 use Rattle.std.proofs.Common.{◌≡◌, ℕ, zero, suc, ◌+◌, ◌-◌, ◌*◌, ◌/◌, ◌%◌, ◌<◌, ◌≤◌, Bool, true, false, ◌&&◌, ◌||◌, List, [], ◌∷◌, ◌++◌, map, Option, Some, None, sym, ap, ◌∙◌, subst, refl, inl, inr, ◌⊎◌, arith}
 use Rattle.std.specs.Prelude.{◌==◌, not}
-use Rattle.std.proofs.lemmas.Bool.{or_cases, and_parts, eqb-true, eqb-false, eq-eqb, ne_eqb, false≢true, cases_lt, cases_eq}
+use Rattle.std.proofs.lemmas.Bool.{or_cases, and_parts, eqb-true, eqb-false, eq-eqb, ne_eqb, false≢true, cases_lt}
+use Rattle.std.proofs.Math.Bool.{or-false}
 use Rattle.pe_base.proofs.Steps.Walks.{Step, Walk, Path-join, Path-map}
+use Rattle.pe_base.proofs.Tree.Corners.{same_tests}
 
 -- where a point lies along an axis of a level: on the plane at a coordinate, or else inside the cell there
 pub record Spot : Type 0 where
@@ -116,16 +118,6 @@ pub record Fit (x : ℕ) (on : Bool) (p lo : ℕ) (pair : Bool) : Type 0 where
   pub plane : pair ≡ true → (on ≡ true) × (x ≡ lo + 1) × (digit < 2)
   pub holds : (c : ℕ) → 3 * p ≤ c → c < 3 * p + 3 → fits (record { x = x; on = on }) c ≡ (c == lo || (pair && c == lo + 1))
 
-pub same_test : (a b c d : ℕ) → (a ≡ b → c ≡ d) → (c ≡ d → a ≡ b) → (a == b) ≡ (c == d)
-same_test a b c d to from = elim (cases_eq a b) [
-  | inl e ↦ eq-eqb a b e ∙ sym (eq-eqb c d (to e))
-  | inr e ↦ ne_eqb a b e ∙ sym (ne_eqb c d (λ h. e (from h)))
-]
-
-pub or_none : (v : Bool) → (v || false) ≡ v
-or_none true = refl
-or_none false = refl
-
 or_swap : (v u : Bool) → (v || u) ≡ (u || v)
 or_swap true true = refl
 or_swap true false = refl
@@ -140,7 +132,7 @@ fit_off x p h =
       below = omega arith;
       least = omega arith;
       plane = λ e. absurd (false≢true e);
-      holds = λ c from to. ap (λ v. v || false) (same_test x c c x (λ e. sym e) (λ e. sym e));
+      holds = λ c from to. ap (λ v. v || false) (same_tests x c c x (λ e. sym e) (λ e. sym e));
     }
 
 fit_on : (x p : ℕ) (whole near : Bool) → (x % 3 == 0) ≡ whole → (x == 3 * p) ≡ near → (x / 3 == p || (whole && x / 3 == p + 1)) ≡ true → Fit x true p (low_on true whole near x) (two_on true whole)
@@ -152,7 +144,7 @@ fit_on x p true true w n h =
       least = omega arith;
       plane = λ e. absurd (false≢true e);
       holds = λ c from to.
-          let here : (x == c) ≡ (c == x) = same_test x c c x (λ e. sym e) (λ e. sym e) in
+          let here : (x == c) ≡ (c == x) = same_tests x c c x (λ e. sym e) (λ e. sym e) in
           let there : (x == c + 1) ≡ false = ne_eqb x (c + 1) (λ e. omega arith) in
           ap (λ v. v || x == c + 1) here ∙ ap (λ v. c == x || v) there;
     }
@@ -170,8 +162,8 @@ fit_on x p true false w n h =
       plane = λ e. absurd (false≢true e);
       holds = λ c from to.
           let here : (x == c) ≡ false = ne_eqb x c (λ e. omega arith) in
-          let there : (x == c + 1) ≡ (c == x - 1) = same_test x (c + 1) c (x - 1) (λ e. omega arith) (λ e. omega arith) in
-          ap (λ v. v || x == c + 1) here ∙ there ∙ sym (or_none (c == x - 1));
+          let there : (x == c + 1) ≡ (c == x - 1) = same_tests x (c + 1) c (x - 1) (λ e. omega arith) (λ e. omega arith) in
+          ap (λ v. v || x == c + 1) here ∙ there ∙ sym (or-false (c == x - 1));
     }
 fit_on x p false near w n h =
     let part : x % 3 ≡ 0 → ⊥ = eqb-false (x % 3) 0 w in
@@ -183,8 +175,8 @@ fit_on x p false near w n h =
       least = omega arith;
       plane = λ e. (refl, omega arith, omega arith);
       holds = λ c from to.
-          let here : (x == c) ≡ (c == x - 1 + 1) = same_test x c c (x - 1 + 1) (λ e. omega arith) (λ e. omega arith) in
-          let there : (x == c + 1) ≡ (c == x - 1) = same_test x (c + 1) c (x - 1) (λ e. omega arith) (λ e. omega arith) in
+          let here : (x == c) ≡ (c == x - 1 + 1) = same_tests x c c (x - 1 + 1) (λ e. omega arith) (λ e. omega arith) in
+          let there : (x == c + 1) ≡ (c == x - 1) = same_tests x (c + 1) c (x - 1) (λ e. omega arith) (λ e. omega arith) in
           ap (λ v. v || x == c + 1) here ∙ ap (λ v. c == x - 1 + 1 || v) there ∙ or_swap (c == x - 1 + 1) (c == x - 1);
     }
 

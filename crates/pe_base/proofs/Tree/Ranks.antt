@@ -1,16 +1,17 @@
 -- The place of a cell in the order of its level, as a number.
-use Rattle.std.proofs.Common.{◌≡◌, ℕ, zero, suc, ◌+◌, ◌-◌, ◌*◌, ◌/◌, ◌%◌, ◌^◌, ◌<◌, ◌≤◌, ◌⊎◌, Bool, true, false, cond, ◌&&◌, ◌==◌, List, [], ◌∷◌, ◌++◌, map, filter, length, take, replicate, refl, sym, ap, ap₂, ◌∙◌, subst, true≢false, ◌||◌, nat_eq, inl, inr, pow-suc, mul-le-mul_right, length-append, arith}
+use Rattle.std.proofs.Common.{◌≡◌, ℕ, zero, suc, ◌+◌, ◌-◌, ◌*◌, ◌/◌, ◌%◌, ◌^◌, ◌<◌, ◌≤◌, ◌⊎◌, Bool, true, false, cond, ◌==◌, List, [], ◌∷◌, ◌++◌, map, filter, length, take, replicate, refl, sym, ap, ap₂, ◌∙◌, subst, true≢false, nat_eq, inl, inr, pow-suc, mul-le-mul_right, length-append, arith}
 use Rattle.std.specs.List.{flat_map, list_any}
 use Rattle.std.specs.Cmp.Lexicographic.{pointwise}
 use Rattle.std.proofs.lemmas.List.{length-replicate}
 use Rattle.std.proofs.lemmas.Bool.Decides.{nat_tests}
+use Rattle.std.proofs.lemmas.Bool.{and_parts, or_cases}
 use Rattle.pe_base.specs.declared.place.Place.{Place}
 use Rattle.pe_base.specs.declared.way.Way.{Way}
 use Rattle.pe_base.specs.Tree.Places.{finer, is_same}
 use Rattle.pe_base.specs.Tree.Curve.{digit_lists, turned, children, order}
 use Rattle.pe_base.specs.Steps.Around.{is_corner, around, steps}
 use Rattle.pe_base.specs.Steps.Faces.{is_step}
-use Rattle.pe_base.proofs.Lists.{Each, Each-all, Each-weaker, Each-append, Each-map, Each-flat_map}
+use Rattle.pe_base.proofs.Lists.{Each, Each-all, Each-weaker, Each-append, Each-map, Each-flat_map, Each-both}
 use Rattle.pe_base.proofs.Tree.PlaceLaws.{length-finer}
 use Rattle.pe_base.proofs.Tree.Mirrors.{Digits3, digit_lists_below, sum_of, turned_twice, Each-digits}
 use Rattle.pe_base.proofs.Tree.Children.{flips_in, length-flips, child_pos, child_of, child_ks, child_ks-below, children_are, length-digits}
@@ -191,10 +192,6 @@ steps_within P [] e = tt
 steps_within P (x ∷ []) e = tt
 steps_within P (x ∷ y ∷ xs) e = ((e.0, e.1.0), steps_within P (y ∷ xs) e.1)
 
-Each-both : {X : Type 0} (P Q R : X → Type 0) → ((x : X) → P x → Q x → R x) → (xs : List X) → Each P xs → Each Q xs → Each R xs
-Each-both P Q R h [] e f = tt
-Each-both P Q R h (x ∷ xs) e f = (h x e.0 f.0, Each-both P Q R h xs e.1 f.1)
-
 pub steps_close : {X : Type 0} (r : X → ℕ) (low high : ℕ) (xs : List X) → Rising r low xs high → Each (IsClose r xs) (steps xs)
 steps_close r low high [] s = tt
 steps_close r low high (x ∷ []) s = tt
@@ -205,33 +202,23 @@ steps_close r low high (x ∷ y ∷ xs) s =
           (steps_close r (suc (r x)) high (y ∷ xs) s.1) (steps_within (λ z. suc (r x) ≤ r z) (y ∷ xs) up),
     )
 
--- tests on places
-pub and_left : (a b : Bool) → (a && b) ≡ true → a ≡ true
-and_left true b h = refl
-and_left false b h = h
-
-pub and_right : (a b : Bool) → (a && b) ≡ true → b ≡ true
-and_right true b h = h
-and_right false b h = absurd (true≢false (sym h))
-
 pub same_list : (xs ys : List ℕ) → pointwise nat_eq xs ys ≡ true → xs ≡ ys
 same_list [] [] h = refl
 same_list [] (y ∷ ys) h = absurd (true≢false (sym h))
 same_list (x ∷ xs) [] h = absurd (true≢false (sym h))
-same_list (x ∷ xs) (y ∷ ys) h = ap₂ (λ z zs. z ∷ zs) (eq (and_left (nat_eq x y) _ h)) (same_list xs ys (and_right (nat_eq x y) _ h))
+same_list (x ∷ xs) (y ∷ ys) h = ap₂ (λ z zs. z ∷ zs) (eq (and_parts (nat_eq x y) _ h).0) (same_list xs ys (and_parts (nat_eq x y) _ h).1)
   where
     eq : nat_eq x y ≡ true → x ≡ y
     eq e = grind (arith, nat_tests)
 
 pub is_same-true : (a b : Place) → is_same a b ≡ true → (a.level ≡ b.level) × (a.pos ≡ b.pos)
-is_same-true a b h = (eq (and_left (a.level == b.level) _ h), same_list a.pos b.pos (and_right (a.level == b.level) _ h))
+is_same-true a b h = (eq (and_parts (a.level == b.level) _ h).0, same_list a.pos b.pos (and_parts (a.level == b.level) _ h).1)
   where
     eq : (a.level == b.level) ≡ true → a.level ≡ b.level
     eq e = grind (arith, nat_tests)
 
-or_cases : (a b : Bool) → (a || b) ≡ true → (a ≡ true) ⊎ (b ≡ true)
-or_cases true b h = inl refl
-or_cases false b h = inr h
+pub same_places : (a b : Place) → is_same a b ≡ true → a ≡ b
+same_places a b e = let k = is_same-true a b e in ap₂ (λ l p. let v : Place = record { level = l; pos = p } in v) k.0 k.1
 
 pub list_any-Each : {X : Type 0} (p : X → Bool) (P : X → Type 0) (C : Type 0) → ((x : X) → p x ≡ true → P x → C) → (xs : List X) → list_any p xs ≡ true → Each P xs → C
 list_any-Each p P C h [] t e = absurd (true≢false (sym t))
@@ -248,6 +235,6 @@ pub is_step-rises : (axes : ℕ) (way : Way) (vertex a b : Place) → axes ≤ 4
 is_step-rises axes way vertex a b four h =
     let r = rank_of axes way vertex.level in
     list_any-Each _ (λ s. r s.0 < r s.1) (r a < r b)
-    (λ s t up. subst (λ p. rank axes way vertex.level p < r b) (is_same-true s.0 a (and_left (is_same s.0 a) (is_same s.1 b) t)).1
-    (subst (λ p. r s.0 < rank axes way vertex.level p) (is_same-true s.1 b (and_right (is_same s.0 a) (is_same s.1 b) t)).1 up))
+    (λ s t up. subst (λ p. rank axes way vertex.level p < r b) (is_same-true s.0 a (and_parts (is_same s.0 a) (is_same s.1 b) t).0).1
+    (subst (λ p. r s.0 < rank axes way vertex.level p) (is_same-true s.1 b (and_parts (is_same s.0 a) (is_same s.1 b) t).1).1 up))
     (steps (around axes way vertex)) h (steps_rise r 0 (top axes vertex.level) (around axes way vertex) (around_rises axes way vertex four))

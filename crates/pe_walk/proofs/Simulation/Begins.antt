@@ -9,7 +9,7 @@ use Rattle.pe_base.specs.Tree.Places.{is_same}
 use Rattle.pe_base.specs.Acts.Effects.{VertexRecord}
 use Rattle.pe_base.specs.Walk.Grids.{StoredVertex}
 use Rattle.pe_base.proofs.Steps.Counts.{is_same_itself}
-use Rattle.pe_base.proofs.Faces.Bridge.{same_places}
+use Rattle.pe_base.proofs.Tree.Ranks.{same_places}
 use Rattle.pe_stacks.specs.Holdings.{Stack, Holdings, new_stack, stack_at, stack_count, items_at}
 use Rattle.pe_hang.specs.InHand.{map_stack, map_holdings}
 use Rattle.pe_walk.specs.CellsAhead.{times}

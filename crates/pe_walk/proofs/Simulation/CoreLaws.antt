@@ -3,6 +3,7 @@ use Rattle.std.proofs.Common.{◌≡◌, ℕ, ℤ, zero, suc, ◌-◌, ◌≤◌
 use Rattle.std.specs.Prelude.{nat_lt, if◌then◌else◌}
 use Rattle.std.specs.Option.{unwrap_or}
 use Rattle.std.proofs.lemmas.Bool.{le-ltb}
+use Rattle.std.proofs.Math.Bool.{and-false}
 use Rattle.pe_base.specs.declared.place.Place.{Place}
 use Rattle.pe_base.specs.declared.kind.Kind.{Kind}
 use Rattle.pe_base.specs.declared.kind.Kind.TheVariants.{Kept, Born, Dying, Hanging}
@@ -50,14 +51,10 @@ module _ (greatest level : ℕ) where
   erased-finest Hanging = refl
 
   refined-finest : (kind : Kind) → greatest ≤ level → refined_state level greatest kind Unrefined ≡ Unrefined
-  refined-finest kind finest = ap (λ b. if is_stored kind && b then RefinementTriggered else Unrefined) (not_below finest) ∙ ap (λ b. if b then RefinementTriggered else Unrefined) (never (is_stored kind))
+  refined-finest kind finest = ap (λ b. if is_stored kind && b then RefinementTriggered else Unrefined) (not_below finest) ∙ ap (λ b. if b then RefinementTriggered else Unrefined) (and-false (is_stored kind))
     where
       not_below : greatest ≤ level → nat_lt level greatest ≡ false
       not_below h = le-ltb level greatest h
-
-      never : (b : Bool) → (b && false) ≡ false
-      never true = refl
-      never false = refl
 
   triggered-finest : (kind : Kind) (before after : State) → MayBecome greatest level kind before after → IsFinest greatest level before → IsFinest greatest level after
   triggered-finest kind before after (inl same) h finest = same ∙ h finest

@@ -1,7 +1,7 @@
 -- A cell is counted; and events of a traversal as a whole.
 use Rattle.std.proofs.Common.{◌≡◌, ℕ, ℤ, ◌+◌, ◌*◌, ◌^◌, ◌<◌, ◌≤◌, Bool, true, false, ◌&&◌, List, [], length, Option, Some, refl, sym, ap, ap₂, subst, ◌∙◌, arith}
 use Rattle.std.specs.Prelude.{nat_lt}
-use Rattle.std.proofs.lemmas.Bool.{lt-ltb, ltb-false}
+use Rattle.std.proofs.lemmas.Bool.{lt-ltb, ltb-false, and_from}
 use Rattle.pe_base.specs.declared.place.Place.{Place}
 use Rattle.pe_base.specs.declared.event.Event.{Event}
 use Rattle.pe_base.specs.declared.tally.Tally.{Tally}
@@ -26,9 +26,6 @@ small_rises base owed cells most x bound few below =
     let less : x < 2 ^ 63 = omega (arith, bound, below, more) in
     lt-ltb x (2 ^ 63) less
 
-and_true : (a b : Bool) → a ≡ true → b ≡ true → (a && b) ≡ true
-and_true a b e f = ap₂ (λ x y. x && y) e f
-
 module _ {Plan : Type 0} (set : Setting Plan) (e : Outset) (walked : Place → Bool) (is : IsOutset set e walked) where
   -- every number of the tally may rise
   pub tally_rises : (st : Stage) (tally : Tally) (t : Tokens) → Owes set.axes set.max_cells e st tally t → tally_may_rise tally ≡ true
@@ -36,7 +33,7 @@ module _ {Plan : Type 0} (set : Setting Plan) (e : Outset) (walked : Place → B
       let rises : (x : ℕ) → x + st.owed ≤ e.base + per_cell * tally.cells → may_rise x ≡ true = λ x h. small_rises e.base st.owed tally.cells set.max_cells x is.bound owes.cells h in
       let most : 34 * tally.cells ≤ 34 * set.max_cells = omega (arith, owes.cells) in
       let few : tally.cells < 2 ^ 63 = omega (arith, is.bound, most) in
-      and_true _ _ (and_true _ _ (and_true _ _ (and_true _ _ (and_true _ _ (lt-ltb tally.cells (2 ^ 63) few) (rises tally.read owes.read)) (rises tally.written owes.written))
+      and_from _ _ (and_from _ _ (and_from _ _ (and_from _ _ (and_from _ _ (lt-ltb tally.cells (2 ^ 63) few) (rises tally.read owes.read)) (rises tally.written owes.written))
       (rises tally.created owes.created)) (rises tally.destroyed owes.destroyed)) (rises tally.hanging owes.hanging)
 
   -- one more cell is counted, if it may be

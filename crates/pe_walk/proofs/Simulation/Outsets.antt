@@ -22,7 +22,7 @@ use Rattle.pe_base.specs.Walk.Core.{Setting, way}
 use Rattle.pe_base.specs.Walk.Laws.{IsCornerOf}
 use Rattle.pe_base.specs.Walk.Grids.{Grid, StoredVertex, state_in, is_stored_vertex, IsWellFormed}
 use Rattle.pe_base.specs.Walk.Foreseen.{next_traversal, was, touched_state, will_on, will, kind_foreseen, counts, state_foreseen, old_foreseen, new_foreseen, below, walks, walked}
-use Rattle.pe_base.proofs.Lists.{Each, Each-weaker, Each-all, Each-In}
+use Rattle.pe_base.proofs.Lists.{Each, Each-weaker, Each-all, Each-In, list_any_none}
 use Rattle.pe_walk.specs.Laws.{IsCell}
 use Rattle.pe_walk.specs.Tokens.{Outlook}
 use Rattle.pe_walk.specs.Outlooks.{outlook, was_stored, IsNew}
@@ -50,10 +50,6 @@ foresight_of start_level grid = record {
   below = below start_level grid;
   start = λ vertex. option_map as_begun (at grid.vertices vertex);
 }
-
-any-none : {X : Type 0} (p : X → Bool) (xs : List X) → Each (λ x. p x ≡ false) xs → list_any p xs ≡ false
-any-none p [] h = refl
-any-none p (x ∷ xs) h = ap₂ (λ a b. a || b) h.0 (any-none p xs h.1)
 
 any-same : {X : Type 0} (p q : X → Bool) (xs : List X) → Each (λ x. p x ≡ q x) xs → list_any p xs ≡ list_any q xs
 any-same p q [] h = refl
@@ -151,8 +147,8 @@ module _ {Plan : Type 0} (set : Setting Plan) (grid : Grid) (swapped : Bool) (of
       go : (b : Bool) → nat_lt 0 grid.finished ≡ b → (c : Bool) → is_inside grid.axes vertex ≡ c
           → list_any f.old (carriers vertex) ≡ (b && (c && is_carried is_old (state_in grid) vertex))
       go true p true q = olds
-      go true p false q = any-none f.old (carriers vertex) (Each-weaker (λ m. (f.old m ≡ false) × (f.new m ≡ false)) (λ m. f.old m ≡ false) (λ m h. h.0) (carriers vertex) (quiet_outside vertex (omega (arith, deep)) on q))
-      go false p c q = olds ∙ any-none (λ m. passes is_old (state_in grid m)) (carriers vertex) (Each-all (λ m. passes is_old (state_in grid m) ≡ false) (unborn p) (carriers vertex))
+      go true p false q = list_any_none f.old (carriers vertex) (Each-weaker (λ m. (f.old m ≡ false) × (f.new m ≡ false)) (λ m. f.old m ≡ false) (λ m h. h.0) (carriers vertex) (quiet_outside vertex (omega (arith, deep)) on q))
+      go false p c q = olds ∙ list_any_none (λ m. passes is_old (state_in grid m)) (carriers vertex) (Each-all (λ m. passes is_old (state_in grid m) ≡ false) (unborn p) (carriers vertex))
 
   -- and after where a carrier is new
   will_by : (n : ℕ) (vertex : Place) → vertex.level ≡ n → 2 ≤ n → OnGrid grid.axes vertex.level vertex → list_any f.new (carriers vertex) ≡ will_on set.start_level grid n vertex
@@ -173,7 +169,7 @@ module _ {Plan : Type 0} (set : Setting Plan) (grid : Grid) (swapped : Bool) (of
       go true q = ap (λ c. c && list_any (λ m. is_new (touched_state set.start_level grid (kind_from (was set.start_level grid m) (will_on set.start_level grid (suc n) m)) m)) (carriers vertex)) (sym q)
       go false q =
           sym news
-          ∙ any-none f.new (carriers vertex) (Each-weaker (λ m. (f.old m ≡ false) × (f.new m ≡ false)) (λ m. f.new m ≡ false) (λ m h. h.1) (carriers vertex) (quiet_outside vertex (omega (arith, level, deep)) on q))
+          ∙ list_any_none f.new (carriers vertex) (Each-weaker (λ m. (f.old m ≡ false) × (f.new m ≡ false)) (λ m. f.new m ≡ false) (λ m h. h.1) (carriers vertex) (quiet_outside vertex (omega (arith, level, deep)) on q))
           ∙ ap (λ c. c && list_any (λ m. is_new (touched_state set.start_level grid (kind_from (was set.start_level grid m) (will_on set.start_level grid (suc n) m)) m)) (carriers vertex)) (sym q)
 
   deeper : (cell : Place) (k : ℕ) → IsCell set.axes (way set) cell → 2 ≤ cell.level → k < 2 ^ set.axes

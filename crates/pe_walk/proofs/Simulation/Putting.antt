@@ -10,7 +10,7 @@ use Rattle.pe_base.specs.Acts.Effects.{VertexRecord}
 use Rattle.pe_base.specs.Walk.Maps.{at}
 use Rattle.pe_base.specs.Walk.Core.{Family, Own}
 use Rattle.pe_base.specs.Walk.Working.{Working, vertex_at, cell_at, put_cell, put_records, put_records_from, family_of, put_family}
-use Rattle.pe_base.proofs.Lists.{Each}
+use Rattle.pe_base.proofs.Lists.{Each, map_same}
 use Rattle.pe_base.proofs.Steps.Counts.{is_same_itself}
 use Rattle.pe_base.proofs.Walk.MapLaws.{at-put}
 use Rattle.pe_base.proofs.Walk.Slots.{Slot, stored, hangs, read, write, is_slot, slot_if, slot_of, is_hung, HangsSame, write_all, SameBeside}
@@ -99,14 +99,10 @@ on_stacks_from P (stack ∷ stacks) h = (
 pub on_stacks : (P : Place → Type 0) (held : Holdings Place) → ((x : Place) → 1 ≤ lies held x → P x) → OnStacks P held.stacks
 on_stacks P held h = on_stacks_from P held.stacks h
 
-map-items : {X Y : Type 0} (f g : X → Y) (xs : List X) → Each (λ x. f x ≡ g x) xs → map f xs ≡ map g xs
-map-items f g [] h = refl
-map-items f g (x ∷ xs) h = ap (λ y. y ∷ map f xs) h.0 ∙ ap (λ ys. g x ∷ ys) (map-items f g xs h.1)
-
 map-stacks : {X Y : Type 0} (f g : X → Y) (stacks : List (Stack X)) → OnStacks (λ x. f x ≡ g x) stacks → map (map_stack f) stacks ≡ map (map_stack g) stacks
 map-stacks f g [] h = refl
 map-stacks f g (s ∷ ss) h =
-    ap (λ items. record { items = items; pushes = s.pushes; pops = s.pops } ∷ map (map_stack f) ss) (map-items f g s.items h.0) ∙ ap (λ ys. map_stack g s ∷ ys) (map-stacks f g ss h.1)
+    ap (λ items. record { items = items; pushes = s.pushes; pops = s.pops } ∷ map (map_stack f) ss) (map_same f g s.items h.0) ∙ ap (λ ys. map_stack g s ∷ ys) (map-stacks f g ss h.1)
 
 -- what is seen alike of all that lies on stacks makes the same stacks
 pub map_holdings-same : {X Y : Type 0} (f g : X → Y) (held : Holdings X) → OnStacks (λ x. f x ≡ g x) held.stacks → map_holdings f held ≡ map_holdings g held

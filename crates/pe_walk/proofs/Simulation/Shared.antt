@@ -4,7 +4,7 @@ use Rattle.std.proofs.Common.{◌≡◌, ◌⊎◌, ℕ, zero, suc, ◌+◌, ◌
 use Rattle.std.specs.Prelude.{nat_lt, is_some, if◌then◌else◌, sum_by, count_by}
 use Rattle.std.specs.Option.{unwrap_or}
 use Rattle.std.specs.List.{range_with_len, AllByRecursion}
-use Rattle.std.proofs.lemmas.Bool.{lt-ltb}
+use Rattle.std.proofs.lemmas.Bool.{lt-ltb, and_from}
 use Rattle.std.proofs.lemmas.List.FromFn.{length-map-range_with_len}
 use Rattle.std.proofs.lemmas.List.Sums.{sum_by-cons}
 use Rattle.pe_base.specs.declared.place.Place.{Place}
@@ -15,10 +15,10 @@ use Rattle.pe_base.specs.Walk.Maps.{at}
 use Rattle.pe_base.specs.Walk.Course.{done, at_once}
 use Rattle.pe_base.specs.Walk.Core.{Setting, Family}
 use Rattle.pe_base.specs.Walk.Working.{Working, no_vertex, cell_at, put_cell, record_at, records_of, family_of, put_family}
-use Rattle.pe_base.proofs.Faces.Bridge.{same_places}
 use Rattle.pe_base.proofs.Walk.MapLaws.{at-put}
 use Rattle.pe_base.proofs.Walk.Slots.{Slot, stored, hangs, write, is_hung, write_all}
 use Rattle.pe_base.proofs.Walk.Families.{slots_from, put_records-is, beside-put_records}
+use Rattle.pe_base.proofs.Tree.Ranks.{same_places}
 use Rattle.pe_base.specs.Steps.Faces.{stack_of}
 use Rattle.pe_base.specs.Steps.Stacks.{AcrossNone, AcrossOne}
 use Rattle.pe_stacks.specs.Grid.{output_stack}
@@ -38,11 +38,6 @@ use Rattle.pe_walk.proofs.Simulation.Levels.{record_at-put_family, at-put_family
 use Rattle.pe_walk.proofs.Simulation.Leaves.{record_of}
 use Rattle.pe_walk.proofs.Simulation.Putting.{IsOff, AfterFamily, after_family, on_stacks, map_holdings-same}
 
--- # Calls on images of stacks
-both_true : (a b : Bool) → a ≡ true → b ≡ true → (a && b) ≡ true
-both_true true b h k = k
-both_true false b h k = absurd cc
-
 module _ {X Y : Type 0} (f : X → Y) where
   -- a record is lent, and given up
   pub lend-image : (held : Holdings X) → held.fresh < 2 ^ 63 → lend (map_holdings f held) ≡ at_once (map_holdings f (lent held))
@@ -57,7 +52,7 @@ module _ {X Y : Type 0} (f : X → Y) where
   pop-image held s x xs top there few =
       let image = map_holdings f held in
       ap (λ b. allowed b (top_of (items_at image s) (popped image s)))
-      (both_true (nat_lt s (stack_count image)) (may_rise (stack_at image s).pops)
+      (and_from (nat_lt s (stack_count image)) (may_rise (stack_at image s).pops)
       (lt-ltb s (stack_count image) (omega (arith, there, stack_count-map f held)))
       (lt-ltb (stack_at image s).pops (2 ^ 63) (omega (arith, few, ap (λ (stack : Stack Y). stack.pops) (stack_at-map f held s)))))
       ∙ ap (λ items. top_of items (popped image s)) (ap (λ (stack : Stack Y). stack.items) (stack_at-map f held s) ∙ ap (map f) top)
@@ -70,8 +65,8 @@ module _ {X Y : Type 0} (f : X → Y) where
   push-image of_cell held s x there few some =
       let image = map_holdings f held in
       ap (λ b. allowed b (record { text = []; log = record { of_cell = of_cell; stack = s; length = len_at image s + 1 } ∷ []; ending = done (pushed image s (f x)) }))
-      (both_true (nat_lt s (stack_count image) && may_rise (stack_at image s).pushes) (nat_lt 0 held.out)
-      (both_true (nat_lt s (stack_count image)) (may_rise (stack_at image s).pushes)
+      (and_from (nat_lt s (stack_count image) && may_rise (stack_at image s).pushes) (nat_lt 0 held.out)
+      (and_from (nat_lt s (stack_count image)) (may_rise (stack_at image s).pushes)
       (lt-ltb s (stack_count image) (omega (arith, there, stack_count-map f held)))
       (lt-ltb (stack_at image s).pushes (2 ^ 63) (omega (arith, few, ap (λ (stack : Stack Y). stack.pushes) (stack_at-map f held s)))))
       (lt-ltb 0 held.out some))

@@ -1,7 +1,7 @@
 -- A traversal of a grid as it begins: its outset, its places on stacks, and its working state.
 use Rattle.std.proofs.Common.{◌≡◌, ◌⊎◌, ℕ, ℤ, zero, suc, ◌+◌, ◌-◌, ◌*◌, ◌^◌, ◌<◌, ◌≤◌, ◌≢◌, Bool, true, false, not, ◌&&◌, ◌||◌, ◌==◌, List, [], ◌∷◌, map, filter, cond, length, slice_index, get_or, take, drop, Option, Some, None, refl, sym, ap, ap₂, subst, ◌∙◌, arith, is_some, true≢false, if◌then◌else◌, inl, inr}
 use Rattle.std.specs.Prelude.{nat_lt, nat_le}
-use Rattle.std.proofs.lemmas.Bool.{lt-ltb, ltb-true, ltb-false, eq-eqb, eqb-true, ne_eqb, and_parts}
+use Rattle.std.proofs.lemmas.Bool.{lt-ltb, ltb-true, ltb-false, eq-eqb, eqb-true, ne_eqb, and_parts, or_right}
 use Rattle.std.proofs.lemmas.List.FromFn.{length-range_with_len}
 use Rattle.std.proofs.Math.Bool.{and-false}
 use Rattle.std.specs.Option.{option_map, unwrap_or}
@@ -37,8 +37,8 @@ use Rattle.pe_base.specs.Walk.Foreseen.{next_traversal, walked}
 use Rattle.pe_base.proofs.Steps.Counts.{is_same_itself}
 use Rattle.pe_base.proofs.Lists.{Each, map_same, Each-all, Each-weaker, Each-filter}
 use Rattle.pe_base.proofs.Walk.MapLaws.{at-put}
-use Rattle.pe_base.proofs.Faces.Bridge.{same_places}
 use Rattle.pe_base.proofs.Walk.MapLaws.{found-turned_by}
+use Rattle.pe_base.proofs.Tree.Ranks.{same_places}
 use Rattle.pe_walk.specs.Apart.{IsApart, lies}
 use Rattle.pe_walk.specs.Traffic.{OnlyCounting}
 use Rattle.pe_walk.specs.Gridded.{stored_of}
@@ -384,16 +384,12 @@ module _ {Plan : Type 0} (set : Setting Plan) (grid : Grid) (swapped : Bool) (m 
     mine = λ k high low off. absurd (omega (arith, high, low));
   }
     where
-      or_true : (a b : Bool) → b ≡ true → (a || b) ≡ true
-      or_true true b q = refl
-      or_true false b q = q
-
       or_none : (a b : Bool) → b ≡ false → a ≡ (a || b)
       or_none true b q = refl
       or_none false b q = sym q
 
       there : (x : Place) (b : Bool) → is_same root x ≡ b → is_some (if b then Some grid.root else at grid.cells x) ≡ (nat_lt 0 (lies (tokens_of grid swapped m).cells x) || nat_lt 0 (times (root ∷ []) x))
-      there x true e = sym (or_true (nat_lt 0 (lies (tokens_of grid swapped m).cells x)) (nat_lt 0 (times (root ∷ []) x)) (lt-ltb 0 (times (root ∷ []) x) (omega (arith, times-here root [] x e))))
+      there x true e = sym (or_right (nat_lt 0 (lies (tokens_of grid swapped m).cells x)) (nat_lt 0 (times (root ∷ []) x)) (lt-ltb 0 (times (root ∷ []) x) (omega (arith, times-here root [] x e))))
       there x false e =
           there_read x ∙ ap (nat_lt 0) (sym (lies_read x))
           ∙ or_none (nat_lt 0 (lies (tokens_of grid swapped m).cells x)) (nat_lt 0 (times (root ∷ []) x)) (ap (nat_lt 0) (times-there root [] x e))

@@ -5,6 +5,7 @@ use Rattle.std.specs.Option.{option_map}
 use Rattle.std.proofs.lemmas.Bool.Decides.{nat_tests}
 use Rattle.std.proofs.lemmas.List.{length-map}
 use Rattle.std.proofs.lemmas.List.Sums.{sum_by-set, sum_by-cons, length-filter}
+use Rattle.std.proofs.lemmas.Bool.{ne_eqb, eqb-true, cases_lt}
 use Rattle.pe_base.specs.declared.place.Place.{Place}
 use Rattle.pe_base.specs.Tree.Dim.{IsDim}
 use Rattle.pe_base.specs.Tree.Places.{root, is_same}
@@ -12,10 +13,9 @@ use Rattle.pe_base.specs.Steps.Around.{around}
 use Rattle.pe_base.specs.Steps.Routes.{stack_in}
 use Rattle.pe_base.specs.Steps.Faces.{Touch}
 use Rattle.pe_base.proofs.Lists.{Each, Each-all, Each-weaker, Each-filter, In, filter-map, filter-filter, filter_same, filter_none}
-use Rattle.pe_base.proofs.Tree.Ranks.{Rising, Rising-above, rank, rank_of, top, around_rises, is_same-true}
-use Rattle.pe_base.proofs.Steps.Counts.{same_itself, true_eq, eq_false}
+use Rattle.pe_base.proofs.Tree.Ranks.{Rising, Rising-above, rank, rank_of, top, around_rises, is_same-true, same_places}
+use Rattle.pe_base.proofs.Steps.Counts.{same_itself}
 use Rattle.pe_base.proofs.Faces.Quiet.{false_unless}
-use Rattle.pe_base.proofs.Faces.Bridge.{same_places}
 use Rattle.pe_stacks.specs.Holdings.{Holdings, Stack, new_stack, stack_count, stack_at, items_at, lent, given_up, pushed, popped, pushed_on, popped_from}
 use Rattle.pe_stacks.specs.Grid.{input_stack}
 use Rattle.pe_walk.specs.Laws.{IsCell}
@@ -53,7 +53,7 @@ lies-popped held s x xs e place =
     )
 
 lies-pushed : (held : Holdings Place) (s : ℕ) (x place : Place) → lies (pushed held s x) place ≤ lies held place + one_if (is_same x place)
-lies-pushed held s x place = elim (within s (stack_count held)) [
+lies-pushed held s x place = elim (cases_lt s (stack_count held)) [
   | inl h ↦ omega (
     arith,
     sum_by-set (there place) held.stacks s (pushed_on (stack_at held s) x) new_stack h,
@@ -61,9 +61,6 @@ lies-pushed held s x place = elim (within s (stack_count held)) [
   )
   | inr h ↦ omega (arith, ap (sum_by (there place)) (set_past held.stacks s (pushed_on (stack_at held s) x) h))
 ]
-  where
-    within : (a b : ℕ) → (a < b) ⊎ (b ≤ a)
-    within a b = grind arith
 
 pub map_some : {X Y : Type 0} (f : X → Y) (o : Option X) (y : Y) → option_map f o ≡ Some y → (x : X) × (o ≡ Some x) × (f x ≡ y)
 map_some f None y e = absurd cc
@@ -158,8 +155,8 @@ module _ (o : Outlook) (dim : IsDim o.axes) where
           subst (IsApart o) m.2 (elim (taken_was (source o touch) v t.vertices m.0 m.1) [
             | inl new ↦
                 let none = no_source (stack_in o.axes o.way v cell) (o.reads v) (input_stack o.swapped) new.0 in
-                let first : before (around o.axes o.way v) cell ≡ 0 = true_eq _ 0 (sym (corners_by_counting o.axes o.way cell k dim is_cell below).first ∙ ap is_none none.0) in
-                made m.0 c none.1 (true_eq (t.met v) (cells_before o.axes o.way touch) g.0 ∙ first) new.1
+                let first : before (around o.axes o.way v) cell ≡ 0 = eqb-true _ 0 (sym (corners_by_counting o.axes o.way cell k dim is_cell below).first ∙ ap is_none none.0) in
+                made m.0 c none.1 (eqb-true (t.met v) (cells_before o.axes o.way touch) g.0 ∙ first) new.1
             | inr lay ↦ moved m.0 lay
           ])
 
@@ -264,7 +261,7 @@ firsts o four v (touch ∷ touches) each e =
 -- where only one stack is not empty, a place lies there
 pub lies_only : (held : Holdings Place) (s : ℕ) (xs : List Place) → s < stack_count held → ((r : ℕ) → items_at held r ≡ (if r == s then xs else [])) → (place : Place) → lies held place ≡ count_by (λ other. is_same other place) xs
 lies_only held s xs low items place =
-    sum_only (there place) held.stacks s new_stack low (λ r k. ap (count_by (λ other. is_same other place)) (items r ∙ ap (λ b. if b then xs else []) (eq_false r s k)))
+    sum_only (there place) held.stacks s new_stack low (λ r k. ap (count_by (λ other. is_same other place)) (items r ∙ ap (λ b. if b then xs else []) (ne_eqb r s k)))
     ∙ ap (count_by (λ other. is_same other place)) (items s ∙ ap (λ b. if b then xs else []) (same_itself s))
 
 -- what is read, by the loads of each vertex

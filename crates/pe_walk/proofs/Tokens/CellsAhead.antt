@@ -3,13 +3,14 @@ use Rattle.std.proofs.Common.{◌≡◌, ◌⊎◌, inl, inr, ℕ, zero, suc, �
 use Rattle.std.specs.Prelude.{if◌then◌else◌, sum_by}
 use Rattle.std.specs.List.{flat_map}
 use Rattle.std.proofs.lemmas.Option.{option_and_then_some}
+use Rattle.std.proofs.lemmas.Bool.{cases_lt}
 use Rattle.pe_base.specs.declared.place.Place.{Place}
 use Rattle.pe_base.specs.Tree.Places.{root, is_same}
 use Rattle.pe_base.specs.Tree.Curve.{children}
 use Rattle.pe_base.specs.Walk.Streams.{if_walks, walked_children, walked_cells}
 use Rattle.pe_base.proofs.Steps.Counts.{is_same_itself}
 use Rattle.pe_base.proofs.Faces.Quiet.{false_unless}
-use Rattle.pe_base.proofs.Faces.Bridge.{same_places}
+use Rattle.pe_base.proofs.Tree.Ranks.{same_places}
 use Rattle.pe_stacks.specs.Holdings.{Holdings, stack_count, stack_at, pushed, pushed_on}
 use Rattle.pe_stacks.specs.Grid.{cell_input_stack}
 use Rattle.pe_walk.specs.Tokens.{Outlook, Tokens, each_some, put, cell_target, touch_of, load, store, enter, leave, around_below, numbers, walk}
@@ -37,13 +38,10 @@ each_cells step one (a ∷ xs) t after e = option_and_then_some (each_some step 
 
 -- a push puts a place on the stack, if the depot has it, and moves no other
 pub pushed_lies : (held : Holdings Place) (s : ℕ) (place x : Place) → is_same place x ≡ false → lies (pushed held s place) x ≡ lies held x
-pushed_lies held s place x other = elim (within s (stack_count held)) [
+pushed_lies held s place x other = elim (cases_lt s (stack_count held)) [
   | inl h ↦ omega (arith, pushed_once s place x held h, ap one_if other)
   | inr h ↦ ap (sum_by (there x)) (set_past held.stacks s (pushed_on (stack_at held s) place) h)
 ]
-  where
-    within : (a b : ℕ) → (a < b) ⊎ (b ≤ a)
-    within a b = grind arith
 
 pub left_lies : (o : Outlook) (cell : Place) (t after : Tokens) → leave o cell t ≡ Some after → (x : Place) → is_same cell x ≡ false → lies after.cells x ≡ lies t.cells x
 left_lies o cell t after e x other =

@@ -9,10 +9,9 @@ use Rattle.pe_base.specs.Walk.Streams.{if_walks, walked_cells}
 use Rattle.pe_base.proofs.Lists.{Each, Each-weaker, Each-map, Each-flat_map}
 use Rattle.pe_base.proofs.Tree.Mirrors.{Digits3, digit_lists_below}
 use Rattle.pe_base.proofs.Tree.Children.{child_of, children_are}
-use Rattle.pe_base.proofs.Tree.Ranks.{Rising, Rising-above, rank, rank_of, thirds-child, children_rise, is_same-true}
+use Rattle.pe_base.proofs.Tree.Ranks.{Rising, Rising-above, rank, rank_of, thirds-child, children_rise, is_same-true, same_places}
 use Rattle.pe_base.proofs.Steps.Counts.{is_same_itself}
 use Rattle.pe_base.proofs.Faces.Quiet.{false_unless}
-use Rattle.pe_base.proofs.Faces.Bridge.{same_places}
 use Rattle.pe_walk.specs.Laws.{IsCell}
 use Rattle.pe_walk.specs.Tokens.{Outlook}
 use Rattle.pe_walk.specs.CellsAhead.{times, cells_below, WalkedCellsDiffer}

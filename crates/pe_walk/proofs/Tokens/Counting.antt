@@ -4,6 +4,7 @@ use Rattle.std.specs.Prelude.{is_none, if◌then◌else◌}
 use Rattle.std.specs.Option.{option_map}
 use Rattle.std.specs.List.{list_any}
 use Rattle.std.proofs.lemmas.Bool.Decides.{nat_tests}
+use Rattle.std.proofs.Math.Bool.{not-not}
 use Rattle.pe_base.specs.declared.place.Place.{Place}
 use Rattle.pe_base.specs.declared.way.Way.{Way}
 use Rattle.pe_base.specs.Tree.Places.{corner, corners, is_same}
@@ -75,21 +76,17 @@ module _ (r : Place → ℕ) (ranks : (x y : Place) → is_same x y ≡ true →
       go true e more = none_later e
       go false e more = here (is_same y c) refl (later e) (more (later e)) ∙ ap not (sym (not_zero (before (y ∷ xs) c)))
 
-not_not : (b : Bool) → not (not b) ≡ b
-not_not true = refl
-not_not false = refl
-
 pub first_around : (axes : ℕ) (way : Way) (vertex cell : Place) → axes ≤ 4 → In cell (around axes way vertex) → is_none (stack_in axes way vertex cell) ≡ (before (around axes way vertex) cell == 0)
 first_around axes way vertex cell four i =
     found_or_not (λ step. is_same step.1 cell) (λ (step : Place × Place). waiting_stack vertex (axis_of step)) (steps (around axes way vertex))
     ∙ ap not (comes_from (rank_of axes way vertex.level) (λ x y e. ap (λ p. rank axes way vertex.level p) (is_same-true x y e).1) 0 (top axes vertex.level) (around axes way vertex) cell (around_rises axes way vertex four) i)
-    ∙ not_not (before (around axes way vertex) cell == 0)
+    ∙ not-not (before (around axes way vertex) cell == 0)
 
 pub last_around : (axes : ℕ) (way : Way) (vertex cell : Place) → In cell (around axes way vertex) → is_none (stack_out axes way vertex cell) ≡ (before (around axes way vertex) cell + 1 == length (around axes way vertex))
 last_around axes way vertex cell i =
     found_or_not (λ step. is_same step.0 cell) (λ (step : Place × Place). waiting_stack vertex (axis_of step)) (steps (around axes way vertex))
     ∙ ap not (goes_on (around axes way vertex) cell i)
-    ∙ not_not (before (around axes way vertex) cell + 1 == length (around axes way vertex))
+    ∙ not-not (before (around axes way vertex) cell + 1 == length (around axes way vertex))
 
 pub corners_by_counting : CornersByCounting
 corners_by_counting axes way cell k dim is_cell below =

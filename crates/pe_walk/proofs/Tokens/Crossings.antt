@@ -5,6 +5,8 @@ use Rattle.std.specs.Option.{option_map}
 use Rattle.std.specs.List.{flat_map}
 use Rattle.std.proofs.lemmas.List.{take_all}
 use Rattle.std.proofs.lemmas.List.Sums.{sum_by-cons, length-filter}
+use Rattle.std.proofs.lemmas.Bool.{and_parts, eq-eqb, ne_eqb, eqb-true}
+use Rattle.std.proofs.Math.Bool.{and-false, and-true}
 use Rattle.pe_base.specs.declared.place.Place.{Place}
 use Rattle.pe_base.specs.declared.way.Way.{Way}
 use Rattle.pe_base.specs.Tree.Dim.{IsDim}
@@ -14,11 +16,10 @@ use Rattle.pe_base.specs.Steps.Routes.{axis_of, waiting_stack, stack_in}
 use Rattle.pe_base.specs.Steps.Faces.{Touch, steps_to}
 use Rattle.pe_base.specs.Steps.Stacks.{is_stack}
 use Rattle.pe_base.proofs.Lists.{Each, Each-all, Each-weaker, Each-map, Each-filter, In, filter_same, filter-filter}
-use Rattle.pe_base.proofs.Tree.Ranks.{and_left}
-use Rattle.pe_base.proofs.Steps.Counts.{is_same_itself, steps_to_cells, eq_true, eq_false, true_eq}
+use Rattle.pe_base.proofs.Steps.Counts.{is_same_itself, steps_to_cells}
 use Rattle.pe_base.proofs.Steps.Turned.{find_none, find_first, one_step_to}
 use Rattle.pe_base.proofs.Steps.SlowerLaws.{length-around, crossings-count}
-use Rattle.pe_base.proofs.Faces.Bridge.{same_places}
+use Rattle.pe_base.proofs.Tree.Ranks.{same_places}
 use Rattle.pe_stacks.specs.Grid.{input_stack}
 use Rattle.pe_walk.specs.Tokens.{Outlook, turned, given, first_of, before}
 use Rattle.pe_walk.specs.Takings.{loads_of, stores_of, is_read, Grown}
@@ -53,17 +54,9 @@ by_places places q (t ∷ touches) e =
       here (q t) e.0,
     )
   where
-    nothing : (a : Bool) → (a && false) ≡ false
-    nothing true = refl
-    nothing false = refl
-
-    plain : (a : Bool) → (a && true) ≡ a
-    plain true = refl
-    plain false = refl
-
     here : (b : Bool) → (b ≡ true → count_by (λ v. is_same v t.vertex) places ≡ 1) → sum_by (λ v. one_if (is_same v t.vertex && b)) places ≡ one_if b
-    here true h = sum-same (λ v. one_if (is_same v t.vertex && true)) (λ v. one_if (is_same v t.vertex)) places (Each-all _ (λ v. ap one_if (plain (is_same v t.vertex))) places) ∙ h refl
-    here false h = count_none (λ v. is_same v t.vertex && false) places (Each-all _ (λ v. nothing (is_same v t.vertex)) places)
+    here true h = sum-same (λ v. one_if (is_same v t.vertex && true)) (λ v. one_if (is_same v t.vertex)) places (Each-all _ (λ v. ap one_if (and-true (is_same v t.vertex))) places) ∙ h refl
+    here false h = count_none (λ v. is_same v t.vertex && false) places (Each-all _ (λ v. and-false (is_same v t.vertex)) places)
 
 -- the steps of a vertex on a stack
 steps_on : (axes : ℕ) (way : Way) (v : Place) (axis parity : ℕ) → axes ≤ 4 → axis < axes → parity < 2 → IsInside axes v
@@ -88,16 +81,16 @@ steps_on axes way v axis parity four a b inside =
     same_axis i e = go (i == axis) refl
       where
         go : (t : Bool) → (i == axis) ≡ t → (2 * axis + parity == 2 * i + slice_index v.pos i % 2) ≡ t
-        go true k = let at : i ≡ axis = true_eq i axis k in eq_true (2 * axis + parity) (2 * i + slice_index v.pos i % 2) (omega (arith, at, e, ap (λ j. slice_index v.pos j) at))
-        go false k = eq_false (2 * axis + parity) (2 * i + slice_index v.pos i % 2) (λ h. true≢false (sym (eq_true i axis (omega (arith, h))) ∙ k))
+        go true k = let at : i ≡ axis = eqb-true i axis k in eq-eqb (2 * axis + parity) (2 * i + slice_index v.pos i % 2) (omega (arith, at, e, ap (λ j. slice_index v.pos j) at))
+        go false k = ne_eqb (2 * axis + parity) (2 * i + slice_index v.pos i % 2) (λ h. true≢false (sym (eq-eqb i axis (omega (arith, h))) ∙ k))
 
     other_parity : (i : ℕ) → slice_index v.pos axis % 2 ≢ parity → (2 * axis + parity == 2 * i + slice_index v.pos i % 2) ≡ false
-    other_parity i e = eq_false (2 * axis + parity) (2 * i + slice_index v.pos i % 2) (λ h. let at : i ≡ axis = omega (arith, h) in e (omega (arith, h, at, ap (λ j. slice_index v.pos j) at)))
+    other_parity i e = ne_eqb (2 * axis + parity) (2 * i + slice_index v.pos i % 2) (λ h. let at : i ≡ axis = omega (arith, h) in e (omega (arith, h, at, ap (λ j. slice_index v.pos j) at)))
 
     by_parity : (t : Bool) → (slice_index v.pos axis % 2 == parity) ≡ t → count_by (λ step. 2 * axis + parity == waiting_stack v (axis_of step)) (steps (around axes way v)) ≡ (if t then crossings axes v axis else 0)
-    by_parity true e = sum-same (λ step. one_if (2 * axis + parity == waiting_stack v (axis_of step))) (λ step. one_if (axis_of step == axis)) (steps (around axes way v)) (Each-all _ (λ step. ap one_if (same_axis (axis_of step) (true_eq (slice_index v.pos axis % 2) parity e))) (steps (around axes way v)))
+    by_parity true e = sum-same (λ step. one_if (2 * axis + parity == waiting_stack v (axis_of step))) (λ step. one_if (axis_of step == axis)) (steps (around axes way v)) (Each-all _ (λ step. ap one_if (same_axis (axis_of step) (eqb-true (slice_index v.pos axis % 2) parity e))) (steps (around axes way v)))
         ∙ crossings-count axes way v axis four a inside
-    by_parity false e = count_none (λ step. 2 * axis + parity == waiting_stack v (axis_of step)) (steps (around axes way v)) (Each-all _ (λ step. other_parity (axis_of step) (λ k. true≢false (sym (eq_true (slice_index v.pos axis % 2) parity k) ∙ e))) (steps (around axes way v)))
+    by_parity false e = count_none (λ step. 2 * axis + parity == waiting_stack v (axis_of step)) (steps (around axes way v)) (Each-all _ (λ step. other_parity (axis_of step) (λ k. true≢false (sym (eq-eqb (slice_index v.pos axis % 2) parity k) ∙ e))) (steps (around axes way v)))
 
 module _ (o : Outlook) (walked : Place → Bool) (greatest : ℕ) (dim : IsDim o.axes) (grown : Grown o walked greatest) where
   -- the loads of one vertex from a stack of an axis
@@ -116,7 +109,7 @@ module _ (o : Outlook) (walked : Place → Bool) (greatest : ℕ) (dim : IsDim o
       ∙ steps_on o.axes o.way v axis parity dim.1 a b (grown.is_walk.inside v c)
     where
       near : (2 * axis + parity == input_stack o.swapped) ≡ false
-      near = let far = far_input o.swapped in let four = dim.1 in eq_false (2 * axis + parity) (input_stack o.swapped) (λ e. omega arith)
+      near = let far = far_input o.swapped in let four = dim.1 in ne_eqb (2 * axis + parity) (input_stack o.swapped) (λ e. omega arith)
 
       by_stack : (from : Option ℕ) (r : Bool) → is_stack (2 * axis + parity) (first_of from (given r (Some (input_stack o.swapped)))) ≡ is_stack (2 * axis + parity) from
       by_stack (Some w) r = refl
@@ -130,7 +123,7 @@ module _ (o : Outlook) (walked : Place → Bool) (greatest : ℕ) (dim : IsDim o
   by_vertices : (axis parity : ℕ) → axis < o.axes → parity < 2 → (places : List Place) → ((q : Place) → o.counts q ≡ true → count_by (λ v. is_same v q) places ≡ 1) → Each (λ v. o.counts v ≡ true) places
       → count_by (takes_from o (2 * axis + parity)) (loads_of o greatest root) ≡ sum_by (crosses_on o.axes axis parity) places
   by_vertices axis parity a b places once counting =
-      sym (by_places places (takes_from o (2 * axis + parity)) (loads_of o greatest root) (Each-all _ (λ t h. once t.vertex (and_left (o.counts t.vertex) _ h)) (loads_of o greatest root)))
+      sym (by_places places (takes_from o (2 * axis + parity)) (loads_of o greatest root) (Each-all _ (λ t h. once t.vertex (and_parts (o.counts t.vertex) _ h).0) (loads_of o greatest root)))
       ∙ sum-same (λ v. count_by (λ t. is_same v t.vertex && takes_from o (2 * axis + parity) t) (loads_of o greatest root)) (crosses_on o.axes axis parity) places
       (Each-weaker (λ v. o.counts v ≡ true) _ (λ v c. of_vertex axis parity a b v c) places counting)
 
@@ -139,7 +132,7 @@ module _ (o : Outlook) (walked : Place → Bool) (greatest : ℕ) (dim : IsDim o
 
   firsts_count : Each (λ v. o.counts v ≡ true) (first_vertices o greatest)
   firsts_count = Each-map (λ v. o.counts v ≡ true) (λ t. t.vertex) (filter is_first_load (loads_of o greatest root))
-      (Each-weaker _ (λ t. o.counts t.vertex ≡ true) (λ t h. and_left (o.counts t.vertex) _ h.1) (filter is_first_load (loads_of o greatest root)) (Each-filter (λ t. Unit {0}) is_first_load (loads_of o greatest root) (Each-all _ (λ t. tt) (loads_of o greatest root))))
+      (Each-weaker _ (λ t. o.counts t.vertex ≡ true) (λ t h. (and_parts (o.counts t.vertex) _ h.1).0) (filter is_first_load (loads_of o greatest root)) (Each-filter (λ t. Unit {0}) is_first_load (loads_of o greatest root) (Each-all _ (λ t. tt) (loads_of o greatest root))))
 
   -- each vertex that counts is loaded first once
   first_once : (q : Place) → o.counts q ≡ true → count_by (λ v. is_same v q) (first_vertices o greatest) ≡ 1

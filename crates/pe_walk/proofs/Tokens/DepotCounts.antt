@@ -3,13 +3,14 @@ use Rattle.std.proofs.Common.{◌≡◌, inl, inr, ℕ, zero, suc, ◌+◌, ◌-
 use Rattle.std.specs.Prelude.{max, is_none, count_by}
 use Rattle.std.proofs.lemmas.List.{get_or-set_same, get_or-set_other}
 use Rattle.std.proofs.lemmas.List.Sums.{sum_by-cons}
+use Rattle.std.proofs.lemmas.Bool.{ne_eqb, cases_eq}
 use Rattle.pe_base.specs.declared.place.Place.{Place}
 use Rattle.pe_base.specs.Steps.Stacks.{is_stack}
 use Rattle.pe_base.proofs.Lists.{Each}
-use Rattle.pe_base.proofs.Steps.Counts.{same_itself, eq_false}
+use Rattle.pe_base.proofs.Steps.Counts.{same_itself}
 use Rattle.pe_stacks.specs.Holdings.{Holdings, Stack, new_stack, stack_count, stack_at, items_at, lent, given_up, pushed, popped, pushed_on, popped_from}
 use Rattle.pe_walk.specs.Tokens.{is_top, given, taken, put, lent_for, given_up_for}
-use Rattle.pe_walk.proofs.Tokens.Stacks.{is_stack_of, popped_count, pushed_count, same_or_other}
+use Rattle.pe_walk.proofs.Tokens.Stacks.{is_stack_of, popped_count, pushed_count}
 use Rattle.pe_walk.proofs.Tokens.Keeping.{given_some}
 use Rattle.pe_walk.proofs.Tokens.Apart.{one_if}
 
@@ -32,13 +33,13 @@ take_counts (Some w) place held after e = go (items_at held w) refl e
     counts : (x : Place) (xs : List Place) → items_at held w ≡ x ∷ xs → Took (Some w) held (popped held w)
     counts x xs k = record {
       stacks = popped_count held w;
-      pops = λ s. elim (same_or_other s w) [
+      pops = λ s. elim (cases_eq s w) [
         | inl e ↦ ap (λ z. (stack_at (popped held w) z).pops) e ∙ ap (λ (stack : Stack Place). stack.pops) (get_or-set_same held.stacks w (popped_from (stack_at held w)) new_stack (is_stack_of held w x xs k))
             ∙ ap (λ z. (stack_at held z).pops + 1) (sym e) ∙ ap (λ b. (stack_at held s).pops + one_if b) (sym (ap (λ z. z == w) e ∙ same_itself w))
         | inr e ↦ ap (λ (stack : Stack Place). stack.pops) (get_or-set_other held.stacks w s (popped_from (stack_at held w)) new_stack e)
-            ∙ (let z : (stack_at held s).pops ≡ (stack_at held s).pops + 0 = omega arith in z) ∙ ap (λ b. (stack_at held s).pops + one_if b) (sym (eq_false s w e))
+            ∙ (let z : (stack_at held s).pops ≡ (stack_at held s).pops + 0 = omega arith in z) ∙ ap (λ b. (stack_at held s).pops + one_if b) (sym (ne_eqb s w e))
       ];
-      pushes = λ s. elim (same_or_other s w) [
+      pushes = λ s. elim (cases_eq s w) [
         | inl e ↦ ap (λ z. (stack_at (popped held w) z).pushes) e ∙ ap (λ (stack : Stack Place). stack.pushes) (get_or-set_same held.stacks w (popped_from (stack_at held w)) new_stack (is_stack_of held w x xs k)) ∙ ap (λ z. (stack_at held z).pushes) (sym e)
         | inr e ↦ ap (λ (stack : Stack Place). stack.pushes) (get_or-set_other held.stacks w s (popped_from (stack_at held w)) new_stack e)
       ];
@@ -68,15 +69,15 @@ pub put_counts : (to : Option ℕ) (place : Place) (held : Holdings Place) → (
 put_counts None place held within = record { stacks = refl; pops = λ s. refl; pushes = λ s. omega arith; fresh = refl; spent = refl; out = refl; most = refl }
 put_counts (Some w) place held within = record {
   stacks = pushed_count held w place;
-  pops = λ s. elim (same_or_other s w) [
+  pops = λ s. elim (cases_eq s w) [
     | inl e ↦ ap (λ z. (stack_at (pushed held w place) z).pops) e ∙ ap (λ (stack : Stack Place). stack.pops) (get_or-set_same held.stacks w (pushed_on (stack_at held w) place) new_stack (within w refl)) ∙ ap (λ z. (stack_at held z).pops) (sym e)
     | inr e ↦ ap (λ (stack : Stack Place). stack.pops) (get_or-set_other held.stacks w s (pushed_on (stack_at held w) place) new_stack e)
   ];
-  pushes = λ s. elim (same_or_other s w) [
+  pushes = λ s. elim (cases_eq s w) [
     | inl e ↦ ap (λ z. (stack_at (pushed held w place) z).pushes) e ∙ ap (λ (stack : Stack Place). stack.pushes) (get_or-set_same held.stacks w (pushed_on (stack_at held w) place) new_stack (within w refl))
         ∙ ap (λ z. (stack_at held z).pushes + 1) (sym e) ∙ ap (λ b. (stack_at held s).pushes + one_if b) (sym (ap (λ z. z == w) e ∙ same_itself w))
     | inr e ↦ ap (λ (stack : Stack Place). stack.pushes) (get_or-set_other held.stacks w s (pushed_on (stack_at held w) place) new_stack e)
-        ∙ (let z : (stack_at held s).pushes ≡ (stack_at held s).pushes + 0 = omega arith in z) ∙ ap (λ b. (stack_at held s).pushes + one_if b) (sym (eq_false s w e))
+        ∙ (let z : (stack_at held s).pushes ≡ (stack_at held s).pushes + 0 = omega arith in z) ∙ ap (λ b. (stack_at held s).pushes + one_if b) (sym (ne_eqb s w e))
   ];
   fresh = refl;
   spent = omega arith;

@@ -11,12 +11,11 @@ use Rattle.pe_base.specs.Tree.Curve.{children}
 use Rattle.pe_base.specs.Steps.Around.{around}
 use Rattle.pe_base.specs.Steps.Faces.{Touch, corner_touches, loads, touched_for}
 use Rattle.pe_base.specs.Walk.Streams.{if_walks}
-use Rattle.pe_base.proofs.Lists.{Each, Each-all, Each-weaker, Each-map, Each-reverse, flat_map_none, filter_none, filter-filter, filter_same, filter-map, filter-flat_map}
+use Rattle.pe_base.proofs.Lists.{Each, Each-all, Each-weaker, Each-map, Each-reverse, flat_map_none, filter_none, filter-filter, filter_same, filter-map, filter-flat_map, filter_all}
 use Rattle.pe_base.proofs.Tree.CurveLaws.{length-children}
-use Rattle.pe_base.proofs.Tree.Ranks.{Rising, rank, rank_of, top, around_rises, is_same-true}
+use Rattle.pe_base.proofs.Tree.Ranks.{Rising, rank, rank_of, top, around_rises, is_same-true, same_places}
 use Rattle.pe_base.proofs.Steps.Counts.{is_same_itself, loaded_for_around}
 use Rattle.pe_base.proofs.Faces.Quiet.{false_unless}
-use Rattle.pe_base.proofs.Faces.Bridge.{same_places}
 use Rattle.pe_walk.specs.Laws.{IsCell}
 use Rattle.pe_walk.specs.Tokens.{Outlook, before, one_more}
 use Rattle.pe_walk.specs.Takings.{loads_of, met_more, Due, Grown}
@@ -25,10 +24,6 @@ use Rattle.pe_walk.proofs.Trees.{root_is_cell, child_is_cell}
 use Rattle.pe_walk.proofs.Steps.{inside_on_grid}
 use Rattle.pe_walk.proofs.Tokens.Walks.{each_with}
 use Rattle.pe_walk.proofs.Tests.{and_turned}
-
-pub filter_all : {X : Type 0} (p : X → Bool) (xs : List X) → Each (λ x. p x ≡ true) xs → filter p xs ≡ xs
-filter_all p [] e = refl
-filter_all p (x ∷ xs) e = ap₂ (λ b ys. cond b (x ∷ ys) ys) e.0 (filter_all p xs e.1)
 
 -- in a rising list, what stands at the front of the rest stands behind so many
 module _ (r : Place → ℕ) (ranks : (x y : Place) → is_same x y ≡ true → r x ≡ r y) where

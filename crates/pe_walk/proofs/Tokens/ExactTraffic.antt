@@ -5,6 +5,7 @@ use Rattle.std.specs.List.{flat_map}
 use Rattle.std.proofs.lemmas.List.{length-map, length-reverse}
 use Rattle.std.proofs.lemmas.List.Sums.{length-filter}
 use Rattle.std.proofs.Math.Nat.{mul-suc, le_of_mul-le-mul_left}
+use Rattle.std.proofs.lemmas.Bool.{ne_eqb}
 use Rattle.pe_base.specs.declared.place.Place.{Place}
 use Rattle.pe_base.specs.declared.kind.Kind.{Kind}
 use Rattle.pe_base.specs.declared.tally.Tally.{Tally}
@@ -18,7 +19,7 @@ use Rattle.pe_base.specs.Steps.Stacks.{is_stack}
 use Rattle.pe_base.specs.Walk.Working.{no_tally}
 use Rattle.pe_base.specs.Walk.Streams.{if_walks, walked_cells}
 use Rattle.pe_base.proofs.Lists.{Each-all, Each-weaker}
-use Rattle.pe_base.proofs.Steps.Counts.{same_itself, eq_false}
+use Rattle.pe_base.proofs.Steps.Counts.{same_itself}
 use Rattle.pe_base.proofs.Steps.Turned.{stack-opposite}
 use Rattle.pe_stacks.specs.Holdings.{stack_at}
 use Rattle.pe_stacks.specs.Grid.{input_stack, output_stack, cell_input_stack, cell_output_stack}
@@ -140,7 +141,7 @@ by_given true s = same_itself s
 by_given false s = refl
 
 pub by_other : (b : Bool) (s other : ℕ) → (s ≡ other → ⊥) → is_stack s (given b (Some other)) ≡ false
-by_other true s other apart = eq_false s other apart
+by_other true s other apart = ne_eqb s other apart
 by_other false s other apart = refl
 
 pub two_cell_streams : (swapped : Bool) → cell_input_stack swapped ≡ cell_output_stack swapped → ⊥

@@ -6,28 +6,29 @@ use Rattle.pe_base.proofs.Lists.{Each, reverse-cons}
 use Rattle.std.specs.Prelude.{nat_lt, if◌then◌else◌}
 use Rattle.std.specs.Option.{option_map, option_and_then}
 use Rattle.std.proofs.lemmas.Bool.Decides.{nat_tests}
+use Rattle.std.proofs.lemmas.Bool.{eq-eqb, ne_eqb, cases_eq}
 use Rattle.pe_base.specs.declared.place.Place.{Place}
 use Rattle.pe_base.specs.Tree.Places.{is_same}
 use Rattle.pe_base.specs.Steps.Faces.{Touch}
 use Rattle.pe_base.specs.Steps.Stacks.{is_stack}
-use Rattle.pe_base.proofs.Steps.Counts.{is_same_itself, eq_true, eq_false}
+use Rattle.pe_base.proofs.Steps.Counts.{is_same_itself}
 use Rattle.pe_stacks.specs.Holdings.{Holdings, stack_count, items_at, lent, given_up, pushed, popped}
 use Rattle.pe_walk.specs.Tokens.{Outlook, Tokens, one_more, one_less, cells_before, is_top, given, each_some, taken, put, source, target, touch_of, load_it, load, store_it, store}
 use Rattle.pe_walk.specs.Takings.{met_more, met_after, Due}
-use Rattle.pe_walk.proofs.Tokens.Stacks.{popped_same, popped_other, pushed_same, pushed_other, popped_count, pushed_count, same_or_other}
+use Rattle.pe_walk.proofs.Tokens.Stacks.{popped_same, popped_other, pushed_same, pushed_other, popped_count, pushed_count}
 
 -- a place that is taken, and one that is put
 pub taken_from : (from : Option ℕ) (place : Place) (held : Holdings Place) (rest : ℕ → List Place) → ((s : ℕ) → items_at held s ≡ (if is_stack s from then place ∷ rest s else rest s))
     → (after : Holdings Place) × (taken from place held ≡ Some after) × (stack_count after ≡ stack_count held) × ((s : ℕ) → items_at after s ≡ rest s)
 taken_from None place held rest its = (lent held, refl, refl, its)
 taken_from (Some w) place held rest its =
-    let here : items_at held w ≡ place ∷ rest w = its w ∙ ap (λ b. if b then place ∷ rest w else rest w) (eq_true w w refl) in (
+    let here : items_at held w ≡ place ∷ rest w = its w ∙ ap (λ b. if b then place ∷ rest w else rest w) (eq-eqb w w refl) in (
       popped held w,
       ap (λ xs. given (is_top place xs) (Some (popped held w))) here ∙ ap (λ b. given b (Some (popped held w))) (is_same_itself place),
       popped_count held w,
-      (λ s. elim (same_or_other s w) [
+      (λ s. elim (cases_eq s w) [
         | inl e ↦ ap (items_at (popped held w)) e ∙ popped_same held w place (rest w) here ∙ ap rest (sym e)
-        | inr e ↦ popped_other held w s e ∙ its s ∙ ap (λ b. if b then place ∷ rest s else rest s) (eq_false s w e)
+        | inr e ↦ popped_other held w s e ∙ its s ∙ ap (λ b. if b then place ∷ rest s else rest s) (ne_eqb s w e)
       ]),
     )
 
@@ -36,10 +37,10 @@ pub put_to : (to : Option ℕ) (place : Place) (held : Holdings Place) → ((s :
 put_to None place held within = (refl, (λ s. refl))
 put_to (Some w) place held within = (
   pushed_count held w place,
-  (λ s. elim (same_or_other s w) [
+  (λ s. elim (cases_eq s w) [
     | inl e ↦ ap (items_at (pushed held w place)) e ∙ pushed_same held w place (within w refl) ∙ ap (λ z. place ∷ items_at held z) (sym e)
-        ∙ ap (λ b. if b then place ∷ items_at held s else items_at held s) (sym (eq_true s w e))
-    | inr e ↦ pushed_other held w s place e ∙ ap (λ b. if b then place ∷ items_at held s else items_at held s) (sym (eq_false s w e))
+        ∙ ap (λ b. if b then place ∷ items_at held s else items_at held s) (sym (eq-eqb s w e))
+    | inr e ↦ pushed_other held w s place e ∙ ap (λ b. if b then place ∷ items_at held s else items_at held s) (sym (ne_eqb s w e))
   ]),
 )
 
@@ -95,7 +96,7 @@ module _ (o : Outlook) where
           let after : Tokens = record { vertices = step.0; cells = t.cells; held = one_more v t.held; met = one_more v t.met } in (
             after,
             ap (λ b. if b then load_it o touch t else (Some (record t { vertices = lent t.vertices }))) e
-                ∙ ap (λ b. given b (option_map (λ h. record { vertices = h; cells = t.cells; held = one_more v t.held; met = one_more v t.met }) (taken (source o touch) v t.vertices))) (eq_true (t.met v) (cells_before o.axes o.way touch) (d e))
+                ∙ ap (λ b. given b (option_map (λ h. record { vertices = h; cells = t.cells; held = one_more v t.held; met = one_more v t.met }) (taken (source o touch) v t.vertices))) (eq-eqb (t.met v) (cells_before o.axes o.way touch) (d e))
                 ∙ ap (option_map (λ h. record { vertices = h; cells = t.cells; held = one_more v t.held; met = one_more v t.met })) step.1,
             record {
               stacks = step.2;

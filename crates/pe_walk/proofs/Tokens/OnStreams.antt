@@ -12,7 +12,7 @@ use Rattle.pe_base.specs.Walk.Streams.{walked_cells}
 use Rattle.pe_base.proofs.Lists.{Each, Each-filter, Each-weaker, Each-In, In, filter_none}
 use Rattle.pe_base.proofs.Steps.Counts.{is_same_itself}
 use Rattle.pe_base.proofs.Steps.SlowerLaws.{length-around}
-use Rattle.pe_base.proofs.Faces.Bridge.{same_places}
+use Rattle.pe_base.proofs.Tree.Ranks.{same_places}
 use Rattle.pe_walk.specs.Laws.{IsCell}
 use Rattle.pe_walk.specs.Tokens.{Outlook, before}
 use Rattle.pe_walk.specs.Takings.{loads_of, is_read, reads_of, cell_reads_of, Grown}

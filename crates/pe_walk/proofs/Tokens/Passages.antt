@@ -5,8 +5,8 @@ use Rattle.std.specs.List.{flat_map, Contains}
 use Rattle.std.proofs.lemmas.List.{map-append}
 use Rattle.std.proofs.lemmas.List.Elements.{filter-append}
 use Rattle.std.proofs.lemmas.List.Concat.{flat_map-append}
-use Rattle.pe_walk.proofs.Tokens.Stacks.{same_or_other}
 use Rattle.std.proofs.lemmas.Bool.Decides.{nat_tests}
+use Rattle.std.proofs.lemmas.Bool.{eq-eqb, ne_eqb, eqb-true, cases_lt, cases_eq}
 use Rattle.pe_base.specs.declared.place.Place.{Place}
 use Rattle.pe_base.specs.Tree.Places.{IsPosition}
 use Rattle.pe_base.specs.Tree.Curve.{children}
@@ -16,7 +16,6 @@ use Rattle.pe_base.specs.Steps.Stacks.{is_stack, comes_by, on_stack}
 use Rattle.pe_base.specs.Walk.Streams.{if_walks, walked_children}
 use Rattle.pe_base.proofs.Lists.{Each, Each-all, Each-map, Each-weaker, Each-reverse, reverse-cons, flat_map_same, flat_map_none, filter_same, filter-flat_map, map-flat_map}
 use Rattle.pe_base.proofs.Tree.Corners.{IsBits, bit_lists, bit_lists_below, touch_at, corner_touches_are}
-use Rattle.pe_base.proofs.Steps.Counts.{eq_true, eq_false, true_eq}
 use Rattle.pe_base.proofs.Steps.Turned.{stack-opposite}
 use Rattle.pe_base.proofs.Faces.Composition.{composes_any, Turns-split}
 use Rattle.pe_base.proofs.Faces.Bridge.{one_across, come_by_faces, corner_at}
@@ -71,15 +70,15 @@ module _ (o : Outlook) (four : o.axes ≤ 4) where
   pub takes-axes : (levels s : ℕ) (cell : Place) → s < 2 * o.axes → takes o levels s cell ≡ arriving o.axes o.way o.counts levels (face_on (s / 2) (s % 2) cell) cell
   takes-axes levels s cell h =
       let far = far_input o.swapped in
-      ap (λ b. if b then reads_of o levels cell else on_stack o.axes (arriving o.axes o.way o.counts levels) s cell) (eq_false s (input_stack o.swapped) (λ e. omega arith))
+      ap (λ b. if b then reads_of o levels cell else on_stack o.axes (arriving o.axes o.way o.counts levels) s cell) (ne_eqb s (input_stack o.swapped) (λ e. omega arith))
       ∙ ap (λ b. if b then arriving o.axes o.way o.counts levels (face_on (s / 2) (s % 2) cell) cell else []) (let t : nat_lt s (2 * o.axes) ≡ true = grind (arith, nat_tests) in t)
 
   pub takes-input : (levels s : ℕ) (cell : Place) → s ≡ input_stack o.swapped → takes o levels s cell ≡ reads_of o levels cell
-  takes-input levels s cell e = ap (λ b. if b then reads_of o levels cell else on_stack o.axes (arriving o.axes o.way o.counts levels) s cell) (eq_true s (input_stack o.swapped) e)
+  takes-input levels s cell e = ap (λ b. if b then reads_of o levels cell else on_stack o.axes (arriving o.axes o.way o.counts levels) s cell) (eq-eqb s (input_stack o.swapped) e)
 
   pub takes-none : (levels s : ℕ) (cell : Place) → 2 * o.axes ≤ s → s ≢ input_stack o.swapped → takes o levels s cell ≡ []
   takes-none levels s cell h k =
-      ap (λ b. if b then reads_of o levels cell else on_stack o.axes (arriving o.axes o.way o.counts levels) s cell) (eq_false s (input_stack o.swapped) k)
+      ap (λ b. if b then reads_of o levels cell else on_stack o.axes (arriving o.axes o.way o.counts levels) s cell) (ne_eqb s (input_stack o.swapped) k)
       ∙ ap (λ b. if b then arriving o.axes o.way o.counts levels (face_on (s / 2) (s % 2) cell) cell else []) (let t : nat_lt s (2 * o.axes) ≡ false = grind (arith, nat_tests) in t)
 
   -- what a cell's own corners take
@@ -98,7 +97,7 @@ module _ (o : Outlook) (four : o.axes ≤ 4) where
             | inl none ↦ ap (λ x. o.counts v && is_stack s (first_of x (given (o.reads v) (Some (input_stack o.swapped))))) none.no_stack
                 ∙ ap (λ x. o.counts v && x) (from_input (o.reads v) e) ∙ ap (λ x. o.counts v && (o.reads v && is_none x)) (sym none.no_stack)
             | inr one ↦ ap (λ x. o.counts v && is_stack s (first_of x (given (o.reads v) (Some (input_stack o.swapped))))) one.its_stack
-                ∙ ap (λ x. o.counts v && x) (eq_false s (stack_of one.face cell) (λ k. let far = far_input o.swapped in let i = one.is_face.0 in let at : s ≡ input_stack o.swapped = true_eq s (input_stack o.swapped) e in omega arith))
+                ∙ ap (λ x. o.counts v && x) (ne_eqb s (stack_of one.face cell) (λ k. let far = far_input o.swapped in let i = one.is_face.0 in let at : s ≡ input_stack o.swapped = eqb-true s (input_stack o.swapped) e in omega arith))
                 ∙ both (o.counts v) (o.reads v) ∙ ap (λ x. o.counts v && (o.reads v && is_none x)) (sym one.its_stack)
           ])))
         where
@@ -116,7 +115,7 @@ module _ (o : Outlook) (four : o.axes ≤ 4) where
 
   -- behind the axes, what a cell takes is what its own corners and its walked children take
   pub takes-split : (levels s : ℕ) (cell : Place) → 2 * o.axes ≤ s → takes o (suc levels) s cell ≡ takes o 0 s cell ++ flat_map (takes o levels s) (walked_children o.axes o.way o.walks cell)
-  takes-split levels s cell h = elim (same_or_other s (input_stack o.swapped)) [
+  takes-split levels s cell h = elim (cases_eq s (input_stack o.swapped)) [
     | inl e ↦
         let kids = walked_children o.axes o.way o.walks cell in
         let own = reverse (corner_touches o.axes cell) in
@@ -224,10 +223,7 @@ module _ (o : Outlook) (walked : Place → Bool) (walk : IsWalk o.axes o.way wal
   }
 
   pub passage : (levels s : ℕ) (beneath : List Place) → Passage o (suc levels) s cell (token_turn o levels s) kids beneath
-  passage levels s beneath = elim (within_or_behind s (2 * o.axes)) [
+  passage levels s beneath = elim (cases_lt s (2 * o.axes)) [
     | inl h ↦ on_axes levels s beneath h (o.walks cell) refl
-    | inr h ↦ off_axes levels s beneath h (same_or_other s (output_stack o.swapped))
+    | inr h ↦ off_axes levels s beneath h (cases_eq s (output_stack o.swapped))
   ]
-    where
-      within_or_behind : (a b : ℕ) → (a < b) ⊎ (b ≤ a)
-      within_or_behind a b = grind arith

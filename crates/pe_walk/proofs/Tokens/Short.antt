@@ -5,6 +5,7 @@ use Rattle.std.specs.List.{AllByRecursion, flat_map}
 use Rattle.std.proofs.lemmas.List.{length-map, length-append, length-reverse}
 use Rattle.std.proofs.lemmas.List.Sums.{sum_by-cons, length-filter}
 use Rattle.std.proofs.Math.Nat.{le_of_mul-le-mul_left, mul-suc, mul-zero}
+use Rattle.std.proofs.lemmas.Bool.{and_parts, cases_lt, cases_eq}
 use Rattle.pe_base.specs.declared.place.Place.{Place}
 use Rattle.pe_base.specs.Tree.Dim.{IsDim}
 use Rattle.pe_base.specs.Tree.Places.{root, is_same}
@@ -12,11 +13,10 @@ use Rattle.pe_base.specs.Tree.Curve.{children}
 use Rattle.pe_base.specs.Steps.Faces.{Touch, corner_touches}
 use Rattle.pe_base.specs.Walk.Streams.{if_walks, walked_children, walked_loads, walked_cells}
 use Rattle.pe_base.proofs.Lists.{Each, Each-all, Each-weaker, Each-map, Each-filter, filter_same}
-use Rattle.pe_base.proofs.Tree.Ranks.{and_left}
 use Rattle.pe_base.proofs.Steps.Counts.{is_same_itself}
 use Rattle.pe_base.proofs.Faces.Quiet.{false_unless}
-use Rattle.pe_base.proofs.Faces.Bridge.{same_places}
 use Rattle.pe_base.proofs.Steps.SlowerLaws.{length-around}
+use Rattle.pe_base.proofs.Tree.Ranks.{same_places}
 use Rattle.pe_stacks.specs.Holdings.{Holdings, new_stack, stack_count, items_at, lent, given_up, pushed, popped}
 use Rattle.pe_walk.specs.Tokens.{Outlook, Tokens, one_less, is_top, given, taken, put, source, target, touch_of, load_it, load, store_it, store, enter, leave, cell_source, cell_target, numbers}
 use Rattle.pe_stacks.specs.Grid.{input_stack}
@@ -24,7 +24,7 @@ use Rattle.pe_walk.proofs.Tokens.Traversals.{lent_items, root_corners}
 use Rattle.pe_walk.proofs.Tokens.CountLists.{count-append}
 use Rattle.pe_walk.specs.Takings.{loads_of, is_read, reads_of, Grown}
 use Rattle.pe_walk.specs.Traffic.{entered_cells, FewVertices, OnlyCounting, StepsKeepCounting, BeginsCounting, StacksAreShort}
-use Rattle.pe_walk.proofs.Tokens.Stacks.{popped_same, popped_other, pushed_same, pushed_other, same_or_other}
+use Rattle.pe_walk.proofs.Tokens.Stacks.{popped_same, popped_other, pushed_same, pushed_other}
 use Rattle.pe_walk.proofs.Tokens.Dues.{loaded_around, root_walks}
 use Rattle.pe_walk.proofs.Tokens.Keeping.{given_some, walk_keeps}
 use Rattle.pe_walk.proofs.Tokens.Apart.{map_some, one_if, there, set_past}
@@ -122,7 +122,7 @@ module _ (o : Outlook) where
   Counting xs = AllByRecursion (λ place. o.counts place ≡ true) xs
 
   popped_counting : (held : Holdings Place) (w : ℕ) → ((s : ℕ) → Counting (items_at held s)) → (x : Place) (xs : List Place) → items_at held w ≡ x ∷ xs → (s : ℕ) → Counting (items_at (popped held w) s)
-  popped_counting held w only x xs e s = elim (same_or_other s w) [
+  popped_counting held w only x xs e s = elim (cases_eq s w) [
     | inl k ↦ subst Counting (sym (ap (items_at (popped held w)) k ∙ popped_same held w x xs e)) (subst Counting e (only w)).1
     | inr k ↦ subst Counting (sym (popped_other held w s k)) (only s)
   ]
@@ -140,16 +140,13 @@ module _ (o : Outlook) where
 
   put_counting : (to : Option ℕ) (place : Place) (held : Holdings Place) → o.counts place ≡ true → ((s : ℕ) → Counting (items_at held s)) → (s : ℕ) → Counting (items_at (put to place held) s)
   put_counting None place held c only s = only s
-  put_counting (Some w) place held c only s = elim (within w (stack_count held)) [
-    | inl h ↦ elim (same_or_other s w) [
+  put_counting (Some w) place held c only s = elim (cases_lt w (stack_count held)) [
+    | inl h ↦ elim (cases_eq s w) [
       | inl k ↦ subst Counting (sym (ap (items_at (pushed held w place)) k ∙ pushed_same held w place h)) (c, only w)
       | inr k ↦ subst Counting (sym (pushed_other held w s place k)) (only s)
     ]
     | inr h ↦ subst (λ stacks. Counting (get_or stacks s new_stack).items) (sym (set_past held.stacks w _ h)) (only s)
   ]
-    where
-      within : (a b : ℕ) → (a < b) ⊎ (b ≤ a)
-      within a b = grind arith
 
   load_counting : (cell : Place) (k : ℕ) (t after : Tokens) → load o cell k t ≡ Some after → OnlyCounting o t → OnlyCounting o after
   load_counting cell k t after e only = go (o.counts (touch_of o cell k).vertex) e
@@ -218,7 +215,7 @@ begins_counting o greatest t may s = subst (AllByRecursion (λ place. o.counts p
   where
     reads : AllByRecursion (λ place. o.counts place ≡ true) (reads_of o greatest root)
     reads = by_recursion (λ place. o.counts place ≡ true) (reads_of o greatest root) (Each-map (λ place. o.counts place ≡ true) (λ t. t.vertex) (filter (is_read o) (loads_of o greatest root))
-        (Each-weaker _ (λ t. o.counts t.vertex ≡ true) (λ t h. and_left (o.counts t.vertex) _ h.1) (filter (is_read o) (loads_of o greatest root)) (Each-filter (λ t. Unit {0}) (is_read o) (loads_of o greatest root) (Each-all _ (λ t. tt) (loads_of o greatest root)))))
+        (Each-weaker _ (λ t. o.counts t.vertex ≡ true) (λ t h. (and_parts (o.counts t.vertex) _ h.1).0) (filter (is_read o) (loads_of o greatest root)) (Each-filter (λ t. Unit {0}) (is_read o) (loads_of o greatest root) (Each-all _ (λ t. tt) (loads_of o greatest root)))))
 
     go : (b : Bool) → AllByRecursion (λ place. o.counts place ≡ true) (if b then reads_of o greatest root else [])
     go true = reads

@@ -30,6 +30,3 @@ module _ {X : Type 0} where
 
   pub pushed_count : (held : Holdings X) (s : ℕ) (x : X) → stack_count (pushed held s x) ≡ stack_count held
   pushed_count held s x = length-set held.stacks s (pushed_on (stack_at held s) x)
-
-pub same_or_other : (a b : ℕ) → (a ≡ b) ⊎ (a ≢ b)
-same_or_other a b = grind arith

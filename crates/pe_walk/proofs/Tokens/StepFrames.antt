@@ -3,20 +3,20 @@ use Rattle.std.proofs.Common.{◌≡◌, inl, inr, ℕ, ◌+◌, ◌-◌, ◌^�
 use Rattle.std.specs.Prelude.{nat_lt, is_none, if◌then◌else◌}
 use Rattle.std.proofs.lemmas.Bool.Decides.{nat_tests}
 use Rattle.std.proofs.lemmas.List.Sums.{sum_by-set}
+use Rattle.std.proofs.lemmas.Bool.{eq-eqb, ne_eqb, eqb-true, cases_eq}
 use Rattle.pe_base.specs.declared.place.Place.{Place}
 use Rattle.pe_base.specs.Tree.Dim.{IsDim}
 use Rattle.pe_base.specs.Tree.Places.{is_same}
 use Rattle.pe_base.specs.Steps.Faces.{Touch}
 use Rattle.pe_base.specs.Steps.Stacks.{is_stack}
-use Rattle.pe_base.proofs.Steps.Counts.{eq_true, eq_false}
-use Rattle.pe_base.proofs.Faces.Bridge.{same_places}
+use Rattle.pe_base.proofs.Tree.Ranks.{same_places}
 use Rattle.pe_stacks.specs.Holdings.{Holdings, new_stack, stack_count, stack_at, items_at, lent, given_up, pushed, popped, pushed_on}
 use Rattle.pe_stacks.specs.Grid.{cell_input_stack, cell_output_stack}
 use Rattle.pe_walk.specs.Laws.{IsCell}
 use Rattle.pe_walk.specs.Tokens.{Outlook, Tokens, one_more, one_less, cells_before, is_top, given, taken, put, source, target, cell_source, cell_target, touch_of, load_it, load, store_it, store, enter, leave}
 use Rattle.pe_walk.specs.Apart.{lies}
 use Rattle.pe_walk.specs.Frames.{loaded_from, stored_to, AfterLoad, AfterStore, AfterEnter, AfterLeave, HasStacks, WhatStepsChange}
-use Rattle.pe_walk.proofs.Tokens.Stacks.{popped_same, popped_other, same_or_other}
+use Rattle.pe_walk.proofs.Tokens.Stacks.{popped_same, popped_other}
 use Rattle.pe_walk.proofs.Tokens.Loads.{put_to}
 use Rattle.pe_walk.proofs.Tokens.Walks.{goes_within, cell_goes}
 use Rattle.pe_walk.proofs.Tokens.Keeping.{given_some}
@@ -34,10 +34,10 @@ taken_items (Some w) place held after e s = go (items_at held w) refl e
     go (x ∷ xs) k f =
         let g = given_some (is_top place (x ∷ xs)) (Some (popped held w)) after f in
         let same : popped held w ≡ after = cc (g.1) in
-        subst (λ (h : Holdings Place). items_at held s ≡ (if s == w then place ∷ items_at h s else items_at h s)) same (elim (same_or_other s w) [
+        subst (λ (h : Holdings Place). items_at held s ≡ (if s == w then place ∷ items_at h s else items_at h s)) same (elim (cases_eq s w) [
           | inl e ↦ ap (items_at held) e ∙ k ∙ ap (λ p. p ∷ xs) (same_places x place g.0) ∙ ap (λ ys. place ∷ ys) (sym (ap (items_at (popped held w)) e ∙ popped_same held w x xs k))
-              ∙ ap (λ b. if b then place ∷ items_at (popped held w) s else items_at (popped held w) s) (sym (eq_true s w e))
-          | inr e ↦ sym (popped_other held w s e) ∙ ap (λ b. if b then place ∷ items_at (popped held w) s else items_at (popped held w) s) (sym (eq_false s w e))
+              ∙ ap (λ b. if b then place ∷ items_at (popped held w) s else items_at (popped held w) s) (sym (eq-eqb s w e))
+          | inr e ↦ sym (popped_other held w s e) ∙ ap (λ b. if b then place ∷ items_at (popped held w) s else items_at (popped held w) s) (sym (ne_eqb s w e))
         ])
 
 taken_lies : (from : Option ℕ) (place : Place) (held after : Holdings Place) → taken from place held ≡ Some after → (q : Place) → lies after q + one_if (not (is_none from) && is_same place q) ≡ lies held q
@@ -76,25 +76,11 @@ module _ (o : Outlook) where
       let g = given_some (t.met touch.vertex == cells_before o.axes o.way touch) _ after e in
       let m = map_some (λ h. record { vertices = h; cells = t.cells; held = one_more touch.vertex t.held; met = one_more touch.vertex t.met }) (taken (source o touch) touch.vertex t.vertices) after g.1 in
       subst (λ a. LoadBy touch t a true) m.2 (record {
-        due = λ c. equal (t.met touch.vertex) (cells_before o.axes o.way touch) g.0;
+        due = λ c. eqb-true (t.met touch.vertex) (cells_before o.axes o.way touch) g.0;
         vertices = m.1;
         cells = refl;
         held = λ q. one_more_is touch.vertex q t.held;
         met = λ q. one_more_is touch.vertex q t.met;
-        its_met = refl;
-      })
-    where
-      equal : (a b : ℕ) → (a == b) ≡ true → a ≡ b
-      equal a b h = grind (arith, nat_tests)
-  load_by cell k t after false e =
-      let made : Tokens = record t { vertices = lent t.vertices } in
-      let same : made ≡ after = cc in
-      subst (λ a. LoadBy (touch_of o cell k) t a false) same (record {
-        due = λ c. absurd cc;
-        vertices = refl;
-        cells = refl;
-        held = λ q. omega arith;
-        met = λ q. omega arith;
         its_met = refl;
       })
 

@@ -1,5 +1,6 @@
 -- Two walks that read the same read in one order.
 use Rattle.std.proofs.Common.{◌≡◌, ℕ, zero, suc, Bool, true, false, cond, ◌&&◌, List, [], ◌∷◌, map, filter, refl, sym, ap, ap₂, ◌∙◌, subst, true≢false}
+use Rattle.std.proofs.lemmas.Bool.{and_parts}
 use Rattle.std.specs.Prelude.{is_none}
 use Rattle.std.specs.List.{flat_map}
 use Rattle.pe_base.specs.declared.place.Place.{Place}
@@ -13,7 +14,6 @@ use Rattle.pe_base.specs.Steps.Routes.{stack_in}
 use Rattle.pe_base.specs.Steps.Faces.{Touch, loads}
 use Rattle.pe_base.specs.Walk.Streams.{if_walks, walked_cells}
 use Rattle.pe_base.proofs.Lists.{Each, Each-all, Each-weaker, Each-reverse, Each-flat_map, Each-In, flat_map_none, flat_map_same, filter_same, filter-filter, filter-flat_map}
-use Rattle.pe_base.proofs.Tree.Ranks.{and_left}
 use Rattle.pe_base.proofs.Steps.Turned.{around-opposite}
 use Rattle.pe_base.proofs.Faces.Quiet.{false_unless}
 use Rattle.pe_base.proofs.Faces.Waits.{Touched, loads_touched}
@@ -61,7 +61,7 @@ module _ (o : Outlook) (walked : Place → Bool) (greatest : ℕ) (dim : IsDim o
   pub reads_regular : reads_of o greatest root ≡ map (λ t. t.vertex) (filter (is_read o) (loads o.axes o.way greatest root))
   reads_regular = ap (map (λ t. t.vertex)) (ap (filter (is_read o)) (loads_filtered o walked greatest dim grown greatest root (root_is_cell o.axes o.way) (root_walked o walked greatest dim grown))
       ∙ filter_where (is_read o) (λ t. walked t.cell) (loads o.axes o.way greatest root) (Each-weaker (Touched o.axes o.way root) _ (λ t at r.
-      Each-In (λ c. walked c ≡ true) t.cell (around o.axes o.way t.vertex) (all_each (λ c. walked c ≡ true) (around o.axes o.way t.vertex) (grown.is_walk.all_around t.vertex (and_left (o.counts t.vertex) _ r))) at.around_it)
+      Each-In (λ c. walked c ≡ true) t.cell (around o.axes o.way t.vertex) (all_each (λ c. walked c ≡ true) (around o.axes o.way t.vertex) (grown.is_walk.all_around t.vertex (and_parts (o.counts t.vertex) _ r).0)) at.around_it)
       (loads o.axes o.way greatest root) (loads_touched o.axes o.way greatest root dim.1 refl (contains_in (order o.axes o.way root.level) root (root_is_cell o.axes o.way)))))
 
   -- all cells of the tree

@@ -1,5 +1,6 @@
 -- Loads and stores by where they come from and go to, in the words of what is read, written, created, destroyed and hanging.
 use Rattle.std.proofs.Common.{◌≡◌, inl, inr, ℕ, zero, suc, ◌+◌, ◌*◌, ◌^◌, ◌<◌, ◌≤◌, Bool, true, false, not, ◌&&◌, List, [], ◌∷◌, reverse, Option, Some, None, refl, sym, ap, ◌∙◌, arith}
+use Rattle.std.proofs.lemmas.Bool.{ne_eqb}
 use Rattle.std.specs.Prelude.{is_none, count_by}
 use Rattle.std.specs.List.{flat_map, range_with_len}
 use Rattle.pe_base.specs.declared.place.Place.{Place}
@@ -11,7 +12,7 @@ use Rattle.pe_base.specs.Steps.Faces.{Touch, stack_of, corner_touches}
 use Rattle.pe_base.specs.Steps.Stacks.{is_stack}
 use Rattle.pe_base.specs.Walk.Streams.{walked_children, walked_cells}
 use Rattle.pe_base.proofs.Lists.{Each, Each-all, Each-weaker, Each-append, Each-map, Each-reverse, Each-flat_map}
-use Rattle.pe_base.proofs.Steps.Counts.{eq_false, same_itself}
+use Rattle.pe_base.proofs.Steps.Counts.{same_itself}
 use Rattle.pe_stacks.specs.Grid.{input_stack, output_stack}
 use Rattle.pe_walk.specs.Laws.{IsCell}
 use Rattle.pe_walk.specs.Tokens.{Outlook, given, first_of, touch_of}
@@ -36,7 +37,7 @@ IsBelow n from = (s : ℕ) → from ≡ Some s → s < n
 own_stream : (n a : ℕ) (c r : Bool) (from : Option ℕ) → n ≤ a → IsBelow n from → (c && is_stack a (first_of from (given r (Some a)))) ≡ (c && (r && is_none from))
 own_stream n a c true None far low = ap (λ b. c && b) (same_itself a)
 own_stream n a c false None far low = refl
-own_stream n a c r (Some w) far low = let near : w < n = low w refl in ap (λ b. c && b) (eq_false a w (λ e. omega (arith, e, near, far)) ∙ never r)
+own_stream n a c r (Some w) far low = let near : w < n = low w refl in ap (λ b. c && b) (ne_eqb a w (λ e. omega (arith, e, near, far)) ∙ never r)
   where
     never : (b : Bool) → false ≡ (b && false)
     never true = refl
@@ -51,9 +52,9 @@ other_stream n a b c r from far apart low = never c (elsewhere r from low)
     never false e = refl
 
     elsewhere : (r : Bool) (from : Option ℕ) → IsBelow n from → is_stack b (first_of from (given r (Some a))) ≡ false
-    elsewhere true None low = eq_false b a apart
+    elsewhere true None low = ne_eqb b a apart
     elsewhere false None low = refl
-    elsewhere r (Some w) low = let near : w < n = low w refl in eq_false b w (λ e. omega (arith, e, near, far))
+    elsewhere r (Some w) low = let near : w < n = low w refl in ne_eqb b w (λ e. omega (arith, e, near, far))
 
 -- what comes from nowhere is new, or hangs
 from_nowhere : (c r : Bool) (from : Option ℕ) (s : ℕ) → one_if (not (c && not (is_none (first_of from (given r (Some s)))))) ≡ one_if (c && (not r && is_none from)) + one_if (not c)

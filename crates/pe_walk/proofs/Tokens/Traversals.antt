@@ -16,7 +16,8 @@ use Rattle.pe_base.specs.Steps.Stacks.{on_stack}
 use Rattle.pe_base.specs.Walk.Streams.{if_walks, walked_children}
 use Rattle.pe_base.proofs.Lists.{Each, Each-all, Each-weaker, Each-map, Each-reverse, filter_none}
 use Rattle.pe_base.proofs.Faces.Quiet.{false_unless}
-use Rattle.pe_base.proofs.Faces.Bridge.{apart, same_places}
+use Rattle.pe_base.proofs.Faces.Bridge.{apart}
+use Rattle.pe_base.proofs.Tree.Ranks.{same_places}
 use Rattle.pe_stacks.specs.Holdings.{Holdings, stack_count, items_at, lent, given_up}
 use Rattle.pe_stacks.specs.Grid.{input_stack, output_stack, cell_input_stack, cell_output_stack}
 use Rattle.pe_walk.specs.Laws.{IsCell}

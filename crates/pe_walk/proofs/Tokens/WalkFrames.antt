@@ -10,8 +10,7 @@ use Rattle.pe_base.specs.Tree.Curve.{children}
 use Rattle.pe_base.specs.Steps.Faces.{Touch, corner_touches}
 use Rattle.pe_base.specs.Walk.Streams.{if_walks, walked_children}
 use Rattle.pe_base.proofs.Lists.{Each, Each-all, Each-weaker, Each-append, Each-map, Each-reverse, Each-flat_map}
-use Rattle.pe_base.proofs.Tree.Ranks.{is_same-true}
-use Rattle.pe_base.proofs.Faces.Bridge.{same_places}
+use Rattle.pe_base.proofs.Tree.Ranks.{is_same-true, same_places}
 use Rattle.pe_walk.specs.Laws.{IsCell}
 use Rattle.pe_walk.specs.Tokens.{Outlook, Tokens, one_more, given, each_some, put, cell_target, touch_of, load, store, leave, numbers, around_below, walk}
 use Rattle.pe_walk.specs.Takings.{loads_of, met_more, met_after}

@@ -4,6 +4,7 @@ use Rattle.std.specs.Prelude.{if◌then◌else◌}
 use Rattle.std.specs.Option.{option_map, option_and_then}
 use Rattle.std.specs.List.{flat_map, range_with_len}
 use Rattle.std.proofs.lemmas.List.Elements.{filter-append}
+use Rattle.std.proofs.lemmas.Bool.{ne_eqb, eqb-true}
 use Rattle.pe_base.specs.declared.place.Place.{Place}
 use Rattle.pe_base.specs.declared.way.Way.{Way}
 use Rattle.pe_base.specs.Tree.Curve.{digit_lists}
@@ -16,7 +17,6 @@ use Rattle.pe_base.specs.Steps.Faces.{Touch, Turn, Turns, stack_of, corner_touch
 use Rattle.pe_base.specs.Steps.Stacks.{is_stack}
 use Rattle.pe_base.specs.Walk.Streams.{if_walks, walked_children, walked_cells}
 use Rattle.pe_base.proofs.Lists.{Each, Each-all, Each-weaker, Each-map, In, flat_map_same, flat_map_none, filter-flat_map, map-reverse}
-use Rattle.pe_base.proofs.Steps.Counts.{eq_false, true_eq}
 use Rattle.pe_stacks.specs.Holdings.{stack_count, items_at}
 use Rattle.pe_stacks.specs.Grid.{output_stack, cell_input_stack, cell_output_stack}
 use Rattle.pe_walk.specs.Laws.{IsCell}
@@ -82,8 +82,8 @@ cell_passage o levels s cell beneath = go (s == cell_output_stack o.swapped) ref
     kids = walked_children o.axes o.way o.walks cell
 
     two : (swapped : Bool) (n : ℕ) → (n == cell_output_stack swapped) ≡ true → (n == cell_input_stack swapped) ≡ false
-    two true n e = eq_false n 1 (λ k. let h = true_eq n 0 e in omega (arith, h, k))
-    two false n e = eq_false n 0 (λ k. let h = true_eq n 1 e in omega (arith, h, k))
+    two true n e = ne_eqb n 1 (λ k. let h = eqb-true n 0 e in omega (arith, h, k))
+    two false n e = ne_eqb n 0 (λ k. let h = eqb-true n 1 e in omega (arith, h, k))
 
     no_takes : (s == cell_output_stack o.swapped) ≡ true → (n : ℕ) (c : Place) → cell_takes o n s c ≡ []
     no_takes e n c = ap (λ b. if b then cell_reads_of o n c else []) (two o.swapped s e)

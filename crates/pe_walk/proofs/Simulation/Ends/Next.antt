@@ -2,7 +2,8 @@
 use Rattle.std.proofs.Common.{◌≡◌, ℕ, ◌<◌, ◌≤◌, Bool, true, false, not, ◌&&◌, ◌||◌, ◌==◌, [], Option, Some, None, refl, sym, ap, ap₂, subst, ◌∙◌, arith, is_some, true≢false, if◌then◌else◌}
 use Rattle.std.specs.Prelude.{nat_lt}
 use Rattle.std.specs.Option.{option_map}
-use Rattle.std.proofs.lemmas.Bool.{lt-ltb, ltb-true, eq-eqb, ne_eqb, and_parts}
+use Rattle.std.proofs.lemmas.Bool.{lt-ltb, ltb-true, eq-eqb, ne_eqb, and_parts, or_right}
+use Rattle.std.proofs.Math.Bool.{or-false}
 use Rattle.pe_base.specs.declared.place.Place.{Place}
 use Rattle.pe_base.specs.declared.state.State.{State}
 use Rattle.pe_base.specs.Tree.Dim.{IsDim}
@@ -19,8 +20,8 @@ use Rattle.pe_base.specs.Walk.Foreseen.{next_traversal, was, will, below, walked
 use Rattle.pe_base.specs.Walk.Streams.{stream_vertices, stream_cells}
 use Rattle.pe_base.specs.Walk.Working.{Working, ended}
 use Rattle.pe_base.proofs.Steps.SlowerLaws.{length-around}
-use Rattle.pe_base.proofs.Faces.Bridge.{same_places}
 use Rattle.pe_base.proofs.Walk.MapLaws.{at-removed, found-turned_by}
+use Rattle.pe_base.proofs.Tree.Ranks.{same_places}
 use Rattle.pe_stacks.specs.Holdings.{items_at}
 use Rattle.pe_stacks.specs.Grid.{output_stack, cell_output_stack}
 use Rattle.pe_walk.specs.Machine.{Machine}
@@ -33,7 +34,7 @@ use Rattle.pe_walk.specs.Outlooks.{outlook}
 use Rattle.pe_walk.specs.StreamLaws.{IsNext}
 use Rattle.pe_walk.specs.Standing.{Foresight, IsWritten, Holds}
 use Rattle.pe_walk.specs.Gridded.{stored_of, MayTurn}
-use Rattle.pe_walk.proofs.Tests.{some_power, or_right_true}
+use Rattle.pe_walk.proofs.Tests.{some_power}
 use Rattle.pe_walk.proofs.Trees.{cell_position}
 use Rattle.pe_walk.proofs.StreamOrders.{cell_test, stored_not_hanging, next_is_formed, writes_are_streams}
 use Rattle.pe_walk.proofs.Tokens.Apart.{lies_only, not_read}
@@ -156,7 +157,7 @@ module _ {Plan : Type 0} (set : Setting Plan) (grid : Grid) (swapped : Bool) (m 
 
   -- the cells that are to be stored are walked
   stored_walked : (x : Place) → (turned o).reads_cell x ≡ true → walked set.start_level grid x ≡ true
-  stored_walked x h = or_right_true (x.level == 0) _ (stored_not_hanging (below set.start_level grid (parent_of x)) (and_parts (not (x.level == 0)) (is_stored (below set.start_level grid (parent_of x))) h).1)
+  stored_walked x h = or_right (x.level == 0) _ (stored_not_hanging (below set.start_level grid (parent_of x)) (and_parts (not (x.level == 0)) (is_stored (below set.start_level grid (parent_of x))) h).1)
 
   cells_written : (x : Place) → nat_lt 0 (times (cell_writes_of o grid.greatest root) x) ≡ (is_cell grid.axes x && is_stored (below set.start_level grid (parent_of x)))
   cells_written x =
@@ -187,16 +188,12 @@ module _ {Plan : Type 0} (set : Setting Plan) (grid : Grid) (swapped : Bool) (m 
   cells_next : (x : Place) → is_some (at (ended w grid).cells x) ≡ (is_cell grid.axes x && is_stored (below set.start_level grid (parent_of x)))
   cells_next x = ap is_some (at-removed w.cells root x) ∙ by (is_same root x) refl
     where
-      or_none : (b : Bool) → (b || false) ≡ b
-      or_none true = refl
-      or_none false = refl
-
       by : (b : Bool) → is_same root x ≡ b → is_some (if b then None else at w.cells x) ≡ (is_cell grid.axes x && is_stored (below set.start_level grid (parent_of x)))
       by true e = ap (λ c. is_cell grid.axes c && is_stored (below set.start_level grid (parent_of c))) (same_places root x e)
       by false e =
           holds.fair.cells_there x
           ∙ ap₂ (λ a b. nat_lt 0 a || nat_lt 0 b) (lies_written x) (times-there root [] x e)
-          ∙ or_none (nat_lt 0 (times (cell_writes_of o grid.greatest root) x))
+          ∙ or-false (nat_lt 0 (times (cell_writes_of o grid.greatest root) x))
           ∙ cells_written x
 
   -- # The grid that comes next

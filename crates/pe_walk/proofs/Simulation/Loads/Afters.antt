@@ -4,7 +4,7 @@ use Rattle.std.specs.Prelude.{nat_eq, nat_le, nat_lt, is_some, if◌then◌else�
 use Rattle.std.specs.Option.{unwrap_or}
 use Rattle.std.specs.List.{range_with_len}
 use Rattle.std.specs.Cmp.Lexicographic.{pointwise}
-use Rattle.std.proofs.lemmas.Bool.{ne_eqb}
+use Rattle.std.proofs.lemmas.Bool.{ne_eqb, and_right}
 use Rattle.std.proofs.lemmas.Bool.Decides.{nat_tests}
 use Rattle.pe_base.specs.declared.place.Place.{Place}
 use Rattle.pe_base.specs.declared.tally.Tally.{Tally}
@@ -14,11 +14,11 @@ use Rattle.pe_base.specs.Walk.Maps.{at, at_corner}
 use Rattle.pe_base.specs.Walk.Core.{Setting, Family}
 use Rattle.pe_base.specs.Walk.Working.{Working, no_vertex, vertex_at, cell_at, record_at}
 use Rattle.pe_base.proofs.Lists.{map_same}
-use Rattle.pe_base.proofs.Faces.Bridge.{same_places}
 use Rattle.pe_base.proofs.Steps.Counts.{is_same_itself}
 use Rattle.pe_base.proofs.Walk.CellCorners.{corners_apart}
 use Rattle.pe_base.proofs.Walk.MapLaws.{is_key}
 use Rattle.pe_base.proofs.Walk.Families.{Each-range}
+use Rattle.pe_base.proofs.Tree.Ranks.{same_places}
 use Rattle.pe_hang.specs.InHand.{map_holdings}
 use Rattle.pe_walk.specs.Tokens.{Outlook, Tokens}
 use Rattle.pe_walk.specs.Apart.{IsApart, lies}
@@ -127,15 +127,11 @@ module _ (axes greatest : ℕ) (o : Outlook) (f : Foresight) (st : Stage) (k : �
   record_later j later below =
       a.has.records st.cell j lower
       ∙ ap₂ (λ x y. unwrap_or x (unwrap_or y no_vertex))
-      (a.puts.hanging st.cell j ∙ ap (λ b. if b then Some it.0 else at_corner w.hanging st.cell j) (never (not (o.counts (corner axes st.cell k))) (is_key k (st.cell.level ∷ st.cell.pos) j (st.cell.level ∷ st.cell.pos)) (other_key k j (st.cell.level ∷ st.cell.pos) (st.cell.level ∷ st.cell.pos) other)))
-      (a.puts.vertices (corner axes st.cell j) ∙ ap (λ b. if b then Some it.0 else at w.vertices (corner axes st.cell j)) (never (o.counts (corner axes st.cell k)) (is_same (corner axes st.cell k) (corner axes st.cell j)) (corners_apart axes st.cell k j a.four a.small below other)))
+      (a.puts.hanging st.cell j ∙ ap (λ b. if b then Some it.0 else at_corner w.hanging st.cell j) (and_right (not (o.counts (corner axes st.cell k))) (is_key k (st.cell.level ∷ st.cell.pos) j (st.cell.level ∷ st.cell.pos)) (other_key k j (st.cell.level ∷ st.cell.pos) (st.cell.level ∷ st.cell.pos) other)))
+      (a.puts.vertices (corner axes st.cell j) ∙ ap (λ b. if b then Some it.0 else at w.vertices (corner axes st.cell j)) (and_right (o.counts (corner axes st.cell k)) (is_same (corner axes st.cell k) (corner axes st.cell j)) (corners_apart axes st.cell k j a.four a.small below other)))
     where
       other : k ≢ j
       other e = absurd (omega (arith, e, later))
-
-      never : (b c : Bool) → c ≡ false → (b && c) ≡ false
-      never true c h = h
-      never false c h = refl
 
   -- those in hand
   pub records_seen : map (record_at axes after st.cell) (range_with_len k (2 ^ axes - k)) ≡ it.0 ∷ map (record_at axes w st.cell) (range_with_len (suc k) (2 ^ axes - suc k))

@@ -11,7 +11,7 @@ use Rattle.pe_base.specs.Acts.Effects.{VertexRecord}
 use Rattle.pe_base.specs.Walk.Course.{at_once, and_then, course_map}
 use Rattle.pe_base.specs.Walk.Core.{Setting, Family, read_vertex, vertex_event, load_touch}
 use Rattle.pe_base.specs.Walk.Working.{no_vertex}
-use Rattle.pe_base.proofs.Faces.Bridge.{same_places}
+use Rattle.pe_base.proofs.Tree.Ranks.{same_places}
 use Rattle.pe_stacks.specs.Holdings.{Holdings, stack_at, items_at, lent, popped}
 use Rattle.pe_hang.specs.InHand.{map_holdings}
 use Rattle.pe_adapt.specs.Touches.{Desk, lent_vertex, popped_vertex, comes, load_as}

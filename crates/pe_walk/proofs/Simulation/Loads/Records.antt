@@ -17,7 +17,7 @@ use Rattle.pe_base.specs.Walk.Working.{Working, loads_of, put_vertex, loaded_aga
 use Rattle.pe_base.specs.Walk.Touches.{put_loaded}
 use Rattle.pe_base.proofs.Walk.MapLaws.{is_key, at-put, found-changed}
 use Rattle.pe_base.proofs.Walk.Slots.{is_hung}
-use Rattle.pe_base.proofs.Faces.Bridge.{same_places}
+use Rattle.pe_base.proofs.Tree.Ranks.{same_places}
 use Rattle.pe_walk.proofs.Tokens.Apart.{one_if}
 
 -- a record is put under a vertex that counts, which is loaded once more, or under a corner of the cell that hangs

@@ -3,7 +3,7 @@ use Rattle.std.proofs.Common.{◌≡◌, ◌⊎◌, ℕ, zero, suc, ◌+◌, ◌
 use Rattle.std.specs.Prelude.{nat_le, nat_lt, is_some, if◌then◌else◌}
 use Rattle.std.specs.Option.{unwrap_or}
 use Rattle.std.proofs.Math.Bool.{and-false}
-use Rattle.std.proofs.lemmas.Bool.{lt-ltb, ne_eqb}
+use Rattle.std.proofs.lemmas.Bool.{lt-ltb, ne_eqb, or_right, cases_eq}
 use Rattle.std.proofs.lemmas.Bool.Decides.{nat_tests}
 use Rattle.pe_base.specs.declared.place.Place.{Place}
 use Rattle.pe_base.specs.declared.kind.Kind.{Kind}
@@ -15,19 +15,17 @@ use Rattle.pe_base.specs.Walk.Maps.{at, at_corner}
 use Rattle.pe_base.specs.Walk.Core.{Family}
 use Rattle.pe_base.specs.Walk.Working.{Working, loads_of, record_at}
 use Rattle.pe_base.specs.Walk.Touches.{tally_load}
-use Rattle.pe_base.proofs.Faces.Bridge.{same_places}
 use Rattle.pe_base.proofs.Steps.Counts.{is_same_itself}
 use Rattle.pe_base.proofs.Walk.MapLaws.{is_key}
 use Rattle.pe_base.proofs.Walk.CellCorners.{corners_apart}
 use Rattle.pe_base.proofs.Walk.Slots.{is_hung}
+use Rattle.pe_base.proofs.Tree.Ranks.{same_places}
 use Rattle.pe_stacks.specs.Holdings.{Holdings, stack_count, stack_at, items_at, len_at}
 use Rattle.pe_stacks.specs.Grid.{output_stack}
 use Rattle.pe_walk.specs.Tokens.{Outlook, Tokens, cells_before}
 use Rattle.pe_walk.specs.Apart.{lies, occurs}
 use Rattle.pe_walk.specs.Standing.{Foresight, Outset, Stage, Stands, Fair, Owes, IsLive, IsFair, IsIdle, IsWritten, times}
-use Rattle.pe_walk.proofs.Tests.{or_right_true}
 use Rattle.pe_walk.proofs.Tokens.Apart.{one_if}
-use Rattle.pe_walk.proofs.Tokens.Stacks.{same_or_other}
 use Rattle.pe_walk.proofs.Simulation.Leaves.{after_load}
 use Rattle.pe_walk.proofs.Simulation.Shared.{on_one, lies_unheld, OneMore, owes-more}
 use Rattle.pe_walk.proofs.Simulation.Loads.Places.{HasTaken}
@@ -46,7 +44,7 @@ past_other k j other = grind (arith, nat_tests)
 
 -- a flag more at the corner that is loaded
 flag_turns : (hangs : ℕ → Bool) (same : Bool) (k j n : ℕ) → k < n → (hangs k && (k == j && same) || (same && nat_le (suc k) j && nat_lt j n && hangs j)) ≡ (same && nat_le k j && nat_lt j n && hangs j)
-flag_turns hangs same k j n small = elim (same_or_other k j) [
+flag_turns hangs same k j n small = elim (cases_eq k j) [
   | inl e ↦ subst (λ m. (hangs k && (k == m && same) || (same && nat_le (suc k) m && nat_lt m n && hangs m)) ≡ (same && nat_le k m && nat_lt m n && hangs m)) e here
   | inr other ↦
       ap₂ (λ q l. hangs k && (q && same) || (same && l && nat_lt j n && hangs j)) (ne_eqb k j other) (past_other k j other) ∙ nothing (hangs k) same (same && nat_le k j && nat_lt j n && hangs j)
@@ -198,7 +196,7 @@ module _ (axes greatest : ℕ) (o : Outlook) (f : Foresight) (st : Stage) (k : �
       go : (b : Bool) → is_same st.parent x ≡ b → is_some (at after.cells x) ≡ (nat_lt 0 (lies t'.cells x) || nat_lt 0 (times st.entered x))
       go true same =
           ap is_some (a.has.cells x ∙ ap (λ b. if b then Some it.1.parent else at before.cells x) same)
-          ∙ sym (or_right_true (nat_lt 0 (lies t'.cells x)) (nat_lt 0 (times st.entered x)) (lt-ltb 0 (times st.entered x) (omega (arith, a.stood.parent_entered, ap (times st.entered) (same_places st.parent x same)))))
+          ∙ sym (or_right (nat_lt 0 (lies t'.cells x)) (nat_lt 0 (times st.entered x)) (lt-ltb 0 (times st.entered x) (omega (arith, a.stood.parent_entered, ap (times st.entered) (same_places st.parent x same)))))
       go false other =
           ap is_some (cell_elsewhere axes greatest o f st k it tally w before after t t' a x other) ∙ a.was_fair.cells_there x
           ∙ ap (λ cells. nat_lt 0 (lies cells x) || nat_lt 0 (times st.entered x)) (sym a.loads.cells)

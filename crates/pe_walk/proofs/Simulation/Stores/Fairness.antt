@@ -10,8 +10,8 @@ use Rattle.pe_base.specs.Acts.Effects.{VertexRecord}
 use Rattle.pe_base.specs.Walk.Maps.{at}
 use Rattle.pe_base.specs.Walk.Core.{Setting, Family}
 use Rattle.pe_base.specs.Walk.Working.{Working, loads_of, record_at}
-use Rattle.pe_base.proofs.Faces.Bridge.{same_places}
 use Rattle.pe_base.proofs.Walk.Slots.{is_hung}
+use Rattle.pe_base.proofs.Tree.Ranks.{same_places}
 use Rattle.pe_stacks.specs.Holdings.{items_at}
 use Rattle.pe_stacks.specs.Grid.{output_stack}
 use Rattle.pe_walk.specs.Tokens.{Outlook, Tokens}

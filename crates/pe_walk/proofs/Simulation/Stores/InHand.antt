@@ -1,5 +1,6 @@
 -- The record of a corner in hand that is stored: what it is, and what becomes of it.
 use Rattle.std.proofs.Common.{◌≡◌, inl, ℕ, ◌+◌, ◌^◌, ◌<◌, Bool, true, false, not, ◌&&◌, ◌||◌, ◌==◌, Option, Some, None, refl, sym, ap, subst, ◌∙◌, arith}
+use Rattle.std.proofs.lemmas.Bool.{or_right}
 use Rattle.std.specs.Prelude.{is_none, nat_le, nat_lt}
 use Rattle.std.specs.Option.{unwrap_or}
 use Rattle.pe_base.specs.declared.place.Place.{Place}
@@ -45,10 +46,6 @@ pub record InHand {Plan : Type 0} (set : Setting Plan) (e : Outset) (st : Stage)
       → Fate set e.foresight (output_stack e.outlook.swapped) (corner set.axes st.cell k) (stack_out set.axes (way set) (corner set.axes st.cell k) st.cell)
       (goal_of e.outlook set.axes (way set) (corner set.axes st.cell k) st.cell) left
 
-either : (a b : Bool) → b ≡ true → (a || b) ≡ true
-either true b e = refl
-either false b e = e
-
 module _ {Plan : Type 0} (set : Setting Plan) (e : Outset) (walked : Place → Bool) (is : IsOutset set e walked) (st : Stage) (stage : IsStage set.axes e.outlook st) (w : Working) (t : Tokens) (h : Holds set e st w t)
     (k : ℕ) (from : st.from ≡ k) (below : k < 2 ^ set.axes) (deep : st.parent.level + 1 ≡ st.cell.level) where
   abbrev vertex : Place
@@ -90,7 +87,7 @@ module _ {Plan : Type 0} (set : Setting Plan) (e : Outset) (walked : Place → B
   counts : e.outlook.counts vertex ≡ true → InHand set e st k w
   counts on = record {
     kind = see ∙ sym (ap (λ kind. not (is_hanging kind)) foreseen);
-    placed = either (is_hanging it.kind) (is_inside set.axes vertex) (is.foresees.inside vertex on).1;
+    placed = or_right (is_hanging it.kind) (is_inside set.axes vertex) (is.foresees.inside vertex on).1;
     same = ap (stored_by set st k w) (lasts_agree set e walked is st w t stage h k (omega (arith, from)) below on);
     fate = λ left alike. subst (λ b. Fate set e.foresight (output_stack e.outlook.swapped) vertex to (goal_if b e.outlook set.axes (way set) vertex st.cell) left) (sym on)
         (fate set e.foresight (output_stack e.outlook.swapped) vertex it its to (e.outlook.writes vertex) left (sym see ∙ on) (is.foresees.writes vertex)

@@ -3,7 +3,7 @@ use Rattle.std.proofs.Common.{◌≡◌, ℕ, suc, ◌+◌, ◌-◌, ◌*◌, �
 use Rattle.std.specs.Prelude.{is_none, if◌then◌else◌}
 use Rattle.std.specs.Option.{unwrap_or}
 use Rattle.std.specs.List.{range_with_len}
-use Rattle.std.proofs.lemmas.Bool.{ne_eqb}
+use Rattle.std.proofs.lemmas.Bool.{ne_eqb, and_from}
 use Rattle.std.proofs.lemmas.List.{append-nil}
 use Rattle.pe_base.specs.declared.place.Place.{Place}
 use Rattle.pe_base.specs.Tree.Places.{corner}
@@ -176,13 +176,10 @@ module _ {Plan : Type 0} (set : Setting Plan) (e : Outset) (walked : Place → B
       ap (λ records. store_first set e room st.cell k (records, image_of set e st.parent w t)) (first_in_hand set e w st.cell st.from k from below)
       ∙ ap (λ b. course_map (λ m. (its, m)) (allowed b (course_map (λ desk. with_desk desk (record (image_of set e st.parent w t) { tally = tally_store (record_at set.axes w st.cell k).kind (is_none (to_of set st k)) w.tally }))
       (corners.store_corner set (17 - input_stack e.outlook.swapped) st.cell k (record_at set.axes w st.cell k) (desk_of (image_of set e st.parent w t))))))
-      (both (tally_may_rise w.tally) (is_placed set.axes (record_at set.axes w st.cell k).kind vertex) (tally_rises set e walked is st w.tally t h.owes) (hand set e walked is st stage w t h k from below t' run).placed)
+      (and_from (tally_may_rise w.tally) (is_placed set.axes (record_at set.axes w st.cell k).kind vertex) (tally_rises set e walked is st w.tally t h.owes) (hand set e walked is st stage w t h k from below t' run).placed)
       ∙ ap (λ c. and_then c (λ m. at_once (its, m)))
       (then-grouped (core_of set st k w) _ _)
       ∙ then-grouped (core_of set st k w) _ _
-    where
-      both : (a b : Bool) → a ≡ true → b ≡ true → (a && b) ≡ true
-      both a b p q = ap₂ (λ x y. x && y) p q
 
   pub stored_steps : (room : Push → Type 0) → HasRoom set e room → 1 ≤ st.owed → 1 ≤ st.unstored
       → Steps room (in_hand set e (after_store k st)) (Holds set e (after_store k st)) (store_corner set st.parent st.cell k w) (store_first set e room st.cell k (in_hand set e st w t)) t'

@@ -3,6 +3,7 @@ use Rattle.std.proofs.Common.{◌≡◌, inl, inr, ℕ, ◌+◌, ◌-◌, ◌<�
 use Rattle.std.specs.Prelude.{if◌then◌else◌}
 use Rattle.std.proofs.lemmas.List.Sums.{sum_by-set, sum_by-cons}
 use Rattle.std.proofs.lemmas.List.{get_or-set_same, get_or-set_other}
+use Rattle.std.proofs.lemmas.Bool.{cases_eq}
 use Rattle.pe_base.specs.declared.place.Place.{Place}
 use Rattle.pe_base.specs.Tree.Places.{is_same}
 use Rattle.pe_base.proofs.Steps.Counts.{is_same_itself}
@@ -11,7 +12,7 @@ use Rattle.pe_walk.specs.Tokens.{Tokens, one_less, put}
 use Rattle.pe_walk.specs.Apart.{lies}
 use Rattle.pe_walk.specs.Standing.{times}
 use Rattle.pe_walk.proofs.Tokens.Apart.{one_if, there}
-use Rattle.pe_walk.proofs.Tokens.Stacks.{same_or_other, pushed_same, pushed_other, pushed_count}
+use Rattle.pe_walk.proofs.Tokens.Stacks.{pushed_same, pushed_other, pushed_count}
 
 -- what is held after a place was stored that counts, or does not
 abbrev pub held_after : Bool → Place → (Place → ℕ) → Place → ℕ
@@ -52,7 +53,7 @@ held-itself place held = ap (λ b. if b then held place - 1 else held place) (is
 -- other places lie where they lay
 pub times-other : (goal : Option ℕ) (place q : Place) (held : Holdings Place) (s : ℕ) → Within goal held → is_same place q ≡ false → times (items_at (put goal place held) s) q ≡ times (items_at held s) q
 times-other None place q held s within e = refl
-times-other (Some w) place q held s within e = elim (same_or_other s w) [
+times-other (Some w) place q held s within e = elim (cases_eq s w) [
   | inl k ↦
       ap (λ n. times (items_at (pushed held w place) n) q) k ∙ ap (λ xs. times xs q) (pushed_same held w place (within w refl))
       ∙ sum_by-cons (λ other. one_if (is_same other q)) place (items_at held w) ∙ ap (λ b. one_if b + times (items_at held w) q) e
@@ -76,7 +77,7 @@ lies-other (Some w) place q held within e = omega (arith, lies-put w place q hel
 -- what is stored, if it lay nowhere, lies where it went and nowhere else
 pub went : (goal : Option ℕ) (place : Place) (held : Holdings Place) (s : ℕ) → Within goal held → times (items_at held s) place ≡ 0 → 1 ≤ times (items_at (put goal place held) s) place → goal ≡ Some s
 went None place held s within none some = absurd (omega (arith, none, some))
-went (Some w) place held s within none some = elim (same_or_other s w) [
+went (Some w) place held s within none some = elim (cases_eq s w) [
   | inl k ↦ ap Some (sym k)
   | inr k ↦ absurd (omega (arith, none, some, ap (λ xs. times xs place) (pushed_other held w s place k)))
 ]
@@ -105,7 +106,7 @@ pub record Grows (before after : Stack Place) : Type 0 where
 
 pub stack-put : (goal : Option ℕ) (place : Place) (held : Holdings Place) (s : ℕ) → Within goal held → Grows (stack_at held s) (stack_at (put goal place held) s)
 stack-put None place held s within = record { pushes = omega arith; pops = refl }
-stack-put (Some w) place held s within = elim (same_or_other s w) [
+stack-put (Some w) place held s within = elim (cases_eq s w) [
   | inl k ↦ subst (λ n. Grows (stack_at held n) (stack_at (pushed held w place) n)) (sym k)
       (subst (Grows (stack_at held w)) (sym (get_or-set_same held.stacks w (pushed_on (stack_at held w) place) new_stack (within w refl))) (record { pushes = omega arith; pops = refl }))
   | inr k ↦ subst (Grows (stack_at held s)) (sym (get_or-set_other held.stacks w s (pushed_on (stack_at held w) place) new_stack k)) (record { pushes = omega arith; pops = refl })
@@ -113,7 +114,7 @@ stack-put (Some w) place held s within = elim (same_or_other s w) [
 
 pub len-put : (goal : Option ℕ) (place : Place) (held : Holdings Place) (s : ℕ) → Within goal held → len_at (put goal place held) s ≤ len_at held s + 1
 len-put None place held s within = omega arith
-len-put (Some w) place held s within = elim (same_or_other s w) [
+len-put (Some w) place held s within = elim (cases_eq s w) [
   | inl k ↦ omega (arith, ap (λ n. len_at (pushed held w place) n) k, ap (λ (xs : List Place). length xs) (pushed_same held w place (within w refl)), ap (len_at held) k)
   | inr k ↦ omega (arith, ap (λ (xs : List Place). length xs) (pushed_other held w s place k))
 ]

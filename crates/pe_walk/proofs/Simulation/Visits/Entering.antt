@@ -2,7 +2,7 @@
 use Rattle.std.proofs.Common.{◌≡◌, ◌⊎◌, ℕ, ℤ, zero, suc, ◌+◌, ◌-◌, ◌*◌, ◌^◌, ◌<◌, ◌≤◌, ◌≢◌, Bool, true, false, not, ◌&&◌, ◌||◌, ◌==◌, List, [], ◌∷◌, length, Option, Some, None, refl, sym, ap, ap₂, subst, ◌∙◌, arith, is_some, is_none, true≢false, if◌then◌else◌, inl, inr}
 use Rattle.std.specs.Prelude.{nat_lt, map}
 use Rattle.std.specs.Option.{option_map, unwrap_or}
-use Rattle.std.proofs.lemmas.Bool.{lt-ltb, le-ltb, ltb-true}
+use Rattle.std.proofs.lemmas.Bool.{lt-ltb, le-ltb, ltb-true, or_right, cases_eq}
 use Rattle.pe_base.specs.declared.place.Place.{Place}
 use Rattle.pe_base.specs.declared.kind.Kind.{Kind}
 use Rattle.pe_base.specs.declared.kind.Kind.TheVariants.{Kept, Born, Dying, Hanging}
@@ -19,8 +19,8 @@ use Rattle.pe_stacks.specs.Holdings.{Holdings, stack_count, stack_at, items_at, 
 use Rattle.pe_stacks.specs.Grid.{output_stack, cell_input_stack}
 use Rattle.pe_hang.specs.InHand.{map_holdings}
 use Rattle.pe_hang.specs.Moves.{lend, pop}
-use Rattle.pe_base.proofs.Faces.Bridge.{same_places}
 use Rattle.pe_base.specs.Steps.Stacks.{is_stack}
+use Rattle.pe_base.proofs.Tree.Ranks.{same_places}
 use Rattle.pe_walk.specs.Machine.{Machine, cell_comes}
 use Rattle.pe_walk.specs.Machine as machine
 use Rattle.pe_walk.specs.Tokens.{Outlook, Tokens, given, taken, cell_source, is_top}
@@ -36,7 +36,7 @@ use Rattle.pe_walk.proofs.Tokens.CellsAhead.{steps_keep_ahead}
 use Rattle.pe_walk.proofs.Tokens.StepFrames as frames
 use Rattle.pe_walk.proofs.Tokens.CountLists.{count-cons}
 use Rattle.pe_walk.proofs.Tokens.DepotCounts.{Took, take_counts}
-use Rattle.pe_walk.proofs.Tokens.Stacks.{popped_same, popped_other, same_or_other}
+use Rattle.pe_walk.proofs.Tokens.Stacks.{popped_same, popped_other}
 use Rattle.pe_walk.proofs.Tokens.Keeping.{given_some}
 use Rattle.pe_walk.proofs.Simulation.Matching.{Matches, Steps, core-matches, mapped-done, matches-same}
 use Rattle.pe_walk.proofs.Simulation.Silent.{enter-silent}
@@ -68,7 +68,7 @@ len-taken (Some from) place held after e s =
   where
     by : (xs : List Place) → items_at held from ≡ xs → is_top place xs ≡ true → len_at (popped held from) s ≤ len_at held s
     by [] q top = absurd (true≢false (sym top))
-    by (x ∷ xs) q top = elim (same_or_other s from) [
+    by (x ∷ xs) q top = elim (cases_eq s from) [
       | inl here ↦ subst (λ n. len_at (popped held from) n ≤ len_at held n) (sym here) (omega (arith, ap length (popped_same held from x xs q), ap length q))
       | inr other ↦ omega (arith, ap length (popped_other held from s other))
     ]
@@ -234,11 +234,7 @@ module _ {Plan : Type 0} (set : Setting Plan) (e : Outset) (walked : Place → B
     is_there x = ap is_some (seen.cells x) ∙ by_parent (is_same st.parent x) refl (is_same st.cell x) refl
       where
         entered : 1 ≤ times (st.cell ∷ st.entered) x → true ≡ (nat_lt 0 (lies took.0 x) || nat_lt 0 (times (st.cell ∷ st.entered) x))
-        entered some = sym (or_true (nat_lt 0 (lies took.0 x)) (nat_lt 0 (times (st.cell ∷ st.entered) x)) (lt-ltb 0 (times (st.cell ∷ st.entered) x) some))
-          where
-            or_true : (a b : Bool) → b ≡ true → (a || b) ≡ true
-            or_true true b q = refl
-            or_true false b q = q
+        entered some = sym (or_right (nat_lt 0 (lies took.0 x)) (nat_lt 0 (times (st.cell ∷ st.entered) x)) (lt-ltb 0 (times (st.cell ∷ st.entered) x) some))
 
         by_parent : (b : Bool) → is_same st.parent x ≡ b → (c : Bool) → is_same st.cell x ≡ c
             → is_some (if b then Some it.parent else if c then Some own.cell else at w.cells x) ≡ (nat_lt 0 (lies took.0 x) || nat_lt 0 (times (st.cell ∷ st.entered) x))

@@ -2,7 +2,7 @@
 use Rattle.std.proofs.Common.{◌≡◌, ◌⊎◌, ℕ, ℤ, zero, suc, ◌+◌, ◌-◌, ◌*◌, ◌^◌, ◌<◌, ◌≤◌, ◌≢◌, Bool, true, false, not, ◌&&◌, ◌||◌, ◌==◌, List, [], ◌∷◌, length, Option, Some, None, refl, sym, ap, ap₂, subst, ◌∙◌, arith, is_some, is_none, true≢false, if◌then◌else◌, inl, inr}
 use Rattle.std.specs.Prelude.{nat_lt}
 use Rattle.std.specs.Option.{unwrap_or}
-use Rattle.std.proofs.lemmas.Bool.{lt-ltb, eq-eqb}
+use Rattle.std.proofs.lemmas.Bool.{lt-ltb, eq-eqb, or_right}
 use Rattle.pe_base.specs.declared.place.Place.{Place}
 use Rattle.pe_base.specs.declared.kind.Kind.{Kind}
 use Rattle.pe_base.specs.declared.kind.Kind.TheVariants.{Kept, Born, Dying, Hanging}
@@ -18,9 +18,9 @@ use Rattle.pe_base.specs.Walk.Core.{Setting, Family, Own, leave_touch}
 use Rattle.pe_base.specs.Walk.Working.{Working, cell_at, records_of, record_at, family_of, own_of}
 use Rattle.pe_base.specs.Walk.Touches.{after_cell, put_left}
 use Rattle.pe_base.specs.Walk.Touches as model
-use Rattle.pe_base.proofs.Faces.Bridge.{same_places}
 use Rattle.pe_base.proofs.Steps.Counts.{is_same_itself}
 use Rattle.pe_base.proofs.Walk.MapLaws.{at-removed}
+use Rattle.pe_base.proofs.Tree.Ranks.{same_places}
 use Rattle.pe_stacks.specs.Holdings.{Holdings, stack_count, stack_at, items_at, len_at, given_up, pushed}
 use Rattle.pe_stacks.specs.Grid.{cell_input_stack, cell_output_stack}
 use Rattle.pe_hang.specs.InHand.{map_holdings}
@@ -204,10 +204,6 @@ module _ {Plan : Type 0} (set : Setting Plan) (e : Outset) (walked : Place → B
         lies_places : lies places x ≡ lies t'.cells x
         lies_places = ap (λ (u : Tokens). lies u.cells x) is_left
 
-        or_true : (a b : Bool) → b ≡ true → (a || b) ≡ true
-        or_true true b q = refl
-        or_true false b q = q
-
         here : (d : Bool) → is_same st.cell x ≡ true → e.outlook.writes_cell st.cell ≡ d → is_some (if d then Some own.cell else None) ≡ (nat_lt 0 (lies places x) || nat_lt 0 (times outer x))
         here d q stored =
             let sum : lies t'.cells x ≡ lies t.cells x + (if d && true then 1 else 0) = leaves.its_lies x ∙ ap₂ (λ a b. lies t.cells x + (if a && b then 1 else 0)) stored q in
@@ -222,7 +218,7 @@ module _ {Plan : Type 0} (set : Setting Plan) (e : Outset) (walked : Place → B
 
         by : (b : Bool) → is_same st.parent x ≡ b → (c : Bool) → is_same st.cell x ≡ c
             → is_some (if b then Some it.parent else if c then (if is_stored kind then Some own.cell else None) else at w.cells x) ≡ (nat_lt 0 (lies places x) || nat_lt 0 (times outer x))
-        by true p c q = sym (or_true (nat_lt 0 (lies places x)) (nat_lt 0 (times outer x)) (lt-ltb 0 (times outer x) (subst (λ y. 1 ≤ times outer y) (same_places st.parent x p) parent_outer)))
+        by true p c q = sym (or_right (nat_lt 0 (lies places x)) (nat_lt 0 (times outer x)) (lt-ltb 0 (times outer x) (subst (λ y. 1 ≤ times outer y) (same_places st.parent x p) parent_outer)))
         by false p true q = here (is_stored kind) q writes
         by false p false q =
             h.fair.cells_there x

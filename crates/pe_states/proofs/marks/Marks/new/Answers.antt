@@ -1,8 +1,9 @@
 -- The old marks are the lower half, the new ones the upper.
 use Rattle.std.proofs.Common.{◌≡◌, ℕ, ◌+◌, ◌*◌, ◌^◌, ◌%◌, ◌<◌, ◌||◌, ap, ap₂, ◌∙◌, arith}
+use Rattle.std.proofs.Math.Bool.{or-false}
 use Rattle.std.specs.Prelude.{bit_or}
 use Rattle.pe_states.specs.Marks.{is_marked}
-use Rattle.pe_states.proofs.Bits.{marked_or, not_marked, marked_shl_low, marked_shl_high, or_none}
+use Rattle.pe_states.proofs.Bits.{marked_or, not_marked, marked_shl_low, marked_shl_high}
 use Rattle.pe_states.proofs.marks.Marks.new.Goals as goal
 
 -- the two halves of a number
@@ -11,7 +12,7 @@ whole x y h = let same : y * 65536 % 4294967296 ≡ y * 2 ^ 16 = omega arith in 
 
 lower : (x y k : ℕ) → y < 2 ^ 16 → k < 16 → is_marked (bit_or x (y * 65536 % 4294967296)) k ≡ is_marked x k
 lower x y k h small =
-    ap (λ (z : ℕ). is_marked z k) (whole x y h) ∙ marked_or x (y * 2 ^ 16) k ∙ ap (λ b. is_marked x k || b) (marked_shl_low y 16 k small) ∙ or_none (is_marked x k)
+    ap (λ (z : ℕ). is_marked z k) (whole x y h) ∙ marked_or x (y * 2 ^ 16) k ∙ ap (λ b. is_marked x k || b) (marked_shl_low y 16 k small) ∙ or-false (is_marked x k)
 
 upper : (x y k : ℕ) → x < 2 ^ 16 → y < 2 ^ 16 → is_marked (bit_or x (y * 65536 % 4294967296)) (16 + k) ≡ is_marked y k
 upper x y k g h =

@@ -1,11 +1,11 @@
 -- One bit more in each half.
 use Rattle.std.proofs.Common.{◌≡◌, ℕ, ◌+◌, ◌*◌, ◌/◌, ◌%◌, ◌^◌, ◌<◌, Bool, true, false, ◌&&◌, ◌||◌, sym, ap, ap₂, ◌∙◌, inl, inr}
 use Rattle.std.specs.Prelude.{◌==◌}
-use Rattle.std.proofs.lemmas.Bool.{cases_eq, eq-eqb, ne_eqb}
+use Rattle.std.proofs.lemmas.Bool.{cases_eq, eq-eqb, ne_eqb, and_right}
 use Rattle.std.proofs.lemmas.Nat.{one_shl}
 use Rattle.std.proofs.lemmas.Nat.Bits.{bit_at-pow_same, bit_at-pow_other, bit_at-zero}
 use Rattle.pe_states.specs.Marks.{is_marked, is_old_at, is_new_at}
-use Rattle.pe_states.proofs.Bits.{marked_or, and_true, and_false}
+use Rattle.pe_states.proofs.Bits.{marked_or, and_true}
 use Rattle.pe_states.proofs.marks.Marks.with.Goals as goal
 use Rattle.pe_states.proofs.marks.Marks.with.Goals.{then-old, else-old, then-new, else-new}
 
@@ -22,7 +22,7 @@ marked x corner k b h e f = ap (λ (y : ℕ). is_marked y k) e ∙ one_mark corn
 
 -- and one that is not
 unmarked : (x corner k : ℕ) (b : Bool) → x ≡ 0 → b ≡ false → is_marked x k ≡ (k == corner && b)
-unmarked x corner k b e f = ap (λ (y : ℕ). is_marked y k) e ∙ ap (λ (y : ℕ). y == 1) (bit_at-zero k) ∙ sym (and_false (k == corner) b f)
+unmarked x corner k b e f = ap (λ (y : ℕ). is_marked y k) e ∙ ap (λ (y : ℕ). y == 1) (bit_at-zero k) ∙ sym (and_right (k == corner) b f)
 
 pub returns-clause-old : goal.returns-clause-old
 returns-clause-old c k small =
