@@ -361,21 +361,6 @@ beside-root (suc i) (u ∷ us) [] h k = absurd h
 beside-root zero (u ∷ us) (v ∷ vs) h k = let up : v ≡ u + 1 = h.0 in let small = k.0 in omega arith
 beside-root (suc i) (u ∷ us) (v ∷ vs) h k = beside-root i us vs h.1 k.1
 
-beside-below : (i bound : ℕ) (us vs : List ℕ) → Beside i us vs → Below bound vs → Below bound us
-beside-below zero bound [] vs h k = absurd h
-beside-below (suc i) bound [] vs h k = absurd h
-beside-below zero bound (u ∷ us) [] h k = absurd h
-beside-below (suc i) bound (u ∷ us) [] h k = absurd h
-beside-below zero bound (u ∷ us) (v ∷ vs) h k =
-    let up : v ≡ u + 1 = h.0 in
-    let small = k.0 in
-    let P : List ℕ → Type 0 = λ xs. Below bound xs in
-    (omega arith, subst P (sym h.1) k.1)
-beside-below (suc i) bound (u ∷ us) (v ∷ vs) h k =
-    let same : u ≡ v = h.0 in
-    let small = k.0 in
-    (omega arith, beside-below i bound us vs h.1 k.1)
-
 pub first-is : (axes : ℕ) (way : Way) (level i : ℕ) (us vs : List ℕ) → length vs ≡ axes → Below (3 ^ level) vs → Beside i us vs → First axes way level i us vs
 first-is axes way zero i us vs len below h = absurd (beside-root i us vs h below)
 first-is axes way (suc level) i us vs len below h =

@@ -1,5 +1,5 @@
 -- The touch of a corner fits where its stack is there.
-use Rattle.std.proofs.Common.{◌≡◌, ℕ, zero, suc, ◌^◌, ◌<◌, Bool, true, false, ◌&&◌, List, [], ◌∷◌, length, Option, Some, None, refl, sym, subst, arith}
+use Rattle.std.proofs.Common.{◌≡◌, ℕ, zero, suc, ◌^◌, ◌<◌, Bool, true, false, List, [], ◌∷◌, length, Option, Some, None, refl, sym, subst, arith}
 use Rattle.std.specs.Prelude.{nat_lt, slice_index_or, IfSome, is_none}
 use Rattle.std.proofs.lemmas.Bool.{lt-ltb, and_from}
 use Rattle.pe_base.specs.declared.place.Place.{Place}
@@ -48,7 +48,7 @@ module _ {Plan : Type 0} (set : Setting Plan) where
   event-fits event place it =
       then-fits (fire set event it.1.list (seen_at place it)).ending _ (ended-fits event place (fire_of event place it).fault (fire_of event place it)) (λ outcome. refl)
 
-  load-fits : (kind : Kind) (first : Bool) (found : VertexRecord) (place : Place) (family : Family) → Fits (load_touch set kind first found place family)
+  pub load-fits : (kind : Kind) (first : Bool) (found : VertexRecord) (place : Place) (family : Family) → Fits (load_touch set kind first found place family)
   load-fits Hanging first found place family = event-fits CreateHangingVertex place (fresh_vertex set Hanging place family)
   load-fits Born true found place family =
       and_then-fit (vertex_event set CreateInnerVertex place (fresh_vertex set Born place family)) (vertex_event set TouchVertexFirstTime place)
@@ -59,7 +59,7 @@ module _ {Plan : Type 0} (set : Setting Plan) where
   load-fits Kept false found place family = refl
   load-fits Dying false found place family = refl
 
-  store-fits : (kind : Kind) (last : Bool) (place : Place) (it : VertexRecord) (family : Family) → Fits (store_of set kind last place it family)
+  pub store-fits : (kind : Kind) (last : Bool) (place : Place) (it : VertexRecord) (family : Family) → Fits (store_of set kind last place it family)
   store-fits Hanging last place it family = and_then-fit (vertex_event set DestroyHangingVertex place (it, family)) _ (event-fits DestroyHangingVertex place (it, family)) (λ x. refl)
   store-fits Dying true place it family =
       and_then-fit (and_then (vertex_event set TouchVertexLastTime place (it, family)) (vertex_event set DestroyVertex place)) _

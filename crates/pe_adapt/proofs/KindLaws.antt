@@ -16,7 +16,7 @@ use Rattle.pe_base.specs.Acts.Effects.{VertexRecord}
 use Rattle.std.proofs.lemmas.Bool.Decides.{nat_tests}
 use Rattle.std.proofs.lemmas.Bool.{eq-eqb}
 use Rattle.std.proofs.Math.Bool.{or-false}
-use Rattle.pe_base.proofs.Lists.{Each-weaker}
+use Rattle.pe_base.proofs.Lists.{Each-weaker, list_any_same}
 use Rattle.pe_base.proofs.Tree.PlaceLaws.{IsPosition-below}
 use Rattle.pe_stacks.specs.declared.record.Vertex.{Vertex}
 use Rattle.pe_stacks.specs.Corners.{CornerList, vertex_at, vertices_of, IsFull}
@@ -25,7 +25,7 @@ use Rattle.pe_mapping.specs.Sights.{seen_vertex, seen_corners}
 use Rattle.pe_states.specs.Carriers.{carrier_numbers}
 use Rattle.pe_states.specs.Marks.{is_old_at, is_new_at, some_carrier, is_first_old, is_first_new}
 use Rattle.pe_states.proofs.Tests.{any_map}
-use Rattle.pe_states.proofs.CarrierLaws.{carriers_within, carrier_numbers-below, any_alike}
+use Rattle.pe_states.proofs.CarrierLaws.{carriers_within, carrier_numbers-below}
 use Rattle.pe_adapt.specs.Touches.{offset_number, corner_number, state_in_hand}
 use Rattle.pe_adapt.specs.Marked.{AreMarksOf}
 
@@ -111,7 +111,7 @@ carried-in_hand : (axes : ℕ) (parent : Place) (digits : Digits) (k : ℕ) (its
     → some_carrier axes digits k marked ≡ is_carried test (state_in_hand parent its) (corner axes (child_at parent digits) k)
 carried-in_hand axes parent digits k its test marked within is fit below same =
     let seen = λ (q : Place). passes test (state_in_hand parent its q) in
-    any_alike marked (λ n. seen (corner axes parent n)) (carrier_numbers axes digits k)
+    list_any_same marked (λ n. seen (corner axes parent n)) (carrier_numbers axes digits k)
     (Each-weaker (λ n. n < 2 ^ axes) (λ n. marked n ≡ seen (corner axes parent n))
     (λ n small. same n small ∙ ap (λ j. passes test (option_map (λ it. it.state) (slice_get its j))) (sym (corner_number-corner axes n parent within small is.pos.four)))
     (carrier_numbers axes digits k) (carrier_numbers-below axes digits k within.1 fit))

@@ -186,6 +186,10 @@ pub list_any_none : {X : Type 0} (p : X → Bool) (xs : List X) → Each (λ x. 
 list_any_none p [] e = refl
 list_any_none p (x ∷ xs) e = ap₂ (λ a b. a || b) e.0 (list_any_none p xs e.1)
 
+pub list_any_same : {X : Type 0} (p q : X → Bool) (xs : List X) → Each (λ x. p x ≡ q x) xs → list_any p xs ≡ list_any q xs
+list_any_same p q [] h = refl
+list_any_same p q (x ∷ xs) h = ap₂ (λ a b. a || b) h.0 (list_any_same p q xs h.1)
+
 or_left : (a b : Bool) → (a || b) ≡ false → a ≡ false
 or_left true b h = h
 or_left false b h = refl

@@ -1,7 +1,7 @@
 -- Corners of which the last ones are full, after one more is put or taken.
 use Rattle.std.proofs.Common.{◌≡◌, ℕ, zero, suc, ◌+◌, ◌^◌, ◌<◌, List, [], ◌∷◌, ◌++◌, map, length, get_or, set, replicate, Option, Some, None, IsSome, true, false, refl, sym, ap, subst, ◌∙◌, add-one, rules, arith}
 use Rattle.std.specs.List.{filter_map}
-use Rattle.std.proofs.lemmas.List.{append-nil, length-append, length-map}
+use Rattle.std.proofs.lemmas.List.{append-nil, length-map}
 use Rattle.pe_stacks.specs.Corners.{CornerList, no_vertices, vertex_at, with_vertex, vertices_of, IsFull}
 use Rattle.pe_stacks.proofs.FullCorners.{vertices_of-filled, length-vertices_of}
 use Rattle.pe_stacks.specs.Filled.{FullFrom}

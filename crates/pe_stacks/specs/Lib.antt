@@ -5,8 +5,6 @@
 pub mod Holdings
 -- which stacks the streams of a grid are
 pub mod Grid
--- how a grid lies on stacks between two traversals
-pub mod Streams
 -- # The corners of a cell
 -- for each corner by its number the vertex there, if there is one
 pub mod Corners

@@ -4,7 +4,6 @@ ghost use Rattle.std.specs.Option.{option_map};
 ghost use Rattle.pe_stacks.specs.declared.record.Vertex.{Vertex as AVertex};
 ghost use Rattle.pe_stacks.specs.Corners.{vertex_at, with_vertex};
 ghost use Rattle.pe_stacks.specs.Grid.{input_stack, cell_input_stack};
-ghost use Rattle.pe_stacks.specs.Streams.{HoldsOnly};
 ghost use Rattle.pe_stacks.specs.Holdings.{new_holdings, stack_count, stack_at, items_at, len_at, lent, popped, given_up, pushed};
 
 use crate::{CellRec, Corners, Depot, Grid, Shown, VecDepot, Vertex};
@@ -52,16 +51,8 @@ fn depart_in_place<P>(corners: &mut Corners<P>, q: u8, state: State)
     }
 }
 
-// Before the first traversal a grid's streams are empty, and after it the other stack is the input.
-fn streams()
-    ensures empty { HoldsOnly {X = ℕ} {Y = ℕ} (λ x. x) (new_holdings 10) (input_stack false) [] }
-    ensures full { HoldsOnly {X = ℕ} {Y = ℕ} (λ x. x)
-        (pushed {X = ℕ} (new_holdings 2) 1 5) (cell_input_stack true) (5 ∷ []) }
-{}
-
 #[test]
 fn the_definitions_give_the_rows() {
-    streams();
 }
 
 #[test]

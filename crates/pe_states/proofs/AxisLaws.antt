@@ -5,10 +5,10 @@ use Rattle.std.specs.Prelude.{slice_index}
 use Rattle.std.proofs.lemmas.List.{length-take-le}
 use Rattle.std.proofs.Math.Bool.{or-false}
 use Rattle.pe_base.specs.declared.place.Digits.{Digits}
-use Rattle.pe_base.specs.Tree.Places.{bits, moved}
+use Rattle.pe_base.specs.Tree.Places.{bits, moved, number_of}
 use Rattle.pe_base.specs.Life.Carriers.{thirds, carrier_positions}
 use Rattle.pe_base.proofs.Tree.Corners.{IsBits}
-use Rattle.pe_states.specs.Carriers.{number_of, carrier_numbers}
+use Rattle.pe_states.specs.Carriers.{carrier_numbers}
 use Rattle.pe_states.specs.Marks.{is_marked, is_old_at, is_new_at, some_carrier}
 use Rattle.pe_states.specs.Sides.{on_side, IsSpread, AreSpread, IsRow}
 use Rattle.pe_states.proofs.Numbers.{IsBits-bits, number_of-bits}

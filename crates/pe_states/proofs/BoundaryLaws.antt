@@ -3,15 +3,15 @@ use Rattle.std.proofs.Common.{◌≡◌, ℕ, zero, suc, ◌+◌, ◌-◌, ◌*�
 use Rattle.std.specs.Prelude.{◌==◌, bit_and, slice_index}
 use Rattle.std.specs.Int.{bit_at, w32}
 use Rattle.std.specs.List.{list_all}
-use Rattle.std.proofs.Math.Nat.{pow-le-pow_right}
 use Rattle.std.proofs.lemmas.List.{length-take-le}
 use Rattle.std.proofs.lemmas.Nat.Bits.{bit_at_not, bit_at-lt, bit_at_ones, bit_at_mask_below, bit_at_mask_inside}
+use Rattle.std.proofs.Math.Bool.{and_comm}
 use Rattle.pe_base.specs.declared.place.Place.{Place}
 use Rattle.pe_base.specs.declared.place.Digits.{Digits}
-use Rattle.pe_base.specs.Tree.Places.{IsDigits, bits, moved, child_at, corner, root}
+use Rattle.pe_base.specs.Tree.Places.{IsDigits, bits, moved, child_at, corner, root, number_of}
 use Rattle.pe_base.specs.Life.Kinds.{is_inside}
 use Rattle.pe_base.proofs.Tree.Corners.{IsBits}
-use Rattle.pe_states.specs.Carriers.{number_of}
+use Rattle.pe_base.proofs.Tree.PlaceLaws.{few_corners}
 use Rattle.pe_states.specs.Marks.{is_marked, is_old_at, is_new_at, is_first_old, is_first_new}
 use Rattle.pe_states.specs.Sides.{are_near, on_side, is_between, IsTrimmed}
 use Rattle.pe_states.proofs.Bits.{marked_and, and_true}
@@ -177,17 +177,8 @@ at_first traversal h = record {
   new = λ k small. ap (λ (x : ℕ). x == 1) (bit_at_mask_inside 16 32 (16 + k) (omega arith) (omega arith));
 }
 
-two_to : (axes : ℕ) → axes ≤ 4 → 2 ^ axes ≤ 16
-two_to axes high = pow-le-pow_right (omega arith) high
-
 pub small_corner : (axes k : ℕ) → axes ≤ 4 → k < 2 ^ axes → k < 16
-small_corner axes k high h = omega (arith, two_to axes high)
-
-and_swap : (a b : Bool) → (a && b) ≡ (b && a)
-and_swap true true = refl
-and_swap true false = refl
-and_swap false true = refl
-and_swap false false = refl
+small_corner axes k high h = omega (arith, few_corners axes high)
 
 pub old_inside : (axes : ℕ) (digits : Digits) (traversal m m' k : ℕ) → 2 ≤ axes → axes ≤ 4 → IsDigits axes digits → AreTrimmed 1 (take axes digits.k) m m' → AreStored traversal m → k < 2 ^ axes
     → is_old_at m' k ≡ is_first_old axes digits traversal k
@@ -198,7 +189,7 @@ old_inside axes digits traversal m m' k low high fit made stored small =
     ∙ trimmed_inside axes digits m m' k 0 low high fit made small (omega arith)
     ∙ ap (λ (i : ℕ). is_marked m i && is_first_new axes digits k) (sym plain)
     ∙ ap (λ b. b && is_first_new axes digits k) (stored.old k under)
-    ∙ and_swap (not (traversal == 1)) (is_first_new axes digits k)
+    ∙ and_comm (not (traversal == 1)) (is_first_new axes digits k)
 
 pub new_inside : (axes : ℕ) (digits : Digits) (traversal m m' k : ℕ) → 2 ≤ axes → axes ≤ 4 → IsDigits axes digits → AreTrimmed 1 (take axes digits.k) m m' → AreStored traversal m → k < 2 ^ axes
     → is_new_at m' k ≡ is_first_new axes digits k

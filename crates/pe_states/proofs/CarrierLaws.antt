@@ -1,22 +1,22 @@
 -- The carriers of a child's corners among the parent's corners.
-use Rattle.std.proofs.Common.{◌≡◌, ℕ, zero, suc, ◌+◌, ◌-◌, ◌*◌, ◌/◌, ◌%◌, ◌^◌, ◌<◌, ◌≤◌, List, [], ◌∷◌, ◌++◌, map, take, length, refl, sym, ap, ap₂, ◌∙◌, subst, arith, pow-suc, Bool, true, ◌||◌}
-use Rattle.std.specs.Prelude.{◌==◌, All, replicate}
+use Rattle.std.proofs.Common.{◌≡◌, ℕ, zero, suc, ◌+◌, ◌-◌, ◌*◌, ◌/◌, ◌%◌, ◌^◌, ◌<◌, ◌≤◌, List, [], ◌∷◌, ◌++◌, map, take, length, refl, sym, ap, ap₂, ◌∙◌, subst, arith, Bool, true}
+use Rattle.std.specs.Prelude.{◌==◌, replicate}
 use Rattle.std.specs.List.{flat_map, list_any}
 use Rattle.std.proofs.lemmas.Bool.{eq-eqb, ne_eqb, cond-true, cond-false, cond_both}
-use Rattle.std.proofs.lemmas.List.Elements.{All-nil, All-cons}
 use Rattle.std.proofs.lemmas.List.Folds.{flat_map-map}
 use Rattle.pe_base.specs.declared.place.Place.{Place}
 use Rattle.pe_base.specs.declared.place.Digits.{Digits}
-use Rattle.pe_base.specs.Tree.Places.{IsCellPlace, IsDigits, bits, moved, finer, child_at, corner}
+use Rattle.pe_base.specs.Tree.Places.{IsCellPlace, IsDigits, bits, moved, finer, child_at, corner, number_of}
 use Rattle.pe_base.specs.Life.Carriers.{thirds, carrier_positions, carriers}
-use Rattle.pe_base.proofs.Lists.{Each, Each-map, Each-flat_map, Each-all, Each-weaker, map-map, map_same, flat_map_same, map-flat_map}
+use Rattle.pe_base.proofs.Lists.{Each, Each-map, Each-flat_map, Each-all, Each-weaker, map-map, map_same, flat_map_same, map-flat_map, list_any_same}
 use Rattle.pe_base.proofs.Steps.RouteLaws.{Below, Below-front, length-front, padded-front}
 use Rattle.pe_base.proofs.Tree.PlaceLaws.{length-bits}
 use Rattle.pe_base.proofs.Tree.Corners.{IsBits}
-use Rattle.pe_states.specs.Carriers.{number_of, carrier_numbers, place_in_parent}
+use Rattle.pe_base.proofs.Walk.CarrierLaws.{bits-number_of, number_of-below}
+use Rattle.pe_states.specs.Carriers.{carrier_numbers, place_in_parent}
 use Rattle.pe_states.specs.Marks.{some_carrier}
 use Rattle.pe_states.proofs.Tests.{any_same, any_map, any_flat_map}
-use Rattle.pe_states.proofs.Numbers.{IsBits-bits, bits-number_of}
+use Rattle.pe_states.proofs.Numbers.{IsBits-bits}
 
 -- a position on both levels, and one between
 one_third : (x q : ℕ) → x % 3 ≡ 0 → x / 3 ≡ q → thirds x ≡ q ∷ []
@@ -151,12 +151,6 @@ carriers_within axes parent digits k few place fit small =
     ∙ map_same _ _ below each_corner
     ∙ sym (map-map (corner axes parent) number_of below)
 
-number_below : (axes : ℕ) (bs : List ℕ) → IsBits axes bs → number_of bs < 2 ^ axes
-number_below zero [] h = omega arith
-number_below zero (b ∷ bs) h = absurd (omega arith)
-number_below (suc axes) [] h = absurd (omega arith)
-number_below (suc axes) (b ∷ bs) h = (let side = h.0 in let rest = number_below axes bs h.1 in omega (arith, pow-suc 2 axes))
-
 -- the positions of the carriers are those of corners
 carrier_sides : (axes : ℕ) (digits : Digits) (k : ℕ) → axes ≤ 4 → IsDigits axes digits → Each (IsBits axes) (carrier_positions (place_in_parent axes digits k))
 carrier_sides axes digits k few fit =
@@ -170,16 +164,7 @@ carrier_sides axes digits k few fit =
 pub carrier_numbers-below : (axes : ℕ) (digits : Digits) (k : ℕ) → axes ≤ 4 → IsDigits axes digits → Each (λ n. n < 2 ^ axes) (carrier_numbers axes digits k)
 carrier_numbers-below axes digits k few fit =
     Each-map (λ n. n < 2 ^ axes) number_of (carrier_positions (place_in_parent axes digits k))
-    (Each-weaker (IsBits axes) (λ os. number_of os < 2 ^ axes) (λ os d. number_below axes os d) (carrier_positions (place_in_parent axes digits k)) (carrier_sides axes digits k few fit))
-
-pub All-from_Each : {X : Type 0} (P : X → Type 0) (xs : List X) → Each P xs → All P xs
-All-from_Each P [] h = All-nil P
-All-from_Each P (x ∷ xs) h = All-cons P x xs h.0 (All-from_Each P xs h.1)
-
--- two tests that agree on the items of a list
-pub any_alike : {X : Type 0} (p q : X → Bool) (xs : List X) → Each (λ x. p x ≡ q x) xs → list_any p xs ≡ list_any q xs
-any_alike p q [] h = refl
-any_alike p q (x ∷ xs) h = ap₂ (λ a b. a || b) h.0 (any_alike p q xs h.1)
+    (Each-weaker (IsBits axes) (λ os. number_of os < 2 ^ axes) (λ os d. number_of-below axes os d) (carrier_positions (place_in_parent axes digits k)) (carrier_sides axes digits k few fit))
 
 -- there is a carrier, and a test that each passes
 any_of_thirds : (t : ℕ) → list_any (λ y. true) (thirds t) ≡ true
@@ -194,6 +179,6 @@ any_position (x ∷ xs) =
 
 pub all_carry : (axes : ℕ) (digits : Digits) (k : ℕ) (test : ℕ → Bool) → axes ≤ 4 → IsDigits axes digits → ((n : ℕ) → n < 2 ^ axes → test n ≡ true) → some_carrier axes digits k test ≡ true
 all_carry axes digits k test few fit all =
-    any_alike test (λ n. true) (carrier_numbers axes digits k) (Each-weaker (λ n. n < 2 ^ axes) _ all (carrier_numbers axes digits k) (carrier_numbers-below axes digits k few fit))
+    list_any_same test (λ n. true) (carrier_numbers axes digits k) (Each-weaker (λ n. n < 2 ^ axes) _ all (carrier_numbers axes digits k) (carrier_numbers-below axes digits k few fit))
     ∙ any_map (λ n. true) number_of (carrier_positions (place_in_parent axes digits k))
     ∙ any_position (place_in_parent axes digits k)

@@ -18,19 +18,6 @@ use Rattle.pe_hang.proofs.Leading.{and_then-fits}
 use Rattle.pe_walk.specs.Machine.{Machine, Ports, if_walked, inside, outside, walk_cell}
 use Rattle.pe_walk.specs.Visits.{walk_children, walk_below}
 
--- a cell below the root
-few-positions : (bound : ℕ) (pos : List ℕ) → ((axis : ℕ) → slice_index pos axis < bound) → All (λ x. x ≤ bound) pos
-few-positions bound [] small = All-nil (λ x. x ≤ bound)
-few-positions bound (x ∷ xs) small =
-    All-cons (λ y. y ≤ bound) x xs (let here : x < bound = small 0 in omega arith) (few-positions bound xs (λ axis. small (suc axis)))
-
-pub IsBelowRoot-cell : (axes : ℕ) (cell : Place) → IsCellPlace axes cell → 1 ≤ cell.level → IsBelowRoot cell
-IsBelowRoot-cell axes cell is deep = record {
-  deep = deep;
-  level = is.level;
-  pos = few-positions (3 ^ cell.level) cell.pos (IsPosition-below axes (3 ^ cell.level) cell.pos (power_positive cell.level) is.pos);
-}
-
 module _ {Plan : Type 0} (set : Setting Plan) (ports : Ports) (levels : ℕ) (cell : Place) (it : Own × Machine) where
   abbrev kind : Kind
   kind = kind_below it.0.corners

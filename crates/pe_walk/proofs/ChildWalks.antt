@@ -18,10 +18,7 @@ pub all-children : (axes : ℕ) (way way' : Way) (place : Place) (es : ℕ) (dig
 all-children axes way way' place es digits digits' same kept is flipped =
     ap (map (child_at place)) (kept ∙ is ∙ ap (λ w. child_digits axes w (bits axes es)) same ∙ ap (child_digits axes way) flipped)
 
--- zeros are digits
-pub all-head : {X : Type 0} (P : X → Type 0) (x : X) (xs ys : List X) → ys ≡ x ∷ xs → All P ys → P x
-all-head P x xs ys is all = let both : All P (x ∷ xs) = subst (All P) is all in both 0 x (omega arith)
-
+-- the tail of a list of which all is known
 pub all-tail : {X : Type 0} (P : X → Type 0) (x : X) (xs ys : List X) → ys ≡ x ∷ xs → All P ys → All P xs
 all-tail P x xs ys is all = λ k d h. let both : All P (x ∷ xs) = subst (All P) is all in both (suc k) d (omega arith)
 

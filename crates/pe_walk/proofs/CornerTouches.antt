@@ -294,6 +294,3 @@ popped-left old new room room' s is keeps = record {
   keeps = keeps;
   out = let out : new.out ≡ old.out + 1 = ap (λ h. h.out) is in omega (arith, out);
 }
-
-pub keeps-itself : {Plan : Type 0} (held : Held Plan) → Keeps held held
-keeps-itself held = record { plan = refl; dim = refl; sure = refl; lent = refl }

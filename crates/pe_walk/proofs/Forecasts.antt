@@ -26,6 +26,7 @@ use Rattle.pe_base.proofs.Walk.TableLaws.{first_touch_keeps_old}
 use Rattle.pe_walk.specs.Takings.{Grown}
 use Rattle.pe_walk.specs.Outlooks.{outlook, stored_outlook, stored_walked, IsNew, ForecastFits, StoredFits}
 use Rattle.pe_walk.proofs.Outlooks.{Carried, inside_place, carried_walk, carried_below, carried_counts, carried_within}
+use Rattle.pe_states.proofs.Tests.{any_or}
 
 -- what is known of a grid between two traversals, or before the first
 pub record Sound (grid : Grid) : Type 0 where
@@ -70,17 +71,6 @@ any_weaker p q P h (x ∷ xs) e t = go (p x) refl (q x) refl t (any_weaker p q P
     go a k true l s more = refl
     go true k false l s more = absurd (true≢false (sym (h x e.0 k) ∙ l))
     go false k false l s more = more s
-
-any_or : {X : Type 0} (p q : X → Bool) (xs : List X) → list_any (λ x. p x || q x) xs ≡ (list_any p xs || list_any q xs)
-any_or p q [] = refl
-any_or p q (x ∷ xs) = ap (λ b. (p x || q x) || b) (any_or p q xs) ∙ mix (p x) (q x) (list_any p xs) (list_any q xs)
-  where
-    mix : (a b c d : Bool) → ((a || b) || (c || d)) ≡ ((a || c) || (b || d))
-    mix true b c d = refl
-    mix false true true d = refl
-    mix false true false d = refl
-    mix false false true d = refl
-    mix false false false d = refl
 
 -- below level 1, what is inside is on level 2 or deeper
 pub two_or_deeper : (axes : ℕ) (vertex : Place) → IsDim axes → is_inside axes vertex ≡ true → (vertex.level ≡ 1) ⊎ (2 ≤ vertex.level)

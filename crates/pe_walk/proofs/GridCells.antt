@@ -27,6 +27,19 @@ use Rattle.pe_walk.proofs.Tokens.Dues.{root_walks}
 use Rattle.pe_walk.proofs.Tokens.FewCells.{few_cells}
 use Rattle.pe_walk.proofs.Tokens.ExactTraffic.{traffic_by_tally}
 
+-- whether it was stored, and will be, by its kind
+pub was-from : (a b : Bool) → a ≡ was_stored (kind_from a b)
+was-from true true = refl
+was-from true false = refl
+was-from false true = refl
+was-from false false = refl
+
+pub will-from : (a b : Bool) → b ≡ is_stored (kind_from a b)
+will-from true true = refl
+will-from true false = refl
+will-from false true = refl
+will-from false false = refl
+
 -- what is active counts
 walks_counting : (axes greatest : ℕ) (counts active walks walked : Place → Bool) → Carried axes greatest counts active walks walked → (cell : Place) → 1 ≤ cell.level → walks cell ≡ true → list_any counts (corners axes cell) ≡ true
 walks_counting axes greatest counts active walks walked carried cell deep e =
@@ -76,21 +89,9 @@ few_cells_of_grids grid is = stored_few grid is
 pub kinds_foreseen : KindsForeseen
 kinds_foreseen start_level grid swapped = record {
   counts = λ v. refl;
-  reads = λ v. before (was start_level grid v) (will start_level grid v);
-  writes = λ v. behind (was start_level grid v) (will start_level grid v);
+  reads = λ v. was-from (was start_level grid v) (will start_level grid v);
+  writes = λ v. will-from (was start_level grid v) (will start_level grid v);
 }
-  where
-    before : (a b : Bool) → a ≡ was_stored (kind_from a b)
-    before true true = refl
-    before true false = refl
-    before false true = refl
-    before false false = refl
-
-    behind : (a b : Bool) → b ≡ is_stored (kind_from a b)
-    behind true true = refl
-    behind true false = refl
-    behind false true = refl
-    behind false false = refl
 
 pub traffic_of_grids : TrafficOfGrids
 traffic_of_grids start_level grid swapped t after low is has e =

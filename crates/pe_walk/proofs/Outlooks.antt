@@ -5,10 +5,11 @@ use Rattle.std.specs.List.{list_any, list_all, range_with_len, All, Contains}
 use Rattle.std.proofs.lemmas.Bool.Decides.{nat_tests}
 use Rattle.std.proofs.lemmas.List.{reverse-reverse}
 use Rattle.std.proofs.lemmas.Bool.{and_parts, eq-eqb, ne_eqb, eqb-true, or_cases, or_right}
+use Rattle.std.proofs.lemmas.List.Elements.{All-from_recursion}
 use Rattle.pe_base.specs.declared.place.Place.{Place}
 use Rattle.pe_base.specs.declared.way.Way.{Way}
 use Rattle.pe_base.specs.Tree.Dim.{IsDim}
-use Rattle.pe_base.specs.Tree.Places.{IsPosition, root, corner, corners, moved, parent_of}
+use Rattle.pe_base.specs.Tree.Places.{IsPosition, root, corner, corners, moved, parent_of, number_of}
 use Rattle.pe_base.specs.Tree.Curve.{digit_lists, children, order}
 use Rattle.pe_base.specs.Steps.Around.{is_corner, around}
 use Rattle.pe_base.specs.Steps.Faces.{corner_touches}
@@ -22,13 +23,12 @@ use Rattle.pe_base.proofs.Tree.Ranks.{thirds-child, list_any-Each}
 use Rattle.pe_base.proofs.Steps.Counts.{OnGrid}
 use Rattle.pe_base.proofs.Faces.Waits.{loads_touched}
 use Rattle.pe_base.proofs.Faces.Bridge.{on_grid}
-use Rattle.pe_base.proofs.Walk.CarrierLaws.{number_of, number_of-below, bits-number_of, carriers_are_parents}
+use Rattle.pe_base.proofs.Walk.CarrierLaws.{number_of-below, bits-number_of, carriers_are_parents}
 use Rattle.pe_walk.specs.Laws.{IsCell, IsWalk}
 use Rattle.pe_walk.proofs.Unwalked.{contains_in, in_contains, cell_four}
 use Rattle.pe_walk.proofs.Trees.{cell_position, root_is_cell}
 use Rattle.pe_walk.proofs.Steps.{corner_bits, order_on_grid}
 use Rattle.pe_walk.proofs.Tokens.Walks.{each_with}
-use Rattle.pe_walk.proofs.Tests.{all_of}
 
 any_in : {X : Type 0} (p : X → Bool) (x : X) (xs : List X) → In x xs → p x ≡ true → list_any p xs ≡ true
 any_in p x [] i t = absurd (omega arith)
@@ -36,11 +36,6 @@ any_in p x (y ∷ xs) i t = elim i [
   | inl e ↦ ap (λ b. b || list_any p xs) (sym (ap p e) ∙ t)
   | inr j ↦ ap (λ b. p y || b) (any_in p x xs j t) ∙ or_right (p y) true refl
 ]
-
-pub each_all : {X : Type 0} (P : X → Type 0) (xs : List X) → Each P xs → All P xs
-each_all P [] e k d h = absurd (omega arith)
-each_all P (x ∷ xs) e zero d h = e.0
-each_all P (x ∷ xs) e (suc k) d h = each_all P xs e.1 k d (omega arith)
 
 pub un_map : {X Y : Type 0} (P : Y → Type 0) (f : X → Y) (xs : List X) → Each P (map f xs) → Each (λ x. P (f x)) xs
 un_map P f [] e = tt
@@ -79,7 +74,7 @@ carriers_above axes way vertex dim on = Each-weaker _ _ (λ c i. found c i.0 i.1
         let bs = corner_bits axes c.pos vertex.pos (omega (arith, i.1.1)) (on.1 ∙ sym i.1.1) (on.2 ∙ sym i.1.2) (and_parts (vertex.level == c.level) _ t).1 in
         let k = number_of bs.0 in
         let same : corner axes c k ≡ vertex = ap₂ (λ n p. let v : Place = record { level = n; pos = p } in v) i.1.0 (ap (moved c.pos) (bits-number_of axes bs.0 bs.2) ∙ bs.3) in
-        subst (λ v. Each (IsCornerOf axes (parent_of c)) (carriers v)) same (all_of (IsCornerOf axes (parent_of c)) (carriers (corner axes c k)) (carriers_are_parents axes c k dim (number_of-below axes bs.0 bs.2) is))
+        subst (λ v. Each (IsCornerOf axes (parent_of c)) (carriers v)) same (carriers_are_parents axes c k dim (number_of-below axes bs.0 bs.2) is)
 
 -- What makes a walk: below level 1 what counts has a carrier that is active, and below a cell it goes on where a corner is.
 pub record Carried (axes greatest : ℕ) (counts active walks walked : Place → Bool) : Type 0 where
@@ -190,7 +185,7 @@ module _ (axes greatest : ℕ) (counts active walks walked : Place → Bool) (wa
     inside = λ vertex h.
         let at = inside_place axes vertex four (c.inside vertex h) in
         record { level = omega (arith, within_greatest vertex h, c.few); pos = at.0; above = at.1 };
-    all_around = λ vertex h. each_all (λ cell. walked cell ≡ true) (around axes way vertex) (around_walked vertex h);
+    all_around = λ vertex h. All-from_recursion (λ cell. walked cell ≡ true) (around axes way vertex) (around_walked vertex h);
   }
 
   pub carried_below : (cell child : Place) → IsCell axes way cell → Contains (children axes way cell) child → walked child ≡ walks cell

@@ -26,6 +26,7 @@ use Rattle.pe_walk.specs.Machine.{Machine, load_corner, store_corner, store_all}
 use Rattle.pe_walk.specs.InHand.{ports_of}
 use Rattle.pe_walk.specs.Corners.{Hand, MayGo, GoesAlong, load_four, filled_in}
 use Rattle.pe_walk.proofs.Going.{may-first, may-next, goes-then, goes-err, goes-map}
+use Rattle.pe_states.proofs.Tests.{any_same}
 
 module _ {Plan V C : Type 0} (rules : Rules Plan) (numbers : Numbers V C) (settings : Settings) (place : Place) (k : ℕ) where
   abbrev pub one : ℕ → Setting Plan → Machine → Course (VertexRecord × Machine)
@@ -133,10 +134,6 @@ new-marked : (it : Option VertexRecord) → passes is_new (option_map (λ it. it
 new-marked None = refl
 new-marked (Some it) = refl
 
-any-same : {A : Type 0} (p q : A → Bool) → ((a : A) → p a ≡ q a) → (as' : List A) → list_any p as' ≡ list_any q as'
-any-same p q same [] = refl
-any-same p q same (a ∷ as') = ap (λ t. t || list_any p as') (same a) ∙ ap (λ t. q a || t) (any-same p q same as')
-
 module _ (its its' : List VertexRecord) (same : marks_of its' ≡ marks_of its) where
   at-same : (n : ℕ) → option_map mark_of (slice_get its' n) ≡ option_map mark_of (slice_get its n)
   at-same n = sym (slice_get-map mark_of its' n) ∙ ap (λ marks. slice_get marks n) same ∙ slice_get-map mark_of its n
@@ -149,8 +146,8 @@ module _ (its its' : List VertexRecord) (same : marks_of its' ≡ marks_of its) 
 
   kind-same : (axes traversal : ℕ) (parent vertex : Place) → kind_by axes traversal (state_in_hand parent its') vertex ≡ kind_by axes traversal (state_in_hand parent its) vertex
   kind-same axes traversal parent vertex =
-      let old = any-same (λ carrier. passes is_old (state_in_hand parent its' carrier)) (λ carrier. passes is_old (state_in_hand parent its carrier)) (λ carrier. old-same (corner_number parent carrier)) (carriers vertex) in
-      let new = any-same (λ carrier. passes is_new (state_in_hand parent its' carrier)) (λ carrier. passes is_new (state_in_hand parent its carrier)) (λ carrier. new-same (corner_number parent carrier)) (carriers vertex) in
+      let old = any_same (λ carrier. passes is_old (state_in_hand parent its' carrier)) (λ carrier. passes is_old (state_in_hand parent its carrier)) (λ carrier. old-same (corner_number parent carrier)) (carriers vertex) in
+      let new = any_same (λ carrier. passes is_new (state_in_hand parent its' carrier)) (λ carrier. passes is_new (state_in_hand parent its carrier)) (λ carrier. new-same (corner_number parent carrier)) (carriers vertex) in
       ap (λ o. if vertex.level == 1 then level_one_kind axes traversal vertex else kind_from o (is_carried is_new (state_in_hand parent its') vertex)) old
       ∙ ap (λ n. if vertex.level == 1 then level_one_kind axes traversal vertex else kind_from (is_carried is_old (state_in_hand parent its) vertex) n) new
 

@@ -21,17 +21,14 @@ use Rattle.pe_walk.specs.Laws.{Crosses}
 use Rattle.pe_walk.proofs.Unwalked.{contains_in, in_contains}
 use Rattle.pe_walk.proofs.Outside.{step_in}
 use Rattle.pe_base.proofs.Faces.Bridge.{zeros_behind, corner_coordinate, step_corners, one_axis}
+use Rattle.pe_base.proofs.Tree.PlaceLaws.{moved-none}
 
 pub inside_on_grid : (axes : ℕ) (vertex : Place) → IsInside axes vertex → OnGrid axes vertex.level vertex
 inside_on_grid axes vertex inside = (refl, inside.pos.four, zeros_behind axes vertex.pos inside.pos.rest ∙ ap (λ n. replicate (n - axes) 0) inside.pos.four)
 
 -- the bits by which a vertex is a corner of a cell
 pub corner_bits : (n : ℕ) (pos q : List ℕ) → n ≤ length pos → length q ≡ length pos → drop n q ≡ drop n pos → is_corner_pos q pos ≡ true → (bs : List ℕ) × In bs (bit_lists n) × IsBits n bs × (moved pos bs ≡ q)
-corner_bits zero pos q l m e t = ([], inl refl, tt, plain pos ∙ sym e)
-  where
-    plain : (p : List ℕ) → moved p [] ≡ p
-    plain [] = refl
-    plain (x ∷ p) = refl
+corner_bits zero pos q l m e t = ([], inl refl, tt, moved-none pos ∙ sym e)
 corner_bits (suc n) [] q l m e t = absurd (omega arith)
 corner_bits (suc n) (x ∷ pos) [] l m e t = absurd (omega arith)
 corner_bits (suc n) (x ∷ pos) (y ∷ q) l m e t =

@@ -23,7 +23,7 @@ use Rattle.pe_base.specs.Walk.Maps.{at}
 use Rattle.pe_base.specs.Walk.Grids.{Grid, StoredVertex, state_in, is_cell, is_refined_cell, is_stored_vertex, is_stored_cell, IsWellFormed}
 use Rattle.pe_base.specs.Walk.Streams.{goes_below, next_way, stream_vertices, stream_cells, walked_loads, walked_cells, is_first}
 use Rattle.pe_base.specs.Walk.Foreseen.{next_traversal, was, will, will_on, touched_state, old_foreseen, new_foreseen, below, walks, walked}
-use Rattle.pe_base.proofs.Lists.{Each, Each-all, Each-weaker, filter_same, filter_none}
+use Rattle.pe_base.proofs.Lists.{Each, Each-all, Each-weaker, filter_same, filter_none, list_any_same}
 use Rattle.pe_walk.specs.Tokens.{turned}
 use Rattle.pe_walk.specs.Takings.{loads_of, is_read, reads_of, writes_of, cell_reads_of, cell_writes_of, Grown}
 use Rattle.pe_walk.specs.Outlooks.{was_stored, outlook, stored_outlook, stored_walked, IsNew}
@@ -69,10 +69,6 @@ cell_test axes cell is = ap₂ (λ x y. ((nat_lt 0 cell.level && x) && y) && lis
 
     above : (n : ℕ) → nat_lt 0 n ≡ not (n == 0)
     above n = grind (arith, nat_tests)
-
-any_same : (p q : Place → Bool) (xs : List Place) → Each (λ x. p x ≡ q x) xs → list_any p xs ≡ list_any q xs
-any_same p q [] e = refl
-any_same p q (x ∷ xs) e = ap₂ (λ a b. a || b) e.0 (any_same p q xs e.1)
 
 next_way_of : (n : ℕ) → opposite (way_of n) ≡ way_of (n + 1)
 next_way_of n = go (n % 2 == 1) (n % 2) (omega arith) refl
@@ -148,7 +144,7 @@ module _ (start_level : ℕ) (grid : Grid) (low : start_level ≤ grid.greatest)
   below_root cell h = ap (λ b. if b then (if next_traversal grid == 1 then Born else Kept) else kind_from (list_any (old_foreseen start_level grid) (corners grid.axes cell)) (list_any (new_foreseen start_level grid) (corners grid.axes cell))) (eq-eqb cell.level 0 h)
 
   old_refined : (cell : Place) → list_any (old_foreseen start_level grid) (corners grid.axes cell) ≡ is_refined_cell grid.axes (state_in grid) cell
-  old_refined cell = any_same (old_foreseen start_level grid) (λ v. passes is_old (state_in grid v)) (corners grid.axes cell) (Each-all _ (λ v. old_stored start_level grid low sound v) (corners grid.axes cell))
+  old_refined cell = list_any_same (old_foreseen start_level grid) (λ v. passes is_old (state_in grid v)) (corners grid.axes cell) (Each-all _ (λ v. old_stored start_level grid low sound v) (corners grid.axes cell))
 
   -- the cells that are read are those that the grid has
   cells_read : IsWellFormed grid → (cell : Place) → IsPosition grid.axes (3 ^ cell.level) cell.pos → (not (cell.level == 0) && was_stored (below start_level grid (parent_of cell))) ≡ is_some (at grid.cells cell)
@@ -205,7 +201,7 @@ module _ (start_level : ℕ) (grid : Grid) (low : start_level ≤ grid.greatest)
             not_new false false h = refl
 
     refined_next : (cell : Place) → is_refined_cell grid.axes (state_in next) cell ≡ list_any (new_foreseen start_level grid) (corners grid.axes cell)
-    refined_next cell = any_same (λ v. passes is_old (state_in next v)) (new_foreseen start_level grid) (corners grid.axes cell) (Each-all _ (λ v. turned_new v) (corners grid.axes cell))
+    refined_next cell = list_any_same (λ v. passes is_old (state_in next v)) (new_foreseen start_level grid) (corners grid.axes cell) (Each-all _ (λ v. turned_new v) (corners grid.axes cell))
 
     -- a vertex is stored where it has a refined carrier
     stored_next : (vertex : Place) → will start_level grid vertex ≡ is_stored_vertex grid.axes (state_in next) vertex
@@ -223,7 +219,7 @@ module _ (start_level : ℕ) (grid : Grid) (low : start_level ≤ grid.greatest)
             plain true = refl
             plain false = refl
         go (suc (suc n)) e =
-            ap (λ b. is_inside grid.axes vertex && b) (any_same (λ m. is_new (touched_state start_level grid (kind_from (was start_level grid m) (will_on start_level grid (suc n) m)) m)) (λ m. passes is_old (state_in next m)) (carriers vertex)
+            ap (λ b. is_inside grid.axes vertex && b) (list_any_same (λ m. is_new (touched_state start_level grid (kind_from (was start_level grid m) (will_on start_level grid (suc n) m)) m)) (λ m. passes is_old (state_in next m)) (carriers vertex)
             (Each-weaker _ _ (λ m level. ap (λ k. is_new (touched_state start_level grid (kind_from (was start_level grid m) (will_on start_level grid k m)) m)) (let same : suc n ≡ m.level = omega (arith, level, e) in same) ∙ sym (turned_new m)) (carriers vertex) (carrier_levels start_level grid low sound vertex)))
             ∙ ap (λ b. is_inside grid.axes vertex && (b || list_any (λ m. passes is_old (state_in next m)) (carriers vertex))) (sym (ne_eqb vertex.level 1 (λ k. omega (arith, k, e))))
 

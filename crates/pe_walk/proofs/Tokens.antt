@@ -1,5 +1,7 @@
 -- The walk over places on stacks.
 
+-- the stacks of the streams
+pub mod Bounds
 -- stacks that are pushed and popped
 pub mod Stacks
 -- the loads and stores of a cell's corners

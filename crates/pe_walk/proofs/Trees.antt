@@ -1,5 +1,6 @@
 -- The cells of the tree are the places of cells.
 use Rattle.std.proofs.Common.{◌≡◌, ℕ, zero, suc, ◌+◌, ◌-◌, ◌*◌, ◌/◌, ◌%◌, ◌^◌, ◌<◌, ◌≤◌, ◌⊎◌, inl, inr, List, [], ◌∷◌, ◌++◌, map, length, take, drop, replicate, slice_index, refl, sym, ap, ap₂, ◌∙◌, subst, pow-suc, take-append-drop, append-nil, arith}
+use Rattle.std.proofs.lemmas.List.{length-map}
 use Rattle.std.specs.List.{Contains}
 use Rattle.pe_base.specs.declared.place.Place.{Place}
 use Rattle.pe_base.specs.declared.way.Way.{Way}
@@ -15,15 +16,12 @@ use Rattle.pe_base.proofs.Steps.Counts.{OnGrid, child_on_grid, root_on_grid}
 use Rattle.pe_walk.specs.Laws.{IsCell}
 use Rattle.pe_walk.proofs.Unwalked.{contains_in, in_contains}
 use Rattle.pe_base.proofs.Faces.Bridge.{all_zeros, zeros_behind}
+use Rattle.pe_base.proofs.Tree.PlaceLaws.{zeros}
 
 index_map : (f : ℕ → ℕ) (pos : List ℕ) (axis : ℕ) → f 0 ≡ 0 → slice_index (map f pos) axis ≡ f (slice_index pos axis)
 index_map f [] axis h = sym h
 index_map f (x ∷ pos) zero h = refl
 index_map f (x ∷ pos) (suc axis) h = index_map f pos axis h
-
-length_map : (f : ℕ → ℕ) (pos : List ℕ) → length (map f pos) ≡ length pos
-length_map f [] = refl
-length_map f (x ∷ pos) = ap suc (length_map f pos)
 
 finer_again : (pos : List ℕ) → finer (thirds pos) (rests pos) ≡ pos
 finer_again [] = refl
@@ -43,7 +41,7 @@ every_place axes way zero pos four is =
 every_place axes way (suc level) pos four is =
     let up : Place = record { level = level; pos = thirds pos } in
     let es = flips_in axes way (thirds pos) in
-    let long : length (rests pos) ≡ 4 = length_map (λ x. x % 3) pos ∙ is.four in
+    let long : length (rests pos) ≡ 4 = length-map pos (λ x. x % 3) ∙ is.four in
     let ks = take axes (rests pos) in
     let ds : Digits3 axes ks = digits-take axes (rests pos) (omega arith) (rests-each pos) in
     let ts = turned es 0 ks in
@@ -54,7 +52,7 @@ every_place axes way (suc level) pos four is =
     ap (λ js. finer (thirds pos) (js ++ replicate (4 - axes) 0)) (ap (turned es 0) (sym (append-nil ts)) ∙ turned_twice es 0 0 axes ks [] (length-flips axes way (thirds pos)) refl ds)
     ∙ ap (finer (thirds pos)) whole ∙ finer_again pos in
     let parent : In up (order axes way level) = every_place axes way level (thirds pos) four (record {
-      four = length_map (λ x. x / 3) pos ∙ is.four;
+      four = length-map pos (λ x. x / 3) ∙ is.four;
       inside = λ axis h. subst (λ x. x < 3 ^ level) (sym (index_map (λ x. x / 3) pos axis refl)) (third_below (slice_index pos axis) (3 ^ level) (3 ^ suc level) (pow-suc 3 level) (is.inside axis h));
       rest = λ axis h. index_map (λ x. x / 3) pos axis refl ∙ ap (λ x. x / 3) (is.rest axis h);
     }) in
@@ -70,12 +68,7 @@ abbrev InRange : ℕ → ℕ → Place → Type 0
 InRange axes level cell = OnGrid axes level cell × ((axis : ℕ) → axis < axes → slice_index cell.pos axis < 3 ^ level)
 
 pub zeros_read : (n k : ℕ) (pos : List ℕ) → drop n pos ≡ replicate k 0 → (axis : ℕ) → n ≤ axis → slice_index pos axis ≡ 0
-zeros_read zero k pos e axis h = ap (λ p. slice_index p axis) e ∙ zero_in k axis
-  where
-    zero_in : (m i : ℕ) → slice_index (replicate m 0) i ≡ 0
-    zero_in zero i = refl
-    zero_in (suc m) zero = refl
-    zero_in (suc m) (suc i) = zero_in m i
+zeros_read zero k pos e axis h = ap (λ p. slice_index p axis) e ∙ zeros k axis
 zeros_read (suc n) k [] e axis h = refl
 zeros_read (suc n) k (x ∷ pos) e zero h = absurd (omega arith)
 zeros_read (suc n) k (x ∷ pos) e (suc axis) h = zeros_read n k pos e axis (omega arith)

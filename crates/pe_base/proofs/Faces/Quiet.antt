@@ -1,6 +1,7 @@
 -- Faces where nothing arrives, and faces where nothing is left.
 use Rattle.std.proofs.Common.{◌≡◌, ℕ, zero, suc, ◌+◌, ◌-◌, ◌*◌, ◌/◌, ◌%◌, ◌^◌, ◌<◌, ◌≤◌, ◌⊎◌, ◌≢◌, length-set, Bool, true, false, ◌==◌, List, [], ◌∷◌, ◌++◌, map, filter, reverse, length, set, take, drop, slice_index, slice_set, replicate, refl, sym, ap, ap₂, ◌∙◌, subst, inl, inr, pow-suc, mul-le-mul_right, take-append-drop, arith}
 use Rattle.std.proofs.lemmas.Bool.{and_parts, eqb-true}
+use Rattle.std.proofs.lemmas.List.{length-map}
 use Rattle.pe_base.specs.declared.place.Place.{Place}
 use Rattle.pe_base.specs.declared.way.Way.{Way}
 use Rattle.pe_base.specs.Tree.Ways.{opposite}
@@ -195,21 +196,17 @@ sum-thirds zero pos = refl
 sum-thirds (suc n) [] = refl
 sum-thirds (suc n) (x ∷ pos) = omega (arith, sum-thirds n pos)
 
-length-of_map : (f : ℕ → ℕ) (xs : List ℕ) → length (map f xs) ≡ length xs
-length-of_map f [] = refl
-length-of_map f (x ∷ xs) = ap suc (length-of_map f xs)
-
 rank-parity : (axes : ℕ) (way : Way) (level : ℕ) (pos : List ℕ) → axes ≤ length pos → (rank axes way level pos + sum_of (take axes pos)) % 2 ≡ 0
 rank-parity axes way zero pos l = omega arith
 rank-parity axes way (suc level) pos l =
     let es = flips_in axes way (thirds pos) in
     let p = odd_power axes in
-    let lr : axes ≤ length (rests pos) = omega (arith, length-of_map (λ x. x % 3) pos) in
+    let lr : axes ≤ length (rests pos) = omega (arith, length-map pos (λ x. x % 3)) in
     let s : (sum_of (turned es 0 (rests pos)) + sum_of (take axes (rests pos))) % 2 ≡ 0 =
     subst (λ r. (sum_of (turned es 0 r) + sum_of (take axes (rests pos))) % 2 ≡ 0) (take-append-drop axes (rests pos))
     (sum-turned es 0 axes (take axes (rests pos)) (drop axes (rests pos)) (length-flips axes way (thirds pos)) (digits-take axes (rests pos) lr (rests-each pos))) in
     let v = value-parity axes (turned es 0 (rests pos)) (omega (arith, length-turned es 0 (rests pos), length-flips axes way (thirds pos))) in
-    let r = rank-parity axes way level (thirds pos) (omega (arith, length-of_map (λ x. x / 3) pos)) in
+    let r = rank-parity axes way level (thirds pos) (omega (arith, length-map pos (λ x. x / 3))) in
     omega (arith, odd_times (rank axes way level (thirds pos)) (3 ^ axes) p.0 p.1, s, v, r, sum-thirds axes pos)
 
 sum-set : (n axis : ℕ) (pos : List ℕ) (y : ℕ) → axis < n → n ≤ length pos → sum_of (take n (set pos axis y)) + slice_index pos axis ≡ sum_of (take n pos) + y

@@ -15,7 +15,7 @@ use Rattle.pe_base.specs.Tree.Curve.{digit_lists, children, order}
 use Rattle.pe_base.specs.Steps.Around.{is_corner_pos, is_corner, around, steps}
 use Rattle.pe_base.specs.Steps.Faces.{Touch, corner_touches, loads, stores, touched_for, steps_to, steps_from}
 use Rattle.pe_base.proofs.Lists.{Each, In, Each-all, Each-weaker, Each-map, Each-reverse, map-map, flat_map_same, flat_map_none, map-flat_map, flat_map-flat_map, filter-flat_map, filter-map, filter_none, filter_same, map-reverse, filter-reverse, reverse-flat_map}
-use Rattle.pe_base.proofs.Tree.PlaceLaws.{finer-zeros}
+use Rattle.pe_base.proofs.Tree.PlaceLaws.{finer-zeros, moved-none}
 use Rattle.pe_base.proofs.Tree.Mirrors.{Digits3, digit_lists_below}
 use Rattle.pe_base.proofs.Tree.Children.{reverse-children, child_of, child_ks, child_ks-below, children_are, length-digits}
 use Rattle.pe_base.proofs.Tree.Corners.{bit_lists, touch_at, corner_touches_are}
@@ -185,16 +185,12 @@ one_corner : (n : ℕ) (cell : Place) (pos q : List ℕ) → n ≤ length pos �
 one_corner zero cell pos q l m e =
     subst (λ p. map (λ (bs : List ℕ). cell) (filter (λ bs. pointwise nat_eq (moved p bs) q) ([] ∷ [])) ≡ cond (is_corner_pos q p) (cell ∷ []) []) e (alone q)
   where
-    plain : (p : List ℕ) → moved p [] ≡ p
-    plain [] = refl
-    plain (x ∷ p) = refl
-
     own : (p : List ℕ) → is_corner_pos p p ≡ true
     own [] = refl
     own (x ∷ p) = ap₂ (λ a b. a && b) (ap (λ b. b || (x == x + 1)) (same_itself x)) (own p)
 
     alone : (p : List ℕ) → map (λ (bs : List ℕ). cell) (filter (λ bs. pointwise nat_eq (moved p bs) p) ([] ∷ [])) ≡ cond (is_corner_pos p p) (cell ∷ []) []
-    alone p = ap (λ b. map (λ (bs : List ℕ). cell) (cond b ([] ∷ []) [])) (ap (λ z. pointwise nat_eq z p) (plain p) ∙ pos_itself p) ∙ ap (λ b. cond b (cell ∷ []) []) (sym (own p))
+    alone p = ap (λ b. map (λ (bs : List ℕ). cell) (cond b ([] ∷ []) [])) (ap (λ z. pointwise nat_eq z p) (moved-none p) ∙ pos_itself p) ∙ ap (λ b. cond b (cell ∷ []) []) (sym (own p))
 one_corner (suc n) cell [] q l m e = absurd (omega arith)
 one_corner (suc n) cell (x ∷ pos) [] l m e = absurd (omega arith)
 one_corner (suc n) cell (x ∷ pos) (y ∷ q) l m e =

@@ -3,7 +3,7 @@
 use Rattle.std.proofs.Common.{◌≡◌, ℕ, zero, suc, ◌+◌, ◌-◌, ◌*◌, ◌/◌, ◌%◌, ◌<◌, ◌≤◌, Bool, true, false, ◌&&◌, ◌||◌, List, [], ◌∷◌, ◌++◌, map, Option, Some, None, sym, ap, ◌∙◌, subst, refl, inl, inr, ◌⊎◌, arith}
 use Rattle.std.specs.Prelude.{◌==◌, not}
 use Rattle.std.proofs.lemmas.Bool.{or_cases, and_parts, eqb-true, eqb-false, eq-eqb, ne_eqb, false≢true, cases_lt}
-use Rattle.std.proofs.Math.Bool.{or-false}
+use Rattle.std.proofs.Math.Bool.{or-false, or_comm}
 use Rattle.pe_base.proofs.Steps.Walks.{Step, Walk, Path-join, Path-map}
 use Rattle.pe_base.proofs.Tree.Corners.{same_tests}
 
@@ -118,12 +118,6 @@ pub record Fit (x : ℕ) (on : Bool) (p lo : ℕ) (pair : Bool) : Type 0 where
   pub plane : pair ≡ true → (on ≡ true) × (x ≡ lo + 1) × (digit < 2)
   pub holds : (c : ℕ) → 3 * p ≤ c → c < 3 * p + 3 → fits (record { x = x; on = on }) c ≡ (c == lo || (pair && c == lo + 1))
 
-or_swap : (v u : Bool) → (v || u) ≡ (u || v)
-or_swap true true = refl
-or_swap true false = refl
-or_swap false true = refl
-or_swap false false = refl
-
 fit_off : (x p : ℕ) → fits (coarse (record { x = x; on = false })) p ≡ true → Fit x false p x false
 fit_off x p h =
     let parent : x / 3 ≡ p = elim (or_cases (x / 3 == p) false h) [ inl e ↦ eqb-true (x / 3) p e | inr e ↦ absurd (false≢true e) ] in
@@ -177,7 +171,7 @@ fit_on x p false near w n h =
       holds = λ c from to.
           let here : (x == c) ≡ (c == x - 1 + 1) = same_tests x c c (x - 1 + 1) (λ e. omega arith) (λ e. omega arith) in
           let there : (x == c + 1) ≡ (c == x - 1) = same_tests x (c + 1) c (x - 1) (λ e. omega arith) (λ e. omega arith) in
-          ap (λ v. v || x == c + 1) here ∙ ap (λ v. c == x - 1 + 1 || v) there ∙ or_swap (c == x - 1 + 1) (c == x - 1);
+          ap (λ v. v || x == c + 1) here ∙ ap (λ v. c == x - 1 + 1 || v) there ∙ or_comm (c == x - 1 + 1) (c == x - 1);
     }
 
 pub fit : (x : ℕ) (on : Bool) (p : ℕ) → fits (coarse (record { x = x; on = on })) p ≡ true → Fit x on p (low x on p) (two x on)

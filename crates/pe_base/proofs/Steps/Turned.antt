@@ -6,6 +6,7 @@ use Rattle.std.specs.List.{list_any}
 use Rattle.std.specs.Option.{option_map}
 use Rattle.std.proofs.lemmas.List.{reverse-reverse}
 use Rattle.std.proofs.lemmas.List.Folds.{list_any-append}
+use Rattle.std.proofs.Math.Bool.{and_comm}
 use Rattle.pe_base.specs.declared.place.Place.{Place}
 use Rattle.pe_base.specs.declared.way.Way.{Way}
 use Rattle.pe_base.specs.Tree.Places.{is_same}
@@ -132,13 +133,7 @@ any-reverse p (x ∷ xs) = ap (list_any p) (reverse-cons x xs) ∙ list_any-appe
 
 any-back : {X : Type 0} (p q : X → Bool) (xs : List (X × X)) → list_any (λ s. p s.0 && q s.1) (map back xs) ≡ list_any (λ s. q s.0 && p s.1) xs
 any-back p q [] = refl
-any-back p q (x ∷ xs) = ap₂ (λ a b. a || b) (swap (p x.1) (q x.0)) (any-back p q xs)
-  where
-    swap : (a b : Bool) → (a && b) ≡ (b && a)
-    swap true true = refl
-    swap true false = refl
-    swap false true = refl
-    swap false false = refl
+any-back p q (x ∷ xs) = ap₂ (λ a b. a || b) (and_comm (p x.1) (q x.0)) (any-back p q xs)
 
 -- a step of the other way is one back
 pub is_step-opposite : (axes : ℕ) (way : Way) (vertex a b : Place) → is_step axes (opposite way) vertex a b ≡ is_step axes way vertex b a

@@ -7,7 +7,7 @@ use Rattle.std.proofs.Math.Nat.{one-le-pow}
 use Rattle.std.proofs.lemmas.Nat.{div_below, mod_below}
 use Rattle.std.proofs.lemmas.List.{length-append, length-map, length-reverse, get_or-reverse}
 use Rattle.std.proofs.lemmas.Option.{slice_get-map, slice_get-get_or, get_or_from_slice_get}
-use Rattle.std.proofs.lemmas.List.FromFn.{fill_by_all, length-map-range_with_len}
+use Rattle.std.proofs.lemmas.List.FromFn.{fill_by_all}
 use Rattle.std.proofs.lemmas.List.Sums.{sum_by-cons}
 use Rattle.std.proofs.lemmas.List.Elements.{All-from_recursion}
 use Rattle.pe_base.specs.declared.place.Digits.{Digits}
@@ -156,9 +156,6 @@ bits-flips axes n pos same = fill_by_all (flip pos) (bits axes n) axes 0 (length
 
 pub sum-cons : (x : ℕ) (xs : List ℕ) → sum (x ∷ xs) ≡ x + sum xs
 sum-cons x xs = sum_by-cons (λ x. x) x xs
-
-pub length-flips : (axes : ℕ) (pos : List ℕ) → length (flips axes pos) ≡ axes
-length-flips axes pos = length-map-range_with_len (flip pos) 0 axes
 
 pub length-children : (axes : ℕ) (way : Way) (cell : Place) → length (children axes way cell) ≡ 3 ^ axes
 length-children axes way cell = length-map (child_digits axes way (flips axes cell.pos)) (child_at cell) ∙ length-child_digits axes way (flips axes cell.pos)

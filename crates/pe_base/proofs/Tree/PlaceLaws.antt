@@ -9,10 +9,10 @@ use Rattle.std.proofs.lemmas.Bool.{cases_lt}
 use Rattle.std.proofs.lemmas.Nat.{shr-shr}
 use Rattle.pe_base.specs.declared.place.Place.{Place}
 use Rattle.pe_base.specs.declared.place.Digits.{Digits}
-use Rattle.pe_base.specs.Tree.Places.{IsPosition, IsCellPlace, IsDigits, padded, finer, child_at, bits}
+use Rattle.pe_base.specs.Tree.Places.{IsPosition, IsCellPlace, IsDigits, padded, finer, child_at, bits, moved}
 
 -- the padding is 0 everywhere
-zeros : (n i : ℕ) → slice_index (replicate n 0) i ≡ 0
+pub zeros : (n i : ℕ) → slice_index (replicate n 0) i ≡ 0
 zeros n i = elim (cases_lt i n) [ inl h ↦ get_or-replicate n i 0 0 h | inr h ↦ get_or_past (replicate n 0) i 0 (omega (arith, length-replicate {A = ℕ} n 0)) ]
 
 -- padding makes a position of numbers below a bound
@@ -68,6 +68,15 @@ cell_coordinate_below axes place h axis =
 
 pub digit_below : (axes : ℕ) (digits : Digits) → IsDigits axes digits → (axis : ℕ) → slice_index digits.k axis < 3
 digit_below axes digits h axis = IsPosition-below axes 3 digits.k (omega arith) h axis
+
+-- a cell has at most sixteen corners
+pub few_corners : (axes : ℕ) → axes ≤ 4 → 2 ^ axes ≤ 16
+few_corners axes high = pow-le-pow_right (omega arith) high
+
+-- moved nowhere
+pub moved-none : (pos : List ℕ) → moved pos [] ≡ pos
+moved-none [] = refl
+moved-none (x ∷ pos) = refl
 
 pub length-finer : (xs ks : List ℕ) → length xs ≡ length ks → length (finer xs ks) ≡ length xs
 length-finer [] ks e = refl

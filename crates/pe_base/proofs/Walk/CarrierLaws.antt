@@ -1,13 +1,12 @@
 -- The carriers of a corner of a cell are corners of the cell's parent.
 use Rattle.std.proofs.Common.{◌≡◌, ℕ, zero, suc, ◌+◌, ◌*◌, ◌/◌, ◌%◌, ◌-◌, ◌^◌, ◌<◌, ◌≤◌, Bool, true, false, ◌==◌, List, [], ◌∷◌, map, length, slice_index, refl, sym, ap, subst, ◌∙◌, inl, inr, arith, if◌then◌else◌}
 use Rattle.std.proofs.lemmas.Bool.{eqb-true, eqb-false, cases_lt}
-use Rattle.std.specs.List.{AllByRecursion}
 use Rattle.pe_base.specs.declared.place.Place.{Place}
-use Rattle.pe_base.specs.Tree.Places.{corner, bits, moved, parent_of}
+use Rattle.pe_base.specs.Tree.Places.{corner, bits, moved, parent_of, number_of}
 use Rattle.pe_base.specs.Life.Carriers.{thirds, carrier_positions, carriers}
 use Rattle.pe_base.specs.Walk.Laws.{IsCornerOf, CarriersAreParents}
 use Rattle.pe_base.proofs.Lists.{Each, Each-weaker, Each-map, Each-flat_map}
-use Rattle.pe_base.proofs.Tree.PlaceLaws.{bits-suc}
+use Rattle.pe_base.proofs.Tree.PlaceLaws.{bits-suc, moved-none}
 use Rattle.pe_base.proofs.Tree.Corners.{IsBits, bits_in}
 
 -- the thirds of a corner's coordinate are the third of the cell's, or one more
@@ -48,12 +47,8 @@ carriers_off (x ∷ xs) zeros =
     no_bits [] h = refl
     no_bits (c ∷ cs) h = absurd (omega arith)
 
-    unmoved : (zs : List ℕ) → moved zs [] ≡ zs
-    unmoved [] = refl
-    unmoved (z ∷ zs) = refl
-
     behind_zero : (xs ys : List ℕ) → IsMoved 0 xs ys → IsMoved 0 (0 ∷ xs) (0 ∷ ys)
-    behind_zero xs ys at = ([], tt, ap (λ zs. 0 ∷ zs) (at.2 ∙ ap (moved (map (λ x. x / 3) xs)) (no_bits at.0 at.1) ∙ unmoved (map (λ x. x / 3) xs)))
+    behind_zero xs ys at = ([], tt, ap (λ zs. 0 ∷ zs) (at.2 ∙ ap (moved (map (λ x. x / 3) xs)) (no_bits at.0 at.1) ∙ moved-none (map (λ x. x / 3) xs)))
 
 carriers_at : (n : ℕ) (xs bs : List ℕ) → n ≤ length xs → IsBits n bs → IsZeroFrom n xs → Each (IsMoved n xs) (carrier_positions (moved xs bs))
 carriers_at zero [] [] h bits zeros = carriers_off [] zeros
@@ -71,11 +66,6 @@ carriers_at (suc n) (x ∷ xs) (b ∷ bs) h bits zeros =
   where
     joined : (y : ℕ) (ys : List ℕ) → AtThird x y → IsMoved n xs ys → IsMoved (suc n) (x ∷ xs) (y ∷ ys)
     joined y ys near at = (near.0 ∷ at.0, (near.1, at.1), ap (λ z. z ∷ ys) near.2 ∙ ap (λ zs. (x / 3 + near.0) ∷ zs) at.2)
-
--- the number of some bits
-abbrev pub number_of : List ℕ → ℕ
-number_of [] = 0
-number_of (b ∷ bs) = b + 2 * number_of bs
 
 pub number_of-below : (n : ℕ) (bs : List ℕ) → IsBits n bs → number_of bs < 2 ^ n
 number_of-below zero [] h = omega arith
@@ -115,11 +105,6 @@ zero_from zero (x ∷ xs) h = (h 0 (omega arith), zero_from zero xs (λ i from. 
 zero_from (suc n) [] h = tt
 zero_from (suc n) (x ∷ xs) h = zero_from n xs (λ i from. h (suc i) (omega arith))
 
-by_recursion : {X : Type 0} (P : X → Type 0) (xs : List X) → Each P xs → AllByRecursion P xs
-by_recursion P [] h = tt
-by_recursion P (x ∷ xs) h = (h.0, by_recursion P xs h.1)
-
 pub carriers_are_parents : CarriersAreParents
 carriers_are_parents axes cell k dim h at =
-    by_recursion (IsCornerOf axes (parent_of cell)) (carriers (corner axes cell k))
-    (carriers-corner axes cell k dim.1 h (omega (arith, dim.1, at.four)) (zero_from axes cell.pos at.rest))
+    carriers-corner axes cell k dim.1 h (omega (arith, dim.1, at.four)) (zero_from axes cell.pos at.rest)

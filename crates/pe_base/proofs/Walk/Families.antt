@@ -28,7 +28,7 @@ pub Each-range : (P : ℕ → Type 0) (a n : ℕ) → ((j : ℕ) → a ≤ j →
 Each-range P a zero h = tt
 Each-range P a (suc n) h = (h a (omega arith) (omega arith), Each-range P (a + 1) n (λ j from to. h j (omega arith) (omega arith)))
 
-Each-slots : (P : Slot → Type 0) (axes : ℕ) (w : Working) (cell : Place) (a n : ℕ) → ((j : ℕ) → a ≤ j → j < a + n → P (slot_of axes w cell j)) → Each P (slots_from axes w cell a n)
+pub Each-slots : (P : Slot → Type 0) (axes : ℕ) (w : Working) (cell : Place) (a n : ℕ) → ((j : ℕ) → a ≤ j → j < a + n → P (slot_of axes w cell j)) → Each P (slots_from axes w cell a n)
 Each-slots P axes w cell a zero h = tt
 Each-slots P axes w cell a (suc n) h = (h a (omega arith) (omega arith), Each-slots P axes w cell (a + 1) n (λ j from to. h j (omega arith) (omega arith)))
 

@@ -46,10 +46,6 @@ is_hung w cell k = is_some (at_corner w.hanging cell k)
 abbrev pub slot_of : ℕ → Working → Place → ℕ → Slot
 slot_of axes w cell k = slot_if axes (is_hung w cell k) cell k
 
-unwrap_if : {X : Type 0} (b : Bool) (v d e : X) → unwrap_or (if b then Some v else Some d) e ≡ (if b then v else d)
-unwrap_if true v d e = refl
-unwrap_if false v d e = refl
-
 unwrap_else : {X : Type 0} (b : Bool) (v : X) (o : Option X) (e : X) → unwrap_or (if b then Some v else o) e ≡ (if b then v else unwrap_or o e)
 unwrap_else true v o e = refl
 unwrap_else false v o e = refl

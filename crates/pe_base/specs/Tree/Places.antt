@@ -58,6 +58,11 @@ child_at parent digits = record { level = parent.level + 1; pos = finer parent.p
 abbrev pub bits : ℕ → ℕ → List ℕ
 bits axes n = map (λ axis. n / 2 ^ axis % 2) (range_with_len 0 axes)
 
+-- the number with these bits, the lowest first
+abbrev pub number_of : List ℕ → ℕ
+number_of [] = 0
+number_of (b ∷ bs) = b + 2 * number_of bs
+
 -- a position moved on each axis
 abbrev pub moved : List ℕ → List ℕ → List ℕ
 moved [] ds = []

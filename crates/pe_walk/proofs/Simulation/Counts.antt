@@ -62,6 +62,22 @@ module _ {Plan : Type 0} (set : Setting Plan) (e : Outset) (walked : Place → B
       more_lens : (corners cells x unstored len : ℕ) → x + unstored ≤ len + corners * cells → x + (unstored + corners) ≤ len + corners * (cells + 1)
       more_lens corners cells x unstored len h = let spread : corners * (cells + 1) ≡ corners * cells + corners = omega arith in omega (arith, h, spread)
 
+  -- what is fair depends neither on what is counted nor on the mapping's list
+  fair-beside : (st : Stage) (owed unstored counted : ℕ) (w : Working) (list : List ℤ) (tally : Tally) (t : Tokens) → Fair set.axes (set.rules.greatest set.plan) e.outlook e.foresight st w t
+      → Fair set.axes (set.rules.greatest set.plan) e.outlook e.foresight (record st { owed = owed; unstored = unstored; counted = counted }) (record w { list = list; tally = tally }) t
+  fair-beside st owed unstored counted w list tally t f = record {
+    loads = f.loads;
+    unread = f.unread;
+    live = f.live;
+    written = f.written;
+    gone = f.gone;
+    cells_there = f.cells_there;
+    parent_flags = f.parent_flags;
+    parents = f.parents;
+    flags = f.flags;
+    mine = f.mine;
+  }
+
   -- what holds does not depend on what is counted otherwise
   counted-holds : (st : Stage) (cell : Place) (w : Working) (t : Tokens) → nat_lt set.max_cells (tally_cell cell w.tally).cells ≡ false → Holds set e st w t
       → Holds set e (after_count set.axes st) (record w { tally = tally_cell cell w.tally }) t
@@ -83,18 +99,7 @@ module _ {Plan : Type 0} (set : Setting Plan) (e : Outset) (walked : Place → B
       entered_distinct = s.entered_distinct;
       ahead = s.ahead;
     };
-    fair = let f = h.fair in record {
-      loads = f.loads;
-      unread = f.unread;
-      live = f.live;
-      written = f.written;
-      gone = f.gone;
-      cells_there = f.cells_there;
-      parent_flags = f.parent_flags;
-      parents = f.parents;
-      flags = f.flags;
-      mine = f.mine;
-    };
+    fair = fair-beside st _ _ _ w w.list (tally_cell cell w.tally) t h.fair;
     owes = counted-owes st cell w.tally t within h.owes;
   }
 
@@ -126,18 +131,7 @@ module _ {Plan : Type 0} (set : Setting Plan) (e : Outset) (walked : Place → B
   plain-holds : (st : Stage) (list : List ℤ) (w : Working) (t : Tokens) → Holds set e st w t → Holds set e st (record w { list = list }) t
   plain-holds st list w t h = record {
     stands = h.stands;
-    fair = let f = h.fair in record {
-      loads = f.loads;
-      unread = f.unread;
-      live = f.live;
-      written = f.written;
-      gone = f.gone;
-      cells_there = f.cells_there;
-      parent_flags = f.parent_flags;
-      parents = f.parents;
-      flags = f.flags;
-      mine = f.mine;
-    };
+    fair = fair-beside st st.owed st.unstored st.counted w list w.tally t h.fair;
     owes = h.owes;
   }
 

@@ -15,7 +15,7 @@ use Rattle.pe_walk.specs.Laws.{IsCell}
 use Rattle.pe_walk.specs.Standing.{HasRoom}
 use Rattle.pe_walk.specs.Images.{image_of}
 use Rattle.pe_walk.specs.FaceLaw.{Moment, MayWalk, HasWalked, CellEndsAlike, IsBrief, IsCellWalked, LawOfAFace}
-use Rattle.pe_walk.proofs.Tests.{by_recursion, some_power}
+use Rattle.pe_walk.proofs.Tests.{some_power, times_one}
 use Rattle.pe_walk.proofs.Tokens.Traversals.{walk_of_a_cell}
 use Rattle.pe_walk.proofs.Simulation.Matching.{ending_map}
 use Rattle.pe_walk.proofs.Simulation.Unstuck.{walk-fits}
@@ -28,7 +28,7 @@ module _ {Plan : Type 0} (set : Setting Plan) (at : Moment) where
     vertices = λ st w t h s there other. record {
       there = there;
       apart = other;
-      few = let some = few_more (2 ^ set.axes) w.tally.cells set.max_cells h.owes.cells in omega (arith, h.owes.lens s, some);
+      few = let some = mul-le-mul_left (2 ^ set.axes) h.owes.cells in omega (arith, h.owes.lens s, some);
     };
     cells = λ st w t h s there other. record {
       there = there;
@@ -36,12 +36,6 @@ module _ {Plan : Type 0} (set : Setting Plan) (at : Moment) where
       few = let one = some_power set.axes in let some = times_one (2 ^ set.axes) set.max_cells one in omega (arith, h.owes.cell_lens s, h.owes.cells, some);
     };
   }
-    where
-      few_more : (k a b : ℕ) → a ≤ b → k * a ≤ k * b
-      few_more k a b few = mul-le-mul_left k few
-
-      times_one : (k c : ℕ) → 1 ≤ k → c ≤ k * c
-      times_one k c some = let once : 1 * c ≡ c = omega arith in subst (λ n. n ≤ k * c) once (mul-le-mul_right c some)
 
   pub law_of_a_face : (m : Machine) → MayWalk set at m → IsCellWalked set at (machine.walk_cell set (ports_of at.outset.outlook.swapped) (suc at.levels) at.stage.cell m)
   law_of_a_face m may =
@@ -52,7 +46,7 @@ module _ {Plan : Type 0} (set : Setting Plan) (at : Moment) where
         text = steps.same.text;
         ending = by steps.same.ending
             (λ w ends. record { places = runs.0; holds = steps.holds w ends; gives = runs.2; image = refl });
-        log = by_recursion (IsBrief set at) _ steps.same.log;
+        log = steps.same.log;
       })
     where
       dim : IsDim at.outset.outlook.axes

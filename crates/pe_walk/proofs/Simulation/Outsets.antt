@@ -22,7 +22,7 @@ use Rattle.pe_base.specs.Walk.Core.{Setting, way}
 use Rattle.pe_base.specs.Walk.Laws.{IsCornerOf}
 use Rattle.pe_base.specs.Walk.Grids.{Grid, StoredVertex, state_in, is_stored_vertex, IsWellFormed}
 use Rattle.pe_base.specs.Walk.Foreseen.{next_traversal, was, touched_state, will_on, will, kind_foreseen, counts, state_foreseen, old_foreseen, new_foreseen, below, walks, walked}
-use Rattle.pe_base.proofs.Lists.{Each, Each-weaker, Each-all, Each-In, list_any_none}
+use Rattle.pe_base.proofs.Lists.{Each, Each-weaker, Each-all, Each-In, list_any_none, list_any_same}
 use Rattle.pe_walk.specs.Laws.{IsCell}
 use Rattle.pe_walk.specs.Tokens.{Outlook}
 use Rattle.pe_walk.specs.Outlooks.{outlook, was_stored, IsNew}
@@ -33,6 +33,7 @@ use Rattle.pe_base.specs.Tree.Curve.{order}
 use Rattle.pe_base.specs.Tree.Ways.{way_of}
 use Rattle.pe_base.proofs.Steps.Counts.{OnGrid}
 use Rattle.pe_base.proofs.Steps.CornerPlaces.{corner_on_grid}
+use Rattle.pe_walk.proofs.GridCells.{was-from, will-from}
 use Rattle.pe_walk.proofs.Steps.{order_on_grid}
 use Rattle.pe_walk.proofs.Unwalked.{contains_in}
 use Rattle.pe_walk.proofs.Forecasts.{Sound, old_stored, carrier_levels, counts_inside, two_or_deeper}
@@ -50,22 +51,6 @@ foresight_of start_level grid = record {
   below = below start_level grid;
   start = λ vertex. option_map as_begun (at grid.vertices vertex);
 }
-
-any-same : {X : Type 0} (p q : X → Bool) (xs : List X) → Each (λ x. p x ≡ q x) xs → list_any p xs ≡ list_any q xs
-any-same p q [] h = refl
-any-same p q (x ∷ xs) h = ap₂ (λ a b. a || b) h.0 (any-same p q xs h.1)
-
-was-from : (a b : Bool) → a ≡ was_stored (kind_from a b)
-was-from true true = refl
-was-from true false = refl
-was-from false true = refl
-was-from false false = refl
-
-will-from : (a b : Bool) → b ≡ is_stored (kind_from a b)
-will-from true true = refl
-will-from true false = refl
-will-from false true = refl
-will-from false false = refl
 
 module _ {Plan : Type 0} (set : Setting Plan) (grid : Grid) (swapped : Bool) (of : IsTraversalOf set grid) (sound : Sound grid) (stored : (vertex : Place) → is_some (at grid.vertices vertex) ≡ (nat_lt 0 grid.finished && is_stored_vertex grid.axes (state_in grid) vertex)) where
   abbrev f : Foresight
@@ -135,7 +120,7 @@ module _ {Plan : Type 0} (set : Setting Plan) (grid : Grid) (swapped : Bool) (of
       ∙ sym (stored vertex ∙ ap (λ b. nat_lt 0 grid.finished && (is_inside grid.axes vertex && (b || is_carried is_old (state_in grid) vertex))) (ne_eqb vertex.level 1 (λ e. absurd (omega (arith, e, deep)))))
     where
       olds : list_any f.old (carriers vertex) ≡ is_carried is_old (state_in grid) vertex
-      olds = any-same f.old (λ m. passes is_old (state_in grid m)) (carriers vertex) (Each-all (λ m. f.old m ≡ passes is_old (state_in grid m)) (old_stored set.start_level grid of.start_level sound) (carriers vertex))
+      olds = list_any_same f.old (λ m. passes is_old (state_in grid m)) (carriers vertex) (Each-all (λ m. f.old m ≡ passes is_old (state_in grid m)) (old_stored set.start_level grid of.start_level sound) (carriers vertex))
 
       unborn : nat_lt 0 grid.finished ≡ false → (m : Place) → passes is_old (state_in grid m) ≡ false
       unborn none m = none_there (at grid.vertices m) (stored m ∙ ap (λ b. b && is_stored_vertex grid.axes (state_in grid) m) none)
@@ -158,7 +143,7 @@ module _ {Plan : Type 0} (set : Setting Plan) (grid : Grid) (swapped : Bool) (of
       news ∙ go (is_inside grid.axes vertex) refl
     where
       news : list_any f.new (carriers vertex) ≡ list_any (λ m. is_new (touched_state set.start_level grid (kind_from (was set.start_level grid m) (will_on set.start_level grid (suc n) m)) m)) (carriers vertex)
-      news = any-same f.new (λ m. is_new (touched_state set.start_level grid (kind_from (was set.start_level grid m) (will_on set.start_level grid (suc n) m)) m)) (carriers vertex)
+      news = list_any_same f.new (λ m. is_new (touched_state set.start_level grid (kind_from (was set.start_level grid m) (will_on set.start_level grid (suc n) m)) m)) (carriers vertex)
           (Each-weaker (λ m. m.level ≡ vertex.level - 1) _
           (λ m up. ap (λ k. is_new (touched_state set.start_level grid (kind_from (was set.start_level grid m) (will_on set.start_level grid k m)) m)) (let e : m.level ≡ suc n = omega (arith, up, level) in e))
           (carriers vertex) (carrier_levels set.start_level grid of.start_level sound vertex))

@@ -14,10 +14,11 @@ use Rattle.pe_base.proofs.Lists.{Each, map_same}
 use Rattle.pe_base.proofs.Steps.Counts.{is_same_itself}
 use Rattle.pe_base.proofs.Walk.MapLaws.{at-put}
 use Rattle.pe_base.proofs.Walk.Slots.{Slot, stored, hangs, read, write, is_slot, slot_if, slot_of, is_hung, HangsSame, write_all, SameBeside}
-use Rattle.pe_base.proofs.Walk.Families.{slots, slots_from, put_records-is, hangs-put_records, beside-put_records, family_of-put_family, read-put_records}
+use Rattle.pe_base.proofs.Walk.Families.{slots, slots_from, put_records-is, hangs-put_records, beside-put_records, family_of-put_family, read-put_records, Each-slots}
 use Rattle.pe_stacks.specs.Holdings.{Holdings, Stack}
 use Rattle.pe_hang.specs.InHand.{map_stack, map_holdings}
 use Rattle.pe_walk.specs.Apart.{lies}
+use Rattle.pe_walk.proofs.Tokens.Apart.{one_if}
 
 -- what the map of vertices has at a place after a slot was written
 at-write : (s : Slot) (it : VertexRecord) (w : Working) (q : Place) → is_slot s (stored q) ≡ false → at (write s it w).vertices q ≡ at w.vertices q
@@ -36,10 +37,6 @@ IsOff axes w cell q = (k : ℕ) → k < 2 ^ axes → is_hung w cell k ≡ false 
 slot_off : (axes : ℕ) (w : Working) (cell : Place) (q : Place) (k : ℕ) (b : Bool) → is_hung w cell k ≡ b → (b ≡ false → is_same (corner axes cell k) q ≡ false) → is_slot (slot_if axes b cell k) (stored q) ≡ false
 slot_off axes w cell q k true e h = refl
 slot_off axes w cell q k false e h = h refl
-
-Each-slots : (P : Slot → Type 0) (axes : ℕ) (w : Working) (cell : Place) (a n : ℕ) → ((j : ℕ) → a ≤ j → j < a + n → P (slot_of axes w cell j)) → Each P (slots_from axes w cell a n)
-Each-slots P axes w cell a zero h = tt
-Each-slots P axes w cell a (suc n) h = (h a (omega arith) (omega arith), Each-slots P axes w cell (a + 1) n (λ j from to. h j (omega arith) (omega arith)))
 
 -- what putting records leaves
 pub at-put_records : (axes : ℕ) (cell : Place) (its : List VertexRecord) (w : Working) (q : Place) → length its ≡ 2 ^ axes → IsOff axes w cell q
@@ -73,9 +70,6 @@ after_family axes parent family w four count =
       loads = beside.loads;
       tally = beside.tally;
     }
-
-abbrev one_if : Bool → ℕ
-one_if b = cond b 1 0
 
 -- what holds of all that lies on stacks
 abbrev pub OnStacks : {X : Type 0} → (X → Type 0) → List (Stack X) → Type 0

@@ -38,6 +38,7 @@ use Rattle.pe_walk.proofs.Simulation.Levels.{record_at-put_family, at-put_family
 use Rattle.pe_walk.proofs.Simulation.Leaves.{record_of}
 use Rattle.pe_walk.proofs.Simulation.Putting.{IsOff, AfterFamily, after_family, on_stacks, map_holdings-same}
 
+-- # Calls on images of stacks
 module _ {X Y : Type 0} (f : X → Y) where
   -- a record is lent, and given up
   pub lend-image : (held : Holdings X) → held.fresh < 2 ^ 63 → lend (map_holdings f held) ≡ at_once (map_holdings f (lent held))

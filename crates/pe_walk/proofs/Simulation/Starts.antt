@@ -39,6 +39,7 @@ use Rattle.pe_base.proofs.Lists.{Each, map_same, Each-all, Each-weaker, Each-fil
 use Rattle.pe_base.proofs.Walk.MapLaws.{at-put}
 use Rattle.pe_base.proofs.Walk.MapLaws.{found-turned_by}
 use Rattle.pe_base.proofs.Tree.Ranks.{same_places}
+use Rattle.pe_base.proofs.Tree.PlaceLaws.{few_corners}
 use Rattle.pe_walk.specs.Apart.{IsApart, lies}
 use Rattle.pe_walk.specs.Traffic.{OnlyCounting}
 use Rattle.pe_walk.specs.Gridded.{stored_of}
@@ -61,6 +62,7 @@ use Rattle.pe_walk.proofs.Simulation.Outsets.{as_begun, foresight_of, foresees}
 use Rattle.pe_walk.proofs.Simulation.RootCorners.{HasCorners, has_corners}
 use Rattle.pe_walk.proofs.Simulation.Cells.Corners.{down_from}
 use Rattle.pe_walk.proofs.Simulation.Begins.{stacks_with, places_with, count-with, WithItems, with_items, image-with, kind_among, with_kind, records_again}
+use Rattle.pe_walk.proofs.Tokens.Bounds.{few_cell_input_stacks, few_input_stacks}
 
 -- the places of a grid's streams on the stacks of a machine; nothing is held, and nothing was met
 abbrev pub tokens_of : Grid → Bool → Machine → Tokens
@@ -137,14 +139,6 @@ module _ {Plan : Type 0} (set : Setting Plan) (grid : Grid) (swapped : Bool) (m 
   pub grown_of : Grown (outlook set.start_level grid swapped) (walked set.start_level grid) grid.greatest
   grown_of = forecast_grown set.start_level grid may.fits.start_level sound_of swapped
 
-  small : (b : Bool) → input_stack b < 10
-  small true = omega arith
-  small false = omega arith
-
-  small_cells : (b : Bool) → cell_input_stack b < 2
-  small_cells true = omega arith
-  small_cells false = omega arith
-
   -- what the stacks hold
   pub vertices_at : (s : ℕ) → items_at (tokens_of grid swapped m).vertices s ≡ (if s == input_stack swapped then stream_vertices grid else [])
   vertices_at s = by (nat_lt s 10) refl
@@ -154,7 +148,7 @@ module _ {Plan : Type 0} (set : Setting Plan) (grid : Grid) (swapped : Bool) (m 
 
       by : (b : Bool) → nat_lt s 10 ≡ b → items_at (tokens_of grid swapped m).vertices s ≡ (if s == input_stack swapped then stream_vertices grid else [])
       by true low = with.within (omega (arith, ltb-true s 10 low, may.holds.stacks))
-      by false high = let low = small swapped in let past = ltb-false s 10 high in
+      by false high = let low = few_input_stacks swapped in let past = ltb-false s 10 high in
           with.past (omega (arith, past, may.holds.stacks)) ∙ ap (λ b. if b then stream_vertices grid else []) (sym (ne_eqb s (input_stack swapped) (λ e. absurd (omega (arith, e, low, past)))))
 
   pub cells_at : (s : ℕ) → items_at (tokens_of grid swapped m).cells s ≡ (if s == cell_input_stack swapped then stream_cells grid else [])
@@ -165,7 +159,7 @@ module _ {Plan : Type 0} (set : Setting Plan) (grid : Grid) (swapped : Bool) (m 
 
       by : (b : Bool) → nat_lt s 2 ≡ b → items_at (tokens_of grid swapped m).cells s ≡ (if s == cell_input_stack swapped then stream_cells grid else [])
       by true low = with.within (omega (arith, ltb-true s 2 low, may.holds.cell_stacks))
-      by false high = let low = small_cells swapped in let past = ltb-false s 2 high in
+      by false high = let low = few_cell_input_stacks swapped in let past = ltb-false s 2 high in
           with.past (omega (arith, past, may.holds.cell_stacks)) ∙ ap (λ b. if b then stream_cells grid else []) (sym (ne_eqb s (cell_input_stack swapped) (λ e. absurd (omega (arith, e, low, past)))))
 
   pub may_traverse : MayTraverse (outlook set.start_level grid swapped) grid.greatest (tokens_of grid swapped m)
@@ -412,14 +406,6 @@ module _ {Plan : Type 0} (set : Setting Plan) (grid : Grid) (swapped : Bool) (m 
     lens = λ s. omega (arith, ap length (lent_items (numbers (outlook set.start_level grid swapped)) (tokens_of grid swapped m).vertices s));
     cell_lens = λ s. omega arith;
   })
-    where
-      few_corners : (n : ℕ) → n ≤ 4 → 2 ^ n ≤ 16
-      few_corners zero h = omega arith
-      few_corners (suc zero) h = omega arith
-      few_corners (suc (suc zero)) h = omega arith
-      few_corners (suc (suc (suc zero))) h = omega arith
-      few_corners (suc (suc (suc (suc zero)))) h = omega arith
-      few_corners (suc (suc (suc (suc (suc n))))) h = absurd (omega arith)
 
   -- what holds as a traversal begins
   pub starts : Holds set (outset_of set grid swapped m) first_stage cornered start

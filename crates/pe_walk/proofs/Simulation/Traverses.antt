@@ -22,6 +22,7 @@ use Rattle.pe_base.specs.Walk.Walk as model
 use Rattle.pe_base.proofs.Lists.{Each}
 use Rattle.pe_base.proofs.Steps.Counts.{is_same_itself}
 use Rattle.pe_base.proofs.Walk.MapLaws.{at-put}
+use Rattle.pe_base.proofs.Tree.PlaceLaws.{few_corners}
 use Rattle.pe_stacks.specs.Holdings.{Holdings, len_at, lent}
 use Rattle.pe_stacks.specs.Grid.{input_stack, cell_input_stack}
 use Rattle.pe_base.specs.Walk.Streams.{stream_vertices, stream_cells}
@@ -36,7 +37,7 @@ use Rattle.pe_walk.specs.Outlooks.{outlook}
 use Rattle.pe_walk.specs.Standing.{Outset, Holds, HasRoom}
 use Rattle.pe_walk.specs.CellsAhead.{times}
 use Rattle.pe_walk.specs.Gridded.{MayTurn, HasTurned, EndAlike, IsShort, IsWalked, ports_of}
-use Rattle.pe_walk.proofs.Tests.{by_recursion, some_power}
+use Rattle.pe_walk.proofs.Tests.{some_power, times_one}
 use Rattle.pe_walk.proofs.Tokens.Short.{stacks_are_short}
 use Rattle.pe_walk.proofs.Tokens.Apart.{map_some}
 use Rattle.pe_walk.proofs.Tokens.Traversals.{whole_traversal}
@@ -150,14 +151,6 @@ module _ {Plan : Type 0} (set : Setting Plan) (grid : Grid) (swapped : Bool) (m 
       sound_few : (n : ℕ) → set.axes ≤ 4
       sound_few n = subst (λ n. n ≤ 4) (sym may.fits.axes) (sound_of set grid swapped m may).dim.1
 
-      few_corners : (n : ℕ) → n ≤ 4 → 2 ^ n ≤ 16
-      few_corners zero h = omega arith
-      few_corners (suc zero) h = omega arith
-      few_corners (suc (suc zero)) h = omega arith
-      few_corners (suc (suc (suc zero))) h = omega arith
-      few_corners (suc (suc (suc (suc zero)))) h = omega arith
-      few_corners (suc (suc (suc (suc (suc n))))) h = absurd (omega arith)
-
   -- and the walk by address
   pub model_is : model.traverse set grid
       ≡ course_map (λ w. (ended_of w grid, w.tally)) (and_then (model.plain set BeginIteration (cornered set grid swapped m may))
@@ -174,9 +167,6 @@ module _ {Plan : Type 0} (set : Setting Plan) (grid : Grid) (swapped : Bool) (m 
       → (after : Machine) × (machine.give_up_all set (ports_of swapped) (records_of set.axes w root) (with_parents [] (image_of set (outset_of set grid swapped m) root w t)) ≡ at_once after)
       × HasTurned swapped (ended_of w grid, w.tally) after
 
-  few_more : (k a b : ℕ) → a ≤ b → k * a ≤ k * b
-  few_more k a b few = mul-le-mul_left k few
-
   -- each push leaves its stack short
   room_of : HasRoom set (outset_of set grid swapped m) (IsShort set grid swapped)
   room_of = record {
@@ -185,7 +175,7 @@ module _ {Plan : Type 0} (set : Setting Plan) (grid : Grid) (swapped : Bool) (m 
       apart = other;
       within = stacks_are_short (outlook set.start_level grid swapped) (walked set.start_level grid) grid.greatest t (dim_of set grid swapped m may) (grown_of set grid swapped m may) h.stands.apart h.stands.counting s;
       few = let begun_empty : len_at (tokens_of grid swapped m).vertices s ≡ 0 = ap length (vertices_at set grid swapped m may s ∙ ap (λ b. if b then stream_vertices grid else []) (ne_eqb s (input_stack swapped) other)) in
-          omega (arith, h.owes.lens s, begun_empty, few_more (2 ^ set.axes) w.tally.cells set.max_cells h.owes.cells);
+          omega (arith, h.owes.lens s, begun_empty, mul-le-mul_left (2 ^ set.axes) h.owes.cells);
     };
     cells = λ st w t h s there other.
         let begun_empty : len_at (tokens_of grid swapped m).cells s ≡ 0 = ap length (cells_at set grid swapped m may s ∙ ap (λ b. if b then stream_cells grid else []) (ne_eqb s (cell_input_stack swapped) other)) in
@@ -193,16 +183,13 @@ module _ {Plan : Type 0} (set : Setting Plan) (grid : Grid) (swapped : Bool) (m 
           there = there;
           apart = other;
           within = omega (arith, h.owes.cell_lens s, h.owes.total, begun_empty, entered);
-          few = let one = some_power set.axes in omega (arith, h.owes.cell_lens s, h.owes.cells, begun_empty, entered, few_more (2 ^ set.axes) w.tally.cells set.max_cells h.owes.cells, times_one (2 ^ set.axes) w.tally.cells one);
+          few = let one = some_power set.axes in omega (arith, h.owes.cell_lens s, h.owes.cells, begun_empty, entered, mul-le-mul_left (2 ^ set.axes) h.owes.cells, times_one (2 ^ set.axes) w.tally.cells one);
         };
   }
     where
       entered_some : (xs : List Place) (x : Place) → 1 ≤ times xs x → 1 ≤ length xs
       entered_some [] x some = absurd (omega (arith, some))
       entered_some (y ∷ xs) x some = omega arith
-
-      times_one : (k c : ℕ) → 1 ≤ k → c ≤ k * c
-      times_one k c some = let once : 1 * c ≡ c = omega arith in subst (λ n. n ≤ k * c) once (mul-le-mul_right c some)
 
   -- a traversal of the machine is the walk by address
   pub turns : Closes (IsShort set grid swapped) → IsWalked set grid swapped (machine.traverse set (ports_of swapped) grid.greatest m)
@@ -223,5 +210,5 @@ module _ {Plan : Type 0} (set : Setting Plan) (grid : Grid) (swapped : Bool) (m 
         ending = subst (λ (a : Ending (Grid × Tally)). EndAlike swapped a (machine.traverse set (ports_of swapped) grid.greatest m).ending) (sym (ap (λ c. c.ending) model_is))
             (subst (λ (b : Ending Machine). EndAlike swapped (course_map (λ w. (ended_of w grid, w.tally)) (and_then (model.plain set BeginIteration (cornered set grid swapped m may))
             (λ w. and_then (each (model.walk_cell set (grid.greatest - 1) root) (children set.axes (way set) root) w) (model.plain set EndIteration)))).ending b) (sym (ap (λ c. c.ending) machine_is)) alike.1);
-        log = by_recursion (IsShort set grid swapped) (machine.traverse set (ports_of swapped) grid.greatest m).log (subst (λ (c : Course Machine). Each (IsShort set grid swapped) c.log) (sym machine_is) alike.2);
+        log = subst (λ (c : Course Machine). Each (IsShort set grid swapped) c.log) (sym machine_is) alike.2;
       }

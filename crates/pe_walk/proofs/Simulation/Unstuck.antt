@@ -15,21 +15,14 @@ use Rattle.pe_base.specs.Walk.Working.{Working, records_of, record_at, vertex_at
 use Rattle.pe_base.specs.Walk.Touches.{kind_of_vertex, kind_of_children, within_limit, count_cell, load_corner, store_corner, enter_cell, leave_cell, tally_cell}
 use Rattle.pe_base.specs.Walk.Walk.{corner_numbers, around_below, if_walked, walk_cell, plain, root_corners, walk_root}
 use Rattle.pe_hang.specs.Follows.{is_fit, Fits}
-
-pub then-fits : {X Y : Type 0} (first : Course X) (next : X → Course Y) → Fits first → ((x : X) → Fits (next x)) → Fits (and_then first next)
-then-fits {X = X} first next h k = go first.ending h
-  where
-    go : (e : Ending X) → is_fit e ≡ true → is_fit (from e next).ending ≡ true
-    go (done x) e = k x
-    go (halts cause) e = refl
-    go stuck e = absurd cc
+use Rattle.pe_adapt.proofs.Fitting.{and_then-fit, load-fits, store-fits}
 
 pub mapped-fits : {X Y : Type 0} (course : Course X) (f : X → Y) → Fits course → Fits (course_map f course)
-mapped-fits course f h = then-fits course (λ x. at_once (f x)) h (λ x. refl)
+mapped-fits course f h = and_then-fit course (λ x. at_once (f x)) h (λ x. refl)
 
 each-fits : {A X : Type 0} (step : A → X → Course X) → ((a : A) (x : X) → Fits (step a x)) → (items : List A) (x : X) → Fits (each step items x)
 each-fits step h [] x = refl
-each-fits step h (a ∷ items) x = then-fits (step a x) (each step items) (h a x) (each-fits step h items)
+each-fits step h (a ∷ items) x = and_then-fit (step a x) (each step items) (h a x) (each-fits step h items)
 
 module _ {Plan : Type 0} (set : Setting Plan) where
   fire-fits : (event : Event) (list : List ℤ) (seen : Seen) → Fits (fire set event list seen)
@@ -42,43 +35,17 @@ module _ {Plan : Type 0} (set : Setting Plan) where
   plain_event-fits : (event : Event) (list : List ℤ) → Fits (plain_event set event list)
   plain_event-fits event list = mapped-fits (fire set event list _) (λ outcome. outcome.list) (fire-fits event list _)
 
-  vertex-fits : (event : Event) (place : Place) (it : VertexRecord × Family) → Fits (vertex_event set event place it)
-  vertex-fits event place it = mapped-fits (fire set event it.1.list _) _ (fire-fits event it.1.list _)
-
   cell-fits : (event : Event) (place : Place) (it : Own × Family) → Fits (cell_event set event place it)
   cell-fits event place it = mapped-fits (fire set event it.1.list _) _ (fire-fits event it.1.list _)
 
-  load-fits : (kind : Kind) (first : Bool) (found : VertexRecord) (place : Place) (family : Family) → Fits (load_touch set kind first found place family)
-  load-fits Hanging first found place family = vertex-fits CreateHangingVertex place (fresh_vertex set Hanging place family)
-  load-fits Born true found place family =
-      then-fits (vertex_event set CreateInnerVertex place (fresh_vertex set Born place family)) (vertex_event set TouchVertexFirstTime place)
-      (vertex-fits CreateInnerVertex place (fresh_vertex set Born place family)) (vertex-fits TouchVertexFirstTime place)
-  load-fits Kept true found place family = vertex-fits TouchVertexFirstTime place (read_vertex set Kept found, family)
-  load-fits Dying true found place family = vertex-fits TouchVertexFirstTime place (read_vertex set Dying found, family)
-  load-fits Born false found place family = refl
-  load-fits Kept false found place family = refl
-  load-fits Dying false found place family = refl
-
-  store-fits : (kind : Kind) (last : Bool) (place : Place) (vertex : VertexRecord) (family : Family) → Fits (store_of set kind last place vertex family)
-  store-fits Hanging last place vertex family = mapped-fits (vertex_event set DestroyHangingVertex place (vertex, family)) (given_up set) (vertex-fits DestroyHangingVertex place (vertex, family))
-  store-fits Dying true place vertex family =
-      let both = and_then (vertex_event set TouchVertexLastTime place (vertex, family)) (vertex_event set DestroyVertex place) in
-      mapped-fits both (given_up set)
-      (then-fits (vertex_event set TouchVertexLastTime place (vertex, family)) (vertex_event set DestroyVertex place) (vertex-fits TouchVertexLastTime place (vertex, family)) (vertex-fits DestroyVertex place))
-  store-fits Kept true place vertex family = mapped-fits (vertex_event set TouchVertexLastTime place (vertex, family)) (written set Kept) (vertex-fits TouchVertexLastTime place (vertex, family))
-  store-fits Born true place vertex family = mapped-fits (vertex_event set TouchVertexLastTime place (vertex, family)) (written set Born) (vertex-fits TouchVertexLastTime place (vertex, family))
-  store-fits Kept false place vertex family = refl
-  store-fits Born false place vertex family = refl
-  store-fits Dying false place vertex family = refl
-
   enter-fits : (kind : Kind) (found : List ℤ) (place : Place) (corners : List VertexRecord) (family : Family) → Fits (enter_touch set kind found place corners family)
-  enter-fits Born found place corners family = then-fits (cell_event set CreateCell place _) (cell_event set EnterCell place) (cell-fits CreateCell place _) (cell-fits EnterCell place)
+  enter-fits Born found place corners family = and_then-fit (cell_event set CreateCell place _) (cell_event set EnterCell place) (cell-fits CreateCell place _) (cell-fits EnterCell place)
   enter-fits Kept found place corners family = cell-fits EnterCell place (record { cell = found; corners = corners }, family)
   enter-fits Dying found place corners family = cell-fits EnterCell place (record { cell = found; corners = corners }, family)
   enter-fits Hanging found place corners family = cell-fits EnterCell place (record { cell = found; corners = corners }, family)
 
   leave-fits : (kind : Kind) (place : Place) (own : Own) (family : Family) → Fits (leave_touch set kind place own family)
-  leave-fits Dying place own family = then-fits (cell_event set LeaveCell place (own, family)) (cell_event set DestroyCell place) (cell-fits LeaveCell place (own, family)) (cell-fits DestroyCell place)
+  leave-fits Dying place own family = and_then-fit (cell_event set LeaveCell place (own, family)) (cell_event set DestroyCell place) (cell-fits LeaveCell place (own, family)) (cell-fits DestroyCell place)
   leave-fits Kept place own family = cell-fits LeaveCell place (own, family)
   leave-fits Born place own family = cell-fits LeaveCell place (own, family)
   leave-fits Hanging place own family = cell-fits LeaveCell place (own, family)
@@ -94,13 +61,13 @@ module _ {Plan : Type 0} (set : Setting Plan) where
   load_corner-fits : (parent cell : Place) (k : ℕ) (w : Working) → Fits (load_corner set parent cell k w)
   load_corner-fits parent cell k w =
       mapped-fits (load_touch set (kind_of_vertex set w (corner set.axes cell k)) (loads_of w (corner set.axes cell k) == 0) (vertex_at w (corner set.axes cell k)) (corner set.axes cell k) (family_of set.axes w parent)) _
-      (load-fits (kind_of_vertex set w (corner set.axes cell k)) (loads_of w (corner set.axes cell k) == 0) (vertex_at w (corner set.axes cell k)) (corner set.axes cell k) (family_of set.axes w parent))
+      (load-fits set (kind_of_vertex set w (corner set.axes cell k)) (loads_of w (corner set.axes cell k) == 0) (vertex_at w (corner set.axes cell k)) (corner set.axes cell k) (family_of set.axes w parent))
 
   store_corner-fits : (parent cell : Place) (k : ℕ) (w : Working) → Fits (store_corner set parent cell k w)
   store_corner-fits parent cell k w =
       let it = record_at set.axes w cell k in
       mapped-fits (store_touch set (loads_of w (corner set.axes cell k) == 2 ^ set.axes) (corner set.axes cell k) it (family_of set.axes w parent)) _
-      (store-fits it.kind (loads_of w (corner set.axes cell k) == 2 ^ set.axes) (corner set.axes cell k) it (family_of set.axes w parent))
+      (store-fits set it.kind (loads_of w (corner set.axes cell k) == 2 ^ set.axes) (corner set.axes cell k) it (family_of set.axes w parent))
 
   enter_cell-fits : (parent cell : Place) (w : Working) → Fits (enter_cell set parent cell w)
   enter_cell-fits parent cell w =
@@ -114,11 +81,11 @@ module _ {Plan : Type 0} (set : Setting Plan) where
 
   around-fits : (below : Working → Course Working) → ((w : Working) → Fits (below w)) → (parent cell : Place) (w : Working) → Fits (around_below set below parent cell w)
   around-fits below h parent cell w =
-      then-fits (count_cell set cell w) _ (count-fits cell w) (λ w.
-      then-fits (each (load_corner set parent cell) (reverse (corner_numbers set)) w) _ (each-fits (load_corner set parent cell) (load_corner-fits parent cell) (reverse (corner_numbers set)) w) (λ w.
-      then-fits (enter_cell set parent cell w) _ (enter_cell-fits parent cell w) (λ w.
-      then-fits (below w) _ (h w) (λ w.
-      then-fits (leave_cell set parent cell w) _ (leave_cell-fits parent cell w)
+      and_then-fit (count_cell set cell w) _ (count-fits cell w) (λ w.
+      and_then-fit (each (load_corner set parent cell) (reverse (corner_numbers set)) w) _ (each-fits (load_corner set parent cell) (load_corner-fits parent cell) (reverse (corner_numbers set)) w) (λ w.
+      and_then-fit (enter_cell set parent cell w) _ (enter_cell-fits parent cell w) (λ w.
+      and_then-fit (below w) _ (h w) (λ w.
+      and_then-fit (leave_cell set parent cell w) _ (leave_cell-fits parent cell w)
       (each-fits (store_corner set parent cell) (store_corner-fits parent cell) (corner_numbers set))))))
 
   pub walk-fits : (levels : ℕ) (parent cell : Place) (w : Working) → Fits (walk_cell set levels parent cell w)
@@ -140,6 +107,6 @@ module _ {Plan : Type 0} (set : Setting Plan) where
   pub middle-fits : (levels : ℕ) (w : Working)
       → Fits (and_then (plain set BeginIteration w) (λ w. and_then (each (walk_cell set levels root) (children set.axes (way set) root) w) (plain set EndIteration)))
   middle-fits levels w =
-      then-fits (plain set BeginIteration w) _ (plain-fits BeginIteration w) (λ w.
-      then-fits (each (walk_cell set levels root) (children set.axes (way set) root) w) (plain set EndIteration)
+      and_then-fit (plain set BeginIteration w) _ (plain-fits BeginIteration w) (λ w.
+      and_then-fit (each (walk_cell set levels root) (children set.axes (way set) root) w) (plain set EndIteration)
       (each-fits (walk_cell set levels root) (walk-fits levels root) (children set.axes (way set) root) w) (plain-fits EndIteration))

@@ -6,6 +6,7 @@ use Rattle.std.proofs.lemmas.Bool.Decides.{nat_tests}
 use Rattle.std.proofs.lemmas.List.{length-map}
 use Rattle.std.proofs.lemmas.List.Sums.{sum_by-set, sum_by-cons, length-filter}
 use Rattle.std.proofs.lemmas.Bool.{ne_eqb, eqb-true, cases_lt}
+use Rattle.std.proofs.Math.Bool.{and_comm}
 use Rattle.pe_base.specs.declared.place.Place.{Place}
 use Rattle.pe_base.specs.Tree.Dim.{IsDim}
 use Rattle.pe_base.specs.Tree.Places.{root, is_same}
@@ -26,12 +27,16 @@ use Rattle.pe_walk.proofs.Outlooks.{un_map}
 use Rattle.pe_walk.proofs.Tokens.Stacks.{is_stack_of}
 use Rattle.pe_walk.proofs.Tokens.Dues.{loaded_around}
 use Rattle.pe_walk.proofs.Tokens.Keeping.{given_some, walk_keeps}
-use Rattle.pe_walk.proofs.Tokens.Counting.{first_around, corners_by_counting}
+use Rattle.pe_walk.proofs.Tokens.Counting.{first_around, corners_by_counting, not_zero}
 use Rattle.pe_walk.proofs.Tokens.Traversals.{lent_items, lent_stacks}
-use Rattle.pe_walk.proofs.Tests.{and_turned}
+use Rattle.pe_walk.proofs.Tokens.Bounds.{few_input_stacks}
 
 abbrev pub one_if : Bool → ℕ
 one_if b = cond b 1 0
+
+pub at_most_one : (b : Bool) → one_if b ≤ 1
+at_most_one true = omega arith
+at_most_one false = omega arith
 
 abbrev pub there : Place → Stack Place → ℕ
 there place stack = count_by (λ other. is_same other place) stack.items
@@ -237,9 +242,6 @@ firsts o four v (touch ∷ touches) each e =
     no_read (o.counts t.vertex) (o.reads t.vertex) _ (ap (λ p. is_none (stack_in o.axes o.way p t.cell)) same ∙ first_around o.axes o.way v t.cell four i ∙ later))) in
     one_or_none (is_read o touch) late
   where
-    not_zero : (n : ℕ) → (n + 1 == 0) ≡ false
-    not_zero n = grind (arith, nat_tests)
-
     no_read : (a b c : Bool) → c ≡ false → (a && (b && c)) ≡ false
     no_read true true c h = h
     no_read true false c h = refl
@@ -273,7 +275,7 @@ module _ (o : Outlook) (greatest : ℕ) (q : Place) where
       sym (length-filter (λ p. is_same p q) (reads_of o greatest root))
       ∙ ap length (filter-map (λ p. is_same p q) (λ t. t.vertex) (filter (is_read o) all))
       ∙ length-map (filter here (filter (is_read o) all)) (λ t. t.vertex)
-      ∙ ap length (sym (filter-filter here (is_read o) all) ∙ filter_same _ (λ t. here t && is_read o t) all (Each-all _ (λ t. and_turned (is_read o t) (here t)) all) ∙ filter-filter (is_read o) here all)
+      ∙ ap length (sym (filter-filter here (is_read o) all) ∙ filter_same _ (λ t. here t && is_read o t) all (Each-all _ (λ t. and_comm (is_read o t) (here t)) all) ∙ filter-filter (is_read o) here all)
 
   pub its_loads : Each (λ t. is_same t.vertex q ≡ true) (filter (λ t. is_same t.vertex q) (loads_of o greatest root))
   its_loads = Each-weaker _ (λ t. is_same t.vertex q ≡ true) (λ t h. h.1) _ (Each-filter (λ t. Unit {0}) (λ t. is_same t.vertex q) (loads_of o greatest root) (Each-all _ (λ t. tt) (loads_of o greatest root)))
@@ -297,11 +299,7 @@ begins_apart o walked greatest t dim grown may free = record {
   unmet = λ q c r m. omega (arith, free q, on_input q, not_read o greatest q r);
 }
   where
-    near : (swapped : Bool) → input_stack swapped < 10
-    near true = omega arith
-    near false = omega arith
-
     on_input : (q : Place) → lies (begun o t).vertices q ≡ count_by (λ p. is_same p q) (reads_of o greatest root)
     on_input =
-        lies_only (begun o t).vertices (input_stack o.swapped) (reads_of o greatest root) (omega (arith, near o.swapped, lent_stacks (numbers o) t.vertices, may.stacks))
+        lies_only (begun o t).vertices (input_stack o.swapped) (reads_of o greatest root) (omega (arith, few_input_stacks o.swapped, lent_stacks (numbers o) t.vertices, may.stacks))
         (λ s. lent_items (numbers o) t.vertices s ∙ may.reads_vertices s)

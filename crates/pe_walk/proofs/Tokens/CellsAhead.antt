@@ -24,6 +24,7 @@ use Rattle.pe_walk.proofs.Tokens.Apart.{one_if, there, set_past, lies_only}
 use Rattle.pe_walk.proofs.Tokens.StepFrames.{pushed_once, store_by, after_load, after_enter}
 use Rattle.pe_walk.proofs.Tokens.CountLists.{count-cons, count-append}
 use Rattle.pe_walk.proofs.Tokens.CellsApart.{walked_cells_differ}
+use Rattle.pe_walk.proofs.Tokens.Bounds.{few_cell_input_stacks}
 
 -- a load, and a store, move no cells
 load_cells : (o : Outlook) (cell : Place) (k : ℕ) (t after : Tokens) → load o cell k t ≡ Some after → after.cells ≡ t.cells
@@ -160,11 +161,7 @@ count-filter test (c ∷ cells) x = go (test c) refl (is_same c x) refl (count-f
 
 -- as a traversal begins, a cell lies on the stacks as often as it is read
 pub cells_on_input : (o : Outlook) (greatest : ℕ) (t : Tokens) → MayTraverse o greatest t → (x : Place) → lies t.cells x ≡ times (cell_reads_of o greatest root) x
-cells_on_input o greatest t may x = lies_only t.cells (cell_input_stack o.swapped) (cell_reads_of o greatest root) (omega (arith, near o.swapped, may.cell_stacks)) may.reads_cells x
-  where
-    near : (swapped : Bool) → cell_input_stack swapped < 2
-    near true = omega arith
-    near false = omega arith
+cells_on_input o greatest t may x = lies_only t.cells (cell_input_stack o.swapped) (cell_reads_of o greatest root) (omega (arith, few_cell_input_stacks o.swapped, may.cell_stacks)) may.reads_cells x
 
 pub begins_ahead : BeginsAhead
 begins_ahead o walked greatest t dim grown may = record {

@@ -18,7 +18,7 @@ use Rattle.pe_walk.specs.CellsAhead.{times, cells_below, WalkedCellsDiffer}
 use Rattle.pe_walk.proofs.Unwalked.{in_contains, cell_four}
 use Rattle.pe_walk.proofs.Trees.{child_is_cell}
 use Rattle.pe_walk.proofs.Tokens.Walks.{each_with}
-use Rattle.pe_walk.proofs.Tokens.Apart.{one_if}
+use Rattle.pe_walk.proofs.Tokens.Apart.{one_if, at_most_one}
 use Rattle.pe_walk.proofs.Tokens.DepotCounts.{count_none}
 use Rattle.pe_walk.proofs.Tokens.CountLists.{count-cons, count-flat_map, sum-less}
 
@@ -122,11 +122,7 @@ module _ (o : Outlook) (four : o.axes ≤ 4) where
           omega (arith, none_same (Under c) x other (walked_cells o.axes o.way o.walks levels c) (walk_under levels c i.is_cell))
 
   walk_once : (levels : ℕ) (cell x : Place) → IsCell o.axes o.way cell → times (walked_cells o.axes o.way o.walks levels cell) x ≤ 1
-  walk_once zero cell x is = omega (arith, count-cons (λ y. is_same y x) cell [], at_most (is_same cell x))
-    where
-      at_most : (b : Bool) → one_if b ≤ 1
-      at_most true = omega arith
-      at_most false = omega arith
+  walk_once zero cell x is = omega (arith, count-cons (λ y. is_same y x) cell [], at_most_one (is_same cell x))
   walk_once (suc levels) cell x is = go (o.walks cell) (is_same cell x) refl (below_once levels (walk_once levels) cell x is)
     where
       go : (b same : Bool) → is_same cell x ≡ same → times (cells_below o levels cell) x ≤ 1

@@ -26,7 +26,7 @@ found_or_not p f (x ∷ xs) = go (p x) (found_or_not p f xs)
     go true e = refl
     go false e = e
 
-not_zero : (n : ℕ) → (n + 1 == 0) ≡ false
+pub not_zero : (n : ℕ) → (n + 1 == 0) ≡ false
 not_zero n = grind (arith, nat_tests)
 
 -- a cell of a list is the last one, or a step begins at it

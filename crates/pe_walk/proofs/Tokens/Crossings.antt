@@ -6,7 +6,7 @@ use Rattle.std.specs.List.{flat_map}
 use Rattle.std.proofs.lemmas.List.{take_all}
 use Rattle.std.proofs.lemmas.List.Sums.{sum_by-cons, length-filter}
 use Rattle.std.proofs.lemmas.Bool.{and_parts, eq-eqb, ne_eqb, eqb-true}
-use Rattle.std.proofs.Math.Bool.{and-false, and-true}
+use Rattle.std.proofs.Math.Bool.{and-false, and-true, and_comm}
 use Rattle.pe_base.specs.declared.place.Place.{Place}
 use Rattle.pe_base.specs.declared.way.Way.{Way}
 use Rattle.pe_base.specs.Tree.Dim.{IsDim}
@@ -34,7 +34,7 @@ use Rattle.pe_walk.proofs.Tokens.DepotCounts.{count_none}
 use Rattle.pe_walk.proofs.Tokens.CountLists.{count-flat_map, count-reverse, count-map, count-both, count-not}
 use Rattle.pe_walk.proofs.Tokens.Traffic.{loads_length}
 use Rattle.pe_walk.proofs.Tokens.Short.{sum-both, sum-same, sum-times, turn_same, touches_of}
-use Rattle.pe_walk.proofs.Tests.{and_turned, and_twice, some_power}
+use Rattle.pe_walk.proofs.Tests.{and_twice, some_power}
 
 -- each touch that passes a test is of one of the places
 by_places : (places : List Place) (q : Touch → Bool) (touches : List Touch) → Each (λ t. q t ≡ true → count_by (λ v. is_same v t.vertex) places ≡ 1) touches
@@ -143,7 +143,7 @@ module _ (o : Outlook) (walked : Place → Bool) (greatest : ℕ) (dim : IsDim o
       let around_q = loaded_around o walked greatest dim grown q c in
       count-map (λ v. is_same v q) (λ t. t.vertex) (filter is_first_load all)
       ∙ sym (length-filter here (filter is_first_load all))
-      ∙ ap length (sym (filter-filter here is_first_load all) ∙ filter_same _ (λ t. here t && is_first_load t) all (Each-all _ (λ t. and_turned (is_first_load t) (here t)) all) ∙ filter-filter is_first_load here all)
+      ∙ ap length (sym (filter-filter here is_first_load all) ∙ filter_same _ (λ t. here t && is_first_load t) all (Each-all _ (λ t. and_comm (is_first_load t) (here t)) all) ∙ filter-filter is_first_load here all)
       ∙ just_one us (Each-weaker _ (λ t. is_same t.vertex q ≡ true) (λ t h. h.1) us (Each-filter (λ t. Unit {0}) here all (Each-all _ (λ t. tt) all))) around_q
     where
       all_read : Outlook

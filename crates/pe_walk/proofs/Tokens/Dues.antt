@@ -4,6 +4,7 @@ use Rattle.std.specs.Prelude.{if◌then◌else◌}
 use Rattle.std.specs.List.{flat_map, range_with_len, Contains}
 use Rattle.std.proofs.lemmas.List.Elements.{filter-append}
 use Rattle.std.proofs.Math.Nat.{pow-le-pow_right}
+use Rattle.std.proofs.Math.Bool.{and_comm}
 use Rattle.pe_base.specs.declared.place.Place.{Place}
 use Rattle.pe_base.specs.Tree.Dim.{IsDim}
 use Rattle.pe_base.specs.Tree.Places.{root, corner, is_same}
@@ -23,7 +24,6 @@ use Rattle.pe_walk.proofs.Unwalked.{in_contains, all_each}
 use Rattle.pe_walk.proofs.Trees.{root_is_cell, child_is_cell}
 use Rattle.pe_walk.proofs.Steps.{inside_on_grid}
 use Rattle.pe_walk.proofs.Tokens.Walks.{each_with}
-use Rattle.pe_walk.proofs.Tests.{and_turned}
 
 -- in a rising list, what stands at the front of the rest stands behind so many
 module _ (r : Place → ℕ) (ranks : (x y : Place) → is_same x y ≡ true → r x ≡ r y) where
@@ -150,7 +150,7 @@ module _ (o : Outlook) (walked : Place → Bool) (greatest : ℕ) (dim : IsDim o
       let all = loads o.axes o.way greatest root in
       let inside = grown.is_walk.inside vertex c in
       ap (touched_for vertex) (loads_filtered greatest root (root_is_cell o.axes o.way) root_walked)
-      ∙ ap (map (λ t. t.cell)) (sym (filter-filter here for_walked all) ∙ filter_same _ (λ t. here t && for_walked t) all (Each-all _ (λ t. and_turned (for_walked t) (here t)) all) ∙ filter-filter for_walked here all)
+      ∙ ap (map (λ t. t.cell)) (sym (filter-filter here for_walked all) ∙ filter_same _ (λ t. here t && for_walked t) all (Each-all _ (λ t. and_comm (for_walked t) (here t)) all) ∙ filter-filter for_walked here all)
       ∙ sym (filter-map walked (λ t. t.cell) (filter here all))
       ∙ ap (filter walked) (loaded_for_around o.axes o.way greatest vertex dim.1 (inside_on_grid o.axes vertex inside) (grown.counts_within vertex c))
       ∙ filter_all walked (around o.axes o.way vertex) (all_each (λ p. walked p ≡ true) (around o.axes o.way vertex) (grown.is_walk.all_around vertex c))

@@ -156,9 +156,6 @@ pub record Passage (o : Outlook) (levels s : ℕ) (cell : Place) (turn : Place �
   pub own_gives : gives o levels s cell ++ beneath ≡ gives o 0 s cell ++ outer
   pub turns : Turns (map turn kids) inner outer
 
-pub passage_alone : (o : Outlook) (s : ℕ) (cell : Place) (turn : Place → Turn) (beneath : List Place) → Passage o 0 s cell turn [] beneath
-passage_alone o s cell turn beneath = record { inner = beneath; outer = beneath; own_takes = refl; own_gives = refl; turns = refl }
-
 gives-axes : (o : Outlook) → o.axes ≤ 4 → (levels s : ℕ) (cell : Place) → s < 2 * o.axes → gives o levels s cell ≡ leaving o.axes o.way o.counts levels (face_on (s / 2) (s % 2) cell) cell
 gives-axes o four levels s cell h = gives-turned o four levels s cell ∙ takes-axes (turned o) four levels s cell h ∙ sym (leaving-opposite o.axes o.way o.counts levels (face_on (s / 2) (s % 2) cell) cell)
 

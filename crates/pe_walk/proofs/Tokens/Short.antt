@@ -30,7 +30,7 @@ use Rattle.pe_walk.proofs.Tokens.Keeping.{given_some, walk_keeps}
 use Rattle.pe_walk.proofs.Tokens.Apart.{map_some, one_if, there, set_past}
 use Rattle.pe_walk.proofs.Tokens.DepotCounts.{count_none}
 use Rattle.pe_walk.proofs.Tokens.Traffic.{loads_length, corners_of}
-use Rattle.pe_walk.proofs.Tests.{all_of, by_recursion, some_power}
+use Rattle.pe_walk.proofs.Tests.{some_power}
 
 pub sum-both : {X : Type 0} (f g : X → ℕ) (xs : List X) → sum_by (λ x. f x + g x) xs ≡ sum_by f xs + sum_by g xs
 sum-both f g [] = omega arith
@@ -97,7 +97,7 @@ loads_below o walked greatest dim grown =
 pub few_vertices : FewVertices
 few_vertices o walked greatest places dim grown once counting =
     let below = loads_below o walked greatest dim grown in
-    let each = Each-weaker (λ p. o.counts p ≡ true) (λ p. 2 ^ o.axes ≡ count_by (λ t. is_same p t.vertex) below.rest) (λ p c. touched_below p c) places (all_of (λ p. o.counts p ≡ true) places counting) in
+    let each = Each-weaker (λ p. o.counts p ≡ true) (λ p. 2 ^ o.axes ≡ count_by (λ t. is_same p t.vertex) below.rest) (λ p c. touched_below p c) places counting in
     le_of_mul-le-mul_left {k = 2 ^ o.axes} (
     omega (arith, sym (sum-times (2 ^ o.axes) places) ∙ sum-same (λ p. 2 ^ o.axes) (λ p. count_by (λ t. is_same p t.vertex) below.rest) places each, each_touch_once places once below.rest, below.many)
     ) (some_power o.axes)
@@ -214,8 +214,8 @@ pub begins_counting : BeginsCounting
 begins_counting o greatest t may s = subst (AllByRecursion (λ place. o.counts place ≡ true)) (sym (lent_items (numbers o) t.vertices s ∙ may.reads_vertices s)) (go (s == input_stack o.swapped))
   where
     reads : AllByRecursion (λ place. o.counts place ≡ true) (reads_of o greatest root)
-    reads = by_recursion (λ place. o.counts place ≡ true) (reads_of o greatest root) (Each-map (λ place. o.counts place ≡ true) (λ t. t.vertex) (filter (is_read o) (loads_of o greatest root))
-        (Each-weaker _ (λ t. o.counts t.vertex ≡ true) (λ t h. (and_parts (o.counts t.vertex) _ h.1).0) (filter (is_read o) (loads_of o greatest root)) (Each-filter (λ t. Unit {0}) (is_read o) (loads_of o greatest root) (Each-all _ (λ t. tt) (loads_of o greatest root)))))
+    reads = Each-map (λ place. o.counts place ≡ true) (λ t. t.vertex) (filter (is_read o) (loads_of o greatest root))
+        (Each-weaker _ (λ t. o.counts t.vertex ≡ true) (λ t h. (and_parts (o.counts t.vertex) _ h.1).0) (filter (is_read o) (loads_of o greatest root)) (Each-filter (λ t. Unit {0}) (is_read o) (loads_of o greatest root) (Each-all _ (λ t. tt) (loads_of o greatest root))))
 
     go : (b : Bool) → AllByRecursion (λ place. o.counts place ≡ true) (if b then reads_of o greatest root else [])
     go true = reads

@@ -23,6 +23,7 @@ use Rattle.pe_walk.proofs.Tokens.Keeping.{given_some}
 use Rattle.pe_walk.proofs.Tokens.Apart.{map_some, one_if, there, taken_was, one_more_is}
 use Rattle.pe_walk.proofs.Tokens.DepotCounts.{take_counts, put_counts}
 use Rattle.pe_walk.proofs.Tokens.CountLists.{count-cons}
+use Rattle.pe_walk.proofs.Tokens.Bounds.{counted_stack}
 
 -- what is taken was on top of its stack
 taken_items : (from : Option ℕ) (place : Place) (held after : Holdings Place) → taken from place held ≡ Some after → (s : ℕ) → items_at held s ≡ (if is_stack s from then place ∷ items_at after s else items_at after s)
@@ -83,10 +84,17 @@ module _ (o : Outlook) where
         met = λ q. one_more_is touch.vertex q t.met;
         its_met = refl;
       })
-
-  counted_stack : (b : Bool) (s : ℕ) (from : Option ℕ) → is_stack s (if b then from else None) ≡ (b && is_stack s from)
-  counted_stack true s from = refl
-  counted_stack false s from = refl
+  load_by cell k t after false e =
+      let made : Tokens = record t { vertices = lent t.vertices } in
+      let same : made ≡ after = cc in
+      subst (λ a. LoadBy (touch_of o cell k) t a false) same (record {
+        due = λ c. absurd cc;
+        vertices = refl;
+        cells = refl;
+        held = λ q. omega arith;
+        met = λ q. omega arith;
+        its_met = refl;
+      })
 
   counted_some : (b : Bool) (from : Option ℕ) → not (is_none (if b then from else None)) ≡ not (not (b && not (is_none from)))
   counted_some true None = refl

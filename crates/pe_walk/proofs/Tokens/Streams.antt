@@ -1,6 +1,8 @@
 -- Two walks that read the same read in one order.
 use Rattle.std.proofs.Common.{◌≡◌, ℕ, zero, suc, Bool, true, false, cond, ◌&&◌, List, [], ◌∷◌, map, filter, refl, sym, ap, ap₂, ◌∙◌, subst, true≢false}
 use Rattle.std.proofs.lemmas.Bool.{and_parts}
+use Rattle.std.proofs.lemmas.List.Elements.{All-from_recursion}
+use Rattle.std.proofs.Math.Bool.{and_assoc}
 use Rattle.std.specs.Prelude.{is_none}
 use Rattle.std.specs.List.{flat_map}
 use Rattle.pe_base.specs.declared.place.Place.{Place}
@@ -23,7 +25,6 @@ use Rattle.pe_walk.specs.Takings.{is_read, reads_of, Grown}
 use Rattle.pe_walk.specs.StreamLaws.{FitsTurned, StreamsAreOne}
 use Rattle.pe_walk.proofs.Unwalked.{contains_in, in_contains, all_each, tree_either, contained_either}
 use Rattle.pe_walk.proofs.Trees.{root_is_cell}
-use Rattle.pe_walk.proofs.Outlooks.{each_all}
 use Rattle.pe_walk.proofs.Tokens.Keeping.{kids_in_tree}
 use Rattle.pe_walk.proofs.Tokens.Dues.{loads_filtered, kids_walked, root_walked}
 
@@ -38,7 +39,7 @@ fits_turned o walked greatest dim grown = record {
     parents = λ cell child is c. grown.is_walk.parents cell child (cell_turned o.axes o.way cell is) (contained_either o.axes (opposite o.way) o.way cell child c);
     all_or_none = λ cell child other is c d. grown.is_walk.all_or_none cell child other (cell_turned o.axes o.way cell is) (contained_either o.axes (opposite o.way) o.way cell child c) (contained_either o.axes (opposite o.way) o.way cell other d);
     inside = grown.is_walk.inside;
-    all_around = λ v c. each_all (λ cell. walked cell ≡ true) (around o.axes (opposite o.way) v) (subst (Each (λ cell. walked cell ≡ true)) (sym (around-opposite o.axes o.way v))
+    all_around = λ v c. All-from_recursion (λ cell. walked cell ≡ true) (around o.axes (opposite o.way) v) (subst (Each (λ cell. walked cell ≡ true)) (sym (around-opposite o.axes o.way v))
         (Each-reverse (λ cell. walked cell ≡ true) (around o.axes o.way v) (all_each (λ cell. walked cell ≡ true) (around o.axes o.way v) (grown.is_walk.all_around v c))));
   };
   below = λ cell child is c. grown.below cell child (cell_turned o.axes o.way cell is) (contained_either o.axes (opposite o.way) o.way cell child c);
@@ -129,11 +130,7 @@ streams_are_one o p walked also_walked greatest dim grown also_grown alike = (
     back : (c : Place) → IsCell p.axes p.way c → IsCell o.axes o.way c
     back c i = subst (λ w. IsCell o.axes w c) (sym alike.way) (subst (λ a. IsCell a p.way c) (sym alike.axes) i)
 
-    parted : (a b c : Bool) → (a && (b && c)) ≡ ((a && b) && c)
-    parted true b c = refl
-    parted false b c = refl
-
     same : (t : Touch) → is_read o t ≡ is_read p t
-    same t = parted (o.counts t.vertex) (o.reads t.vertex) _
+    same t = sym (and_assoc (o.counts t.vertex) (o.reads t.vertex) _)
         ∙ ap₂ (λ x y. x && y) (alike.vertices t.vertex) (ap₂ (λ a w. is_none (stack_in a w t.vertex t.cell)) alike.axes alike.way)
-        ∙ sym (parted (p.counts t.vertex) (p.reads t.vertex) _)
+        ∙ and_assoc (p.counts t.vertex) (p.reads t.vertex) _

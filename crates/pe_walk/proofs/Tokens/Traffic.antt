@@ -25,6 +25,7 @@ use Rattle.pe_walk.proofs.Tokens.Keeping.{kids_in_tree, given_some}
 use Rattle.pe_walk.proofs.Tokens.Apart.{map_some, one_if}
 use Rattle.pe_walk.proofs.Tests.{some_power}
 use Rattle.pe_walk.proofs.Tokens.DepotCounts.{Took, take_counts, Gave, put_counts}
+use Rattle.pe_walk.proofs.Tokens.Bounds.{counted_stack}
 
 -- counts over parts
 count-more : {X : Type 0} (p : X → Bool) (xs ys : List X) (a b c : ℕ) → b ≡ a + count_by p xs → c ≡ b + count_by p ys → c ≡ a + count_by p (xs ++ ys)
@@ -65,10 +66,6 @@ module _ (o : Outlook) where
 
   abbrev stored_to : Touch → Option ℕ
   stored_to touch = if o.counts touch.vertex then target o touch else None
-
-  counted_stack : (b : Bool) (s : ℕ) (from : Option ℕ) → is_stack s (if b then from else None) ≡ (b && is_stack s from)
-  counted_stack true s from = refl
-  counted_stack false s from = refl
 
   counted_none : (b : Bool) (from : Option ℕ) → is_none (if b then from else None) ≡ not (b && not (is_none from))
   counted_none true None = refl

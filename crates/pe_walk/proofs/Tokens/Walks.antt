@@ -28,6 +28,7 @@ use Rattle.pe_walk.proofs.Derived.{corners_cross_once}
 use Rattle.pe_walk.proofs.Tokens.Loads.{taken_from, put_to, vertices_of, takes_by, touched, touched-reverse, all_loads, all_stores, GoesWithin, met-append, due-split}
 use Rattle.pe_walk.proofs.Tokens.Turning.{children-turned, cell_writes-turned}
 use Rattle.pe_walk.proofs.Tokens.Passages.{own_takes, own_gives, take_all, give_all, token_turn, passage}
+use Rattle.pe_walk.proofs.Tokens.Bounds.{few_stacks, few_cell_stacks}
 
 -- what a cell takes for itself, and what its children take
 own_cell : (o : Outlook) (s : ℕ) (cell : Place) (rest : List Place) → cell_takes o 0 s cell ++ rest ≡ (if is_stack s (cell_source o cell) then cell ∷ rest else rest)
@@ -136,23 +137,15 @@ module _ (o : Outlook) (dim : IsDim o.axes) where
         omega arith
   ]
     where
-      near : (swapped : Bool) → output_stack swapped < 10
-      near true = omega arith
-      near false = omega arith
-
       from_stream : (w : Bool) → given w (Some (output_stack o.swapped)) ≡ Some s → s < 10
-      from_stream true h = let is : output_stack o.swapped ≡ s = cc in let n = near o.swapped in omega arith
+      from_stream true h = let is : output_stack o.swapped ≡ s = cc in let n = few_stacks o.swapped in omega arith
       from_stream false h = absurd cc
 
   pub cell_goes : (cell : Place) (s : ℕ) → cell_target o cell ≡ Some s → s < 2
   cell_goes cell s e = go (o.writes_cell cell) e
     where
-      near : (swapped : Bool) → cell_output_stack swapped < 2
-      near true = omega arith
-      near false = omega arith
-
       go : (w : Bool) → given w (Some (cell_output_stack o.swapped)) ≡ Some s → s < 2
-      go true h = let is : cell_output_stack o.swapped ≡ s = cc in let n = near o.swapped in omega arith
+      go true h = let is : cell_output_stack o.swapped ≡ s = cc in let n = few_cell_stacks o.swapped in omega arith
       go false h = absurd cc
 
   pub own_touches_are : (cell : Place) → map (touch_of o cell) (reverse (numbers o)) ≡ reverse (corner_touches o.axes cell)

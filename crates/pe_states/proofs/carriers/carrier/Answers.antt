@@ -2,9 +2,9 @@
 use Rattle.std.proofs.Common.{◌≡◌, ◌^◌, ◌<◌, Bool, ap₂, ◌∙◌, arith}
 use Rattle.pe_states.specs.Carriers.{carrier_numbers}
 use Rattle.pe_states.specs.Marks.{is_marked, is_old_at, is_new_at, some_carrier}
-use Rattle.pe_base.proofs.Lists.{Each-weaker}
+use Rattle.pe_base.proofs.Lists.{Each-weaker, list_any_same}
 use Rattle.pe_states.proofs.BoundaryLaws.{small_corner}
-use Rattle.pe_states.proofs.CarrierLaws.{carrier_numbers-below, any_alike}
+use Rattle.pe_states.proofs.CarrierLaws.{carrier_numbers-below}
 use Rattle.pe_states.proofs.carriers.carrier.Goals as goal
 
 pub at-requires : goal.at-requires
@@ -20,8 +20,8 @@ returns c =
     let pair : (b d : Bool) → Bool × Bool = λ b d. (b, d) in
     let old : is_old_at c.carried.result k ≡ some_carrier dim digits k (is_marked c.args.olds) =
     c.carried.ensures.old k c.requires.corner
-    ∙ any_alike (is_old_at c.new.result) (is_marked c.args.olds) numbers (Each-weaker (λ n. n < 2 ^ dim) _ (λ n h. c.new.ensures.old n (small_corner dim n (omega arith) h)) numbers below) in
+    ∙ list_any_same (is_old_at c.new.result) (is_marked c.args.olds) numbers (Each-weaker (λ n. n < 2 ^ dim) _ (λ n h. c.new.ensures.old n (small_corner dim n (omega arith) h)) numbers below) in
     let new : is_new_at c.carried.result k ≡ some_carrier dim digits k (is_marked c.args.news) =
     c.carried.ensures.new k c.requires.corner
-    ∙ any_alike (is_new_at c.new.result) (is_marked c.args.news) numbers (Each-weaker (λ n. n < 2 ^ dim) _ (λ n h. c.new.ensures.new n (small_corner dim n (omega arith) h)) numbers below) in
+    ∙ list_any_same (is_new_at c.new.result) (is_marked c.args.news) numbers (Each-weaker (λ n. n < 2 ^ dim) _ (λ n h. c.new.ensures.new n (small_corner dim n (omega arith) h)) numbers below) in
     c.at.ensures ∙ ap₂ pair old new

@@ -46,15 +46,7 @@ use Rattle.pe_walk.proofs.Simulation.Leaves.{at_root}
 use Rattle.pe_walk.proofs.Simulation.Outsets.{as_begun, foresight_of}
 use Rattle.pe_walk.proofs.Simulation.Starts.{tokens_of, outset_of, cell_of, dim_of, grown_of}
 use Rattle.pe_walk.proofs.Simulation.Visits.Entering.{times-there}
-
--- the outputs are stacks
-few_stacks : (swapped : Bool) → output_stack swapped < 10
-few_stacks true = omega arith
-few_stacks false = omega arith
-
-few_cell_stacks : (swapped : Bool) → cell_output_stack swapped < 2
-few_cell_stacks true = omega arith
-few_cell_stacks false = omega arith
+use Rattle.pe_walk.proofs.Tokens.Bounds.{few_stacks, few_cell_stacks}
 
 -- what will be stored counts; what does not count was not stored and will not be
 stored_counts : (a b : Bool) → b ≡ true → not (is_hanging (kind_from a b)) ≡ true

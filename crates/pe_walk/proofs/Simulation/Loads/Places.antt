@@ -14,7 +14,7 @@ use Rattle.pe_walk.specs.Apart.{lies}
 use Rattle.pe_walk.specs.Traffic.{takes_from, makes}
 use Rattle.pe_walk.specs.Frames.{loaded_from, AfterLoad}
 use Rattle.pe_walk.specs.Standing.{times}
-use Rattle.pe_walk.proofs.Tokens.Apart.{one_if}
+use Rattle.pe_walk.proofs.Tokens.Apart.{one_if, at_most_one}
 use Rattle.pe_walk.proofs.Tokens.DepotCounts.{Took, take_counts}
 use Rattle.pe_walk.proofs.Tokens.StepFrames.{after_load}
 
@@ -36,10 +36,6 @@ times-more false v q xs ys e = omega (arith, ap (λ zs. times zs q) e)
 length-more : (b : Bool) (v : Place) (xs ys : List Place) → xs ≡ (if b then v ∷ ys else ys) → length ys ≤ length xs
 length-more true v xs ys e = omega (arith, ap length e)
 length-more false v xs ys e = omega (arith, ap length e)
-
-at_most_one : (b : Bool) → one_if b ≤ 1
-at_most_one true = omega arith
-at_most_one false = omega arith
 
 has_taken : (o : Outlook) (touch : Touch) (t t' : Tokens) → AfterLoad o touch t t' → HasTaken touch.vertex t.vertices t'.vertices
 has_taken o touch t t' after =

@@ -13,6 +13,7 @@ use Rattle.pe_walk.specs.Apart.{lies}
 use Rattle.pe_walk.specs.Standing.{times}
 use Rattle.pe_walk.proofs.Tokens.Apart.{one_if, there}
 use Rattle.pe_walk.proofs.Tokens.Stacks.{pushed_same, pushed_other, pushed_count}
+use Rattle.pe_walk.proofs.Tokens.StepFrames.{pushed_once}
 
 -- what is held after a place was stored that counts, or does not
 abbrev pub held_after : Bool → Place → (Place → ℕ) → Place → ℕ
@@ -61,18 +62,9 @@ times-other (Some w) place q held s within e = elim (cases_eq s w) [
   | inr k ↦ ap (λ xs. times xs q) (pushed_other held w s place k)
 ]
 
--- on all stacks, and the one that is stored
-pub lies-put : (s : ℕ) (place q : Place) (held : Holdings Place) → s < stack_count held → lies (pushed held s place) q ≡ lies held q + one_if (is_same place q)
-lies-put s place q held within =
-    omega (
-      arith,
-      sum_by-set (there q) held.stacks s (pushed_on (stack_at held s) place) new_stack within,
-      sum_by-cons (λ other. one_if (is_same other q)) place (items_at held s),
-    )
-
 pub lies-other : (goal : Option ℕ) (place q : Place) (held : Holdings Place) → Within goal held → is_same place q ≡ false → lies (put goal place held) q ≡ lies held q
 lies-other None place q held within e = refl
-lies-other (Some w) place q held within e = omega (arith, lies-put w place q held (within w refl), ap one_if e)
+lies-other (Some w) place q held within e = omega (arith, pushed_once w place q held (within w refl), ap one_if e)
 
 -- what is stored, if it lay nowhere, lies where it went and nowhere else
 pub went : (goal : Option ℕ) (place : Place) (held : Holdings Place) (s : ℕ) → Within goal held → times (items_at held s) place ≡ 0 → 1 ≤ times (items_at (put goal place held) s) place → goal ≡ Some s
@@ -84,7 +76,7 @@ went (Some w) place held s within none some = elim (cases_eq s w) [
 
 pub went_nowhere : (goal : Option ℕ) (place : Place) (held : Holdings Place) → Within goal held → lies (put goal place held) place ≡ 0 → goal ≡ None
 went_nowhere None place held within none = refl
-went_nowhere (Some w) place held within none = absurd (omega (arith, none, lies-put w place place held (within w refl), ap one_if (is_same_itself place)))
+went_nowhere (Some w) place held within none = absurd (omega (arith, none, pushed_once w place place held (within w refl), ap one_if (is_same_itself place)))
 
 -- # Counts
 pub out-put : (goal : Option ℕ) (place : Place) (held : Holdings Place) → (put goal place held).out ≡ held.out - 1

@@ -31,7 +31,7 @@ use Rattle.pe_walk.specs.Apart.{IsApart, lies, occurs}
 use Rattle.pe_walk.specs.Gridded.{ports_of}
 use Rattle.pe_walk.specs.Outlooks.{was_stored}
 use Rattle.pe_walk.specs.Standing.{Foresight, Outset, Stage, per_cell, Stands, Fair, Owes, Holds, IsOutset, IsStage, IsWritten, times}
-use Rattle.pe_walk.proofs.Tokens.Apart.{map_some, one_if}
+use Rattle.pe_walk.proofs.Tokens.Apart.{map_some, one_if, at_most_one}
 use Rattle.pe_walk.proofs.Tokens.CellsAhead.{steps_keep_ahead}
 use Rattle.pe_walk.proofs.Tokens.StepFrames as frames
 use Rattle.pe_walk.proofs.Tokens.CountLists.{count-cons}
@@ -46,6 +46,7 @@ use Rattle.pe_walk.proofs.Simulation.Below.{FindsCell, cell_found}
 use Rattle.pe_walk.proofs.Simulation.Shared.{lend-image, pop-image, cells-image, OneMore, owes-more}
 use Rattle.pe_walk.proofs.Simulation.Leaves.{image_of, in_hand, own_in_hand, record_of, records_from, ports, after_enter, EnterLeaf}
 use Rattle.pe_walk.proofs.Simulation.Visits.Records.{Visited, visited, fair_visited, vertices_visited}
+use Rattle.pe_walk.proofs.Tokens.Bounds.{few_cell_input_stacks}
 
 -- what a list has of a place that it begins with
 pub times-here : (x : Place) (xs : List Place) (y : Place) → is_same x y ≡ true → times (x ∷ xs) y ≡ 1 + times xs y
@@ -53,10 +54,6 @@ times-here x xs y e = omega (arith, count-cons (λ other. is_same other y) x xs,
 
 pub times-there : (x : Place) (xs : List Place) (y : Place) → is_same x y ≡ false → times (x ∷ xs) y ≡ times xs y
 times-there x xs y e = omega (arith, count-cons (λ other. is_same other y) x xs, ap {B = ℕ} one_if e)
-
-pub at_most_one : (b : Bool) → one_if b ≤ 1
-at_most_one true = omega arith
-at_most_one false = omega arith
 
 -- a cell taken from a stack leaves no stack longer
 pub len-taken : (from : Option ℕ) (place : Place) (held after : Holdings Place) → taken from place held ≡ Some after → (s : ℕ) → len_at after s ≤ len_at held s
@@ -105,16 +102,12 @@ module _ {Plan : Type 0} (set : Setting Plan) (e : Outset) (walked : Place → B
       let same : popped t.cells cin ≡ cells = cc (g.1) in
       subst (λ after. pop cin (map_holdings (cell_at w) t.cells) ≡ at_once (cell_at w st.cell, map_holdings (cell_at w) after)) same (by (items_at t.cells cin) refl g.0)
     where
-      small : (b : Bool) → cell_input_stack b < 2
-      small true = omega arith
-      small false = omega arith
-
       by : (xs : List Place) → items_at t.cells (cell_input_stack e.outlook.swapped) ≡ xs → is_top st.cell xs ≡ true
           → pop (cell_input_stack e.outlook.swapped) (map_holdings (cell_at w) t.cells) ≡ at_once (cell_at w st.cell, map_holdings (cell_at w) (popped t.cells (cell_input_stack e.outlook.swapped)))
       by [] p top = absurd (true≢false (sym top))
       by (x ∷ xs) p top =
           let cin = cell_input_stack e.outlook.swapped in
-          pop-image (cell_at w) t.cells cin x xs p (let some = small e.outlook.swapped in omega (arith, some, h.stands.cell_stacks)) (pops_few cin)
+          pop-image (cell_at w) t.cells cin x xs p (let some = few_cell_input_stacks e.outlook.swapped in omega (arith, some, h.stands.cell_stacks)) (pops_few cin)
           ∙ ap (λ c. at_once (cell_at w c, map_holdings (cell_at w) (popped t.cells cin))) (same_places x st.cell top)
 
   source_is : (b : Bool) → e.outlook.reads_cell st.cell ≡ b → taken (given b (Some (cell_input_stack e.outlook.swapped))) st.cell t.cells ≡ Some took.0

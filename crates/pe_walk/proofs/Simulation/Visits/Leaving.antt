@@ -46,7 +46,9 @@ use Rattle.pe_walk.proofs.Simulation.Shared.{give_up-image, push-image, cells-im
 use Rattle.pe_walk.proofs.Simulation.Leaves.{image_of, in_hand, own_in_hand, record_of, records_from, ports, after_leave, LeaveLeaf}
 use Rattle.pe_walk.proofs.Simulation.Levels.{levels_differ}
 use Rattle.pe_walk.proofs.Simulation.Visits.Records.{Visited, visited, fair_visited, vertices_visited, stage_levels}
-use Rattle.pe_walk.proofs.Simulation.Visits.Entering.{times-here, times-there, at_most_one, all_records}
+use Rattle.pe_walk.proofs.Simulation.Visits.Entering.{times-here, times-there, all_records}
+use Rattle.pe_walk.proofs.Tokens.Bounds.{few_cell_stacks}
+use Rattle.pe_walk.proofs.Tokens.Apart.{at_most_one}
 
 -- the cells that are there after one was left
 abbrev left_map : Place → Kind → Map (List ℤ) → Map (List ℤ)
@@ -247,12 +249,8 @@ module _ {Plan : Type 0} (set : Setting Plan) (e : Outset) (walked : Place → B
         gave = subst (λ c. Gave (cell_target e.outlook st.cell) t.cells c) (ap (λ (u : Tokens). u.cells) is_left)
             (put_counts (cell_target e.outlook st.cell) st.cell t.cells (λ s q. within (e.outlook.writes_cell st.cell) s q))
           where
-            small : (b : Bool) → cell_output_stack b < 2
-            small true = omega arith
-            small false = omega arith
-
             within : (d : Bool) (s : ℕ) → given d (Some (cell_output_stack e.outlook.swapped)) ≡ Some s → s < stack_count t.cells
-            within true s q = let same : cell_output_stack e.outlook.swapped ≡ s = cc in let low = small e.outlook.swapped in omega (arith, same, low, h.stands.cell_stacks)
+            within true s q = let same : cell_output_stack e.outlook.swapped ≡ s = cc in let low = few_cell_stacks e.outlook.swapped in omega (arith, same, low, h.stands.cell_stacks)
             within false s q = absurd cc
 
         len_left : (s : ℕ) → len_at t'.cells s ≤ len_at t.cells s + 1
@@ -335,12 +333,8 @@ module _ {Plan : Type 0} (set : Setting Plan) (e : Outset) (walked : Place → B
         outputs true = refl
         outputs false = refl
 
-        small : (b : Bool) → cell_output_stack b < 2
-        small true = omega arith
-        small false = omega arith
-
         low : cell_output_stack e.outlook.swapped < stack_count t.cells
-        low = let below = small e.outlook.swapped in omega (arith, below, h.stands.cell_stacks)
+        low = let below = few_cell_stacks e.outlook.swapped in omega (arith, below, h.stands.cell_stacks)
 
         few : (stack_at t.cells (cell_output_stack e.outlook.swapped)).pushes < 2 ^ 63
         few = let more : 34 * w.tally.cells ≤ 34 * set.max_cells = omega (arith, h.owes.cells) in omega (arith, is.bound, h.owes.cell_pushes (cell_output_stack e.outlook.swapped), more)
@@ -362,7 +356,7 @@ module _ {Plan : Type 0} (set : Setting Plan) (e : Outset) (walked : Place → B
 
         roomy : room (record { of_cell = true; stack = cell_output_stack e.outlook.swapped; length = len_at t.cells (cell_output_stack e.outlook.swapped) + 1 })
         roomy = subst (λ n. room (record { of_cell = true; stack = cell_output_stack e.outlook.swapped; length = n })) longer
-            (has.cells (after_leave outer st) after t' holds_left (cell_output_stack e.outlook.swapped) (small e.outlook.swapped) (other e.outlook.swapped))
+            (has.cells (after_leave outer st) after t' holds_left (cell_output_stack e.outlook.swapped) (few_cell_stacks e.outlook.swapped) (other e.outlook.swapped))
           where
             longer : len_at t'.cells (cell_output_stack e.outlook.swapped) ≡ len_at t.cells (cell_output_stack e.outlook.swapped) + 1
             longer =

@@ -1,4 +1,4 @@
-use Rattle.std.proofs.Common.{◌≡◌, ℕ, suc, ◌+◌, ◌^◌, ◌<◌, ◌≤◌, List, [], ◌∷◌, map, Ok, Err, refl, sym, ap, subst, ◌∙◌, rules as the_rules, arith}
+use Rattle.std.proofs.Common.{◌≡◌, ◌+◌, ◌^◌, ◌<◌, ◌≤◌, List, [], map, Ok, Err, refl, sym, ap, subst, ◌∙◌, rules as the_rules, arith}
 use Rattle.std.specs.Prelude.{All}
 use Rattle.pe_base.specs.declared.place.Place.{Place}
 use Rattle.pe_base.specs.declared.tally.Tally.{Tally}
@@ -15,6 +15,7 @@ use Rattle.pe_stacks.proofs.Filling.{full_from}
 use Rattle.pe_mapping.specs.Held.{Adds}
 use Rattle.pe_mapping.specs.Sights.{seen_corners}
 use Rattle.pe_mapping.proofs.Texts.{adds-nothing}
+use Rattle.pe_mapping.proofs.BelowRoot.{cell_below_root}
 use Rattle.pe_hang.specs.InHand.{family_in_hand, own_in_hand, cells_on_stacks}
 use Rattle.pe_hang.specs.Follows.{Follows, Fits, Leads, read_by, held_by}
 use Rattle.pe_hang.proofs.Leading.{and_then-fits, follows-map, leads_start}
@@ -26,7 +27,7 @@ use Rattle.pe_walk.specs.Visits.{walk_children, with_family}
 use Rattle.pe_walk.proofs.Walking.{hands, machine_of, found_in, set_in, Goes, goes-set, keeps-same, keeps-then, steps-may, steps-then, steps-err, steps-as}
 use Rattle.pe_walk.proofs.Markings.{kind_among-kept, kind_among-deep, kind_below-marks, any-kind, length-seen, few-corners, marks-kept}
 use Rattle.pe_walk.proofs.Children.{child-walked}
-use Rattle.pe_walk.proofs.Below.{IsBelowRoot-cell, below-hanging, below-walked, below-greatest}
+use Rattle.pe_walk.proofs.Below.{below-hanging, below-walked, below-greatest}
 use Rattle.pe_walk.proofs.AnyCells.{load_all-any_cells, store_all-any_cells}
 use Rattle.pe_walk.proofs.CellWalks.{counting, loading, storing, visiting, entering, below, leaving, after_enter, after_load, after_count, visit-grouped, counts-to}
 use Rattle.pe_walk.proofs.ChildWalks.{all-children, all-tail, child-walk, child-may, child-next, child-err}
@@ -103,7 +104,7 @@ visit_cell-walk_below-requires g t c κs within =
 
 pub visit_cell-leave_cell-requires-clause-place : goal.visit_cell-leave_cell-requires-clause-place
 visit_cell-leave_cell-requires-clause-place g t c =
-    IsBelowRoot-cell (g.M.Mapping.held c.args.m.now).dim c.args.cell.now.place c.requires.walked.place c.requires.walked.deep
+    cell_below_root (g.M.Mapping.held c.args.m.now).dim c.args.cell.now.place c.requires.walked.place c.requires.walked.deep
 
 pub visit_cell-leave_cell-requires-clause-kind : goal.visit_cell-leave_cell-requires-clause-kind
 visit_cell-leave_cell-requires-clause-kind g t c =

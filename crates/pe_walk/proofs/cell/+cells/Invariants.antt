@@ -1,4 +1,4 @@
-use Rattle.std.proofs.Common.{◌≡◌, ℕ, ◌+◌, ◌*◌, ◌≤◌, List, map, false}
+use Rattle.std.proofs.Common.{◌≡◌, ◌+◌, ◌*◌, map, false}
 use Rattle.std.specs.Prelude.{All}
 use Rattle.pe_base.specs.Tree.Places.{IsDigits, child_at}
 use Rattle.pe_base.specs.Walk.Course.{each}

@@ -1,5 +1,4 @@
-use Rattle.std.proofs.Common.{refl, sym, subst, ◌∙◌, arith}
-use Rattle.pe_base.specs.Tree.Places.{child_at}
+use Rattle.std.proofs.Common.{sym, subst, ◌∙◌}
 use Rattle.pe_base.proofs.Tree.PlaceLaws.{cell_coordinate_below}
 use Rattle.pe_access.specs.Rows.{IsRow}
 use Rattle.pe_adapt.specs.Marked.{GiveKinds}

@@ -1,4 +1,4 @@
-use Rattle.std.proofs.Common.{◌≡◌, ap, refl, sym, subst, ◌∙◌, true, None, Some, Ok}
+use Rattle.std.proofs.Common.{◌≡◌, ap, refl, sym, subst, ◌∙◌, true, Some, Ok}
 use Rattle.std.specs.Prelude.{◌%◌, is_none, is_some}
 use Rattle.pe_base.specs.Tree.Places.{corner}
 use Rattle.pe_base.specs.Steps.Routes.{stack_in}
@@ -15,8 +15,9 @@ use Rattle.pe_adapt.proofs.Touching.{load-same}
 use Rattle.pe_walk.specs.Machine.{is_placed}
 use Rattle.pe_walk.specs.InHand.{setting_in}
 use Rattle.pe_walk.specs.Corners.{hand_of, found_in}
-use Rattle.pe_walk.proofs.CornerTouches.{goes-load, may-load-desk, may-load-placed, route-is, tally-comes, number-none, number-some, popped-left, keeps-itself}
+use Rattle.pe_walk.proofs.CornerTouches.{goes-load, may-load-desk, may-load-placed, route-is, tally-comes, number-none, number-some, popped-left}
 use Rattle.pe_walk.proofs.corner.load_corner.Goals as goal
+use Rattle.pe_walk.proofs.Walking.{keeps-same}
 
 pub kind_at-kind-requires : goal.kind_at-kind-requires
 kind_at-kind-requires g c = small_corner (g.M.Mapping.held c.args.m.now).dim c.args.k c.requires.walked.state.grid.1 c.requires.corner
@@ -99,5 +100,5 @@ returns-else-come-eq0-clause-goes g c =
     (sym c.fill_slot.ensures)
     (loaded-waiting (seen_vertex numbers.vertex) set settings.input vertex holds family c.kind_at-kind.result (Some s) s holds' c.pop.result (found_in old cells)
     c.in_default.not-Hanging refl fits c.pop.ensures.holds c.pop.ensures.handed)))
-    (popped-left holds holds' room room' s c.pop.ensures.holds c.pop.ensures.room) (keeps-itself held) c.requires.full refl
+    (popped-left holds holds' room room' s c.pop.ensures.holds c.pop.ensures.room) (keeps-same held) c.requires.full refl
     (ap is_some c.fill_slot.ensures) tt

@@ -1,4 +1,4 @@
-use Rattle.std.proofs.Common.{◌≡◌, ℕ, ◌+◌, ◌^◌, ap, refl, sym, subst, ◌∙◌, Ok, Err, arith, [], ◌∷◌, ◌++◌}
+use Rattle.std.proofs.Common.{◌≡◌, ◌^◌, ap, sym, subst, ◌∙◌, Err, arith, [], ◌++◌}
 use Rattle.pe_stacks.specs.Corners.{no_vertices}
 use Rattle.pe_stacks.specs.Quads.{with_quad}
 use Rattle.pe_mapping.specs.Sights.{seen_corners}

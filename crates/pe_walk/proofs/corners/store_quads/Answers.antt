@@ -1,7 +1,6 @@
-use Rattle.std.proofs.Common.{◌≡◌, ℕ, ◌+◌, ◌*◌, ◌^◌, ◌<◌, List, Result, ap, refl, sym, subst, ◌∙◌, Ok, Err, arith, [], ◌∷◌, map}
+use Rattle.std.proofs.Common.{◌≡◌, ℕ, ◌^◌, List, Result, ap, refl, sym, subst, ◌∙◌, Ok, Err, arith, [], ◌∷◌, map}
 use Rattle.std.specs.Prelude.{slice_index_or, None, OnOk}
 use Rattle.pe_base.specs.Acts.Effects.{VertexRecord}
-use Rattle.pe_stacks.specs.Corners.{no_vertices}
 use Rattle.pe_stacks.specs.Quads.{quad_at, with_quad}
 use Rattle.pe_adapt.specs.Slots.{seen_slot}
 use Rattle.pe_adapt.proofs.Errors.{err-is}
@@ -10,7 +9,7 @@ use Rattle.pe_walk.specs.InHand.{ports_of}
 use Rattle.pe_walk.specs.Corners.{GoesAlong, MayGo, hand_of, AreOf, filled_in_corners, filled_in_quad, seen_quad, seen_slots}
 use Rattle.pe_walk.proofs.Going.{may-same, goes-same, goes-filled}
 use Rattle.pe_walk.proofs.CornerLists.{quad_at-other, quad-full, are-with_quad, replaced, listed-one-by-one}
-use Rattle.pe_walk.proofs.CornerWalks.{stores_on, unchanged, stores-may, stores-next, stores-go, stores-err}
+use Rattle.pe_walk.proofs.CornerWalks.{stores_on, stores-may, stores-next, stores-go, stores-err}
 use Rattle.pe_walk.proofs.corners.store_quads.Goals as goal
 
 on-ok : {A E : Type 0} {P Q : Type 0} (result : Result A E) → OnOk result P → (P → Q) → OnOk result Q

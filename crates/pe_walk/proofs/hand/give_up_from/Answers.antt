@@ -1,6 +1,6 @@
 use Rattle.std.proofs.Common.{◌≡◌, ◌+◌, ◌-◌, ◌^◌, ◌<◌, ap, ◌∙◌, arith}
 use Rattle.pe_stacks.specs.Holdings.{stack_count, given_up}
-use Rattle.pe_stacks.proofs.Filling.{full_here, full_take, full_end}
+use Rattle.pe_stacks.proofs.Filling.{full_here, full_take}
 use Rattle.pe_walk.specs.GivenUp.{given_up_times}
 use Rattle.pe_walk.proofs.GivingUp.{given_up-more}
 use Rattle.pe_walk.proofs.hand.give_up_from.Goals as goal

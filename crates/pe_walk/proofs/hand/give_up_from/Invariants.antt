@@ -1,4 +1,4 @@
-use Rattle.std.proofs.Common.{◌≡◌, ◌-◌, ◌^◌, false}
+use Rattle.std.proofs.Common.{◌≡◌, ◌-◌, false}
 use Rattle.pe_stacks.specs.Filled.{FullFrom}
 use Rattle.pe_hang.specs.Follows.{Left}
 use Rattle.pe_walk.specs.GivenUp.{given_up_times}

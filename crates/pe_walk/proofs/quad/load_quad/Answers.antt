@@ -1,4 +1,4 @@
-use Rattle.std.proofs.Common.{◌≡◌, ℕ, ◌+◌, ◌*◌, ap, refl, sym, ◌∙◌, Ok, Err, arith, [], ◌∷◌}
+use Rattle.std.proofs.Common.{◌*◌, ap, arith}
 use Rattle.pe_mapping.specs.Sights.{seen_corners}
 use Rattle.pe_adapt.specs.Slots.{seen_slot}
 use Rattle.pe_adapt.proofs.Errors.{err-is}

@@ -1,4 +1,4 @@
-use Rattle.std.proofs.Common.{◌≡◌, ℕ, ◌+◌, ◌*◌, ap, refl, sym, ◌∙◌, Ok, Err, arith, [], ◌∷◌}
+use Rattle.std.proofs.Common.{◌+◌, ◌*◌, ap, arith, [], ◌∷◌}
 use Rattle.pe_adapt.specs.Slots.{seen_slot}
 use Rattle.pe_adapt.proofs.Errors.{err-is}
 use Rattle.pe_walk.specs.Corners.{hand_of, filled_in}

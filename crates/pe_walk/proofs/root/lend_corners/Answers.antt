@@ -1,15 +1,12 @@
-use Rattle.std.proofs.Common.{◌≡◌, ℕ, suc, ◌+◌, ◌-◌, ◌^◌, ◌<◌, [], ◌∷◌, map, Err, refl, sym, ap, subst, ◌∙◌, arith}
-use Rattle.pe_base.specs.Acts.Effects.{VertexRecord}
+use Rattle.std.proofs.Common.{◌≡◌, suc, ◌+◌, ◌-◌, ◌^◌, [], map, refl, sym, ap, subst, ◌∙◌, arith}
 use Rattle.pe_stacks.specs.declared.record.Vertex.{Vertex as AVertex}
 use Rattle.pe_stacks.specs.Filled.{FullFrom}
 use Rattle.pe_stacks.specs.Holdings.{stack_count}
 use Rattle.pe_stacks.proofs.Filling.{full_start, full_put, full_all, seen_put, seen_none}
-use Rattle.pe_mapping.specs.Held.{made_vertex}
 use Rattle.pe_mapping.specs.Sights.{seen_vertex, seen_corners}
-use Rattle.pe_hang.specs.Follows.{Leads, Follows, wanting, found_of, held_by}
+use Rattle.pe_hang.specs.Follows.{Leads, found_of, held_by}
 use Rattle.pe_hang.proofs.Leading.{leads_start, leads_rest, leads_want, leads_found, roomier-held}
 use Rattle.pe_hang.proofs.Moving.{lend-may}
-use Rattle.pe_walk.specs.Machine.{Machine}
 use Rattle.pe_walk.specs.InHand.{setting_in, ports_of}
 use Rattle.pe_walk.proofs.Walking.{keeps-same, keeps-then}
 use Rattle.pe_walk.proofs.RootCorners.{at_root, roots, roots-may, roots-step, roots-end}

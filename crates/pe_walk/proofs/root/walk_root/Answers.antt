@@ -1,4 +1,4 @@
-use Rattle.std.proofs.Common.{◌≡◌, ℕ, ◌≤◌, Ok, Err, refl, sym, ap, subst, ◌∙◌, arith}
+use Rattle.std.proofs.Common.{Ok, Err, sym, subst, arith}
 use Rattle.pe_base.specs.declared.event.Event.TheVariants.{BeginIteration, EndIteration}
 use Rattle.pe_base.specs.declared.tally.Tally.{Tally}
 use Rattle.pe_hang.specs.Follows.{Follows, read_by, held_by}

@@ -1,4 +1,4 @@
-use Rattle.std.proofs.Common.{◌≡◌, ℕ, ◌-◌, ◌^◌, List, length, refl, sym, subst, arith}
+use Rattle.std.proofs.Common.{◌≡◌, ◌-◌, ◌^◌, List, length, refl, sym, subst, arith}
 use Rattle.pe_base.specs.Acts.Effects.{VertexRecord}
 use Rattle.pe_base.specs.Walk.Course.{and_then}
 use Rattle.pe_stacks.proofs.Filling.{full_from}
@@ -9,7 +9,7 @@ use Rattle.pe_hang.proofs.Leading.{and_then-fits}
 use Rattle.pe_walk.specs.Machine.{Machine}
 use Rattle.pe_walk.specs.InHand.{ports_of, failure_in, machine_between}
 use Rattle.pe_walk.specs.Visits.{with_vertices}
-use Rattle.pe_walk.proofs.Walking.{hands, machine_of, found_in, set_in, Goes, steps-may, steps-then, steps-err, steps-as}
+use Rattle.pe_walk.proofs.Walking.{hands, machine_of, set_in, Goes, steps-may, steps-then, steps-err, steps-as}
 use Rattle.pe_walk.proofs.Markings.{length-seen}
 use Rattle.pe_walk.proofs.RootWalks.{making, rooting, giving, after_make, root-grouped, root-gives}
 use Rattle.pe_walk.proofs.root.walk_stacks.Goals as goal

@@ -5,10 +5,9 @@ use Rattle.pe_base.specs.declared.kind.Kind.TheVariants.{Hanging}
 use Rattle.pe_base.specs.Steps.Routes.{stack_in}
 use Rattle.pe_base.specs.Walk.Core.{way}
 use Rattle.pe_base.specs.Walk.Touches.{tally_load}
-use Rattle.pe_hang.specs.Follows.{Follows, Fits, held_by, read_by}
+use Rattle.pe_hang.specs.Follows.{Follows, Fits, read_by}
 use Rattle.pe_adapt.specs.Slots.{seen_slot}
 use Rattle.pe_adapt.specs.Spots.{desk_in_hand}
-use Rattle.pe_adapt.specs.Touches.{load_as}
 use Rattle.pe_adapt.proofs.Touching.{load-same}
 use Rattle.pe_walk.specs.InHand.{setting_in, failure_in}
 use Rattle.pe_walk.specs.Corners.{hand_of, found_in}

@@ -1,19 +1,18 @@
-use Rattle.std.proofs.Common.{ap, refl, sym, subst, ◌∙◌, true, None, Ok, Err, arith}
+use Rattle.std.proofs.Common.{ap, refl, sym, subst, Ok, Err}
 use Rattle.std.specs.Prelude.{is_none}
 use Rattle.pe_base.specs.Tree.Places.{corner}
 use Rattle.pe_base.specs.declared.kind.Kind.TheVariants.{Hanging}
-use Rattle.pe_base.specs.Steps.Routes.{stack_in, stack_out}
+use Rattle.pe_base.specs.Steps.Routes.{stack_out}
 use Rattle.pe_base.specs.Walk.Core.{way}
-use Rattle.pe_base.specs.Walk.Touches.{tally_load, tally_store}
+use Rattle.pe_base.specs.Walk.Touches.{tally_store}
 use Rattle.pe_hang.specs.Follows.{Follows, Fits, read_by}
 use Rattle.pe_adapt.specs.Slots.{seen_slot}
 use Rattle.pe_adapt.specs.Spots.{desk_in_hand}
-use Rattle.pe_adapt.specs.Touches.{store_as}
-use Rattle.pe_adapt.proofs.Touching.{load-same, store-same}
+use Rattle.pe_adapt.proofs.Touching.{store-same}
 use Rattle.pe_walk.specs.InHand.{setting_in, failure_in, ports_of}
 use Rattle.pe_walk.specs.Machine.{output}
 use Rattle.pe_walk.specs.Corners.{hand_of, found_in}
-use Rattle.pe_walk.proofs.CornerTouches.{walked-pos, goes-load, may-load-rises, may-load-desk, goes-store, may-store-rises, may-store-desk, slot-kind, slot-counts, output-is}
+use Rattle.pe_walk.proofs.CornerTouches.{walked-pos, goes-store, may-store-desk, slot-kind}
 use Rattle.pe_walk.proofs.touch.store_hanging.Goals as goal
 
 pub corner_place-at-requires-clause-pos : goal.corner_place-at-requires-clause-pos

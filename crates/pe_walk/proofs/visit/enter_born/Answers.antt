@@ -1,4 +1,4 @@
-use Rattle.std.proofs.Common.{Ok, Err, refl, sym, subst, ◌∙◌}
+use Rattle.std.proofs.Common.{Ok, Err, sym, subst, ◌∙◌}
 use Rattle.pe_base.specs.declared.event.Event.TheVariants.{CreateCell, EnterCell}
 use Rattle.pe_base.specs.Walk.Course.{and_then}
 use Rattle.pe_base.specs.Walk.Core.{Family, Own, cell_event}

@@ -1,4 +1,4 @@
-use Rattle.std.proofs.Common.{Ok, Err, sym, subst}
+use Rattle.std.proofs.Common.{Ok, subst}
 use Rattle.pe_base.specs.declared.event.Event.TheVariants.{LeaveCell, DestroyCell}
 use Rattle.pe_base.specs.Walk.Core.{Family, Own, cell_event}
 use Rattle.pe_hang.specs.InHand.{family_in_hand, own_in_hand}
