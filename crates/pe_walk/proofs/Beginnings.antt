@@ -1,5 +1,5 @@
 -- Depots that hold nothing hold a new grid, and after a traversal they hold the next one.
-use Rattle.std.proofs.Common.{◌≡◌, ℕ, ℤ, ◌+◌, ◌≤◌, Bool, true, false, ◌==◌, List, [], refl, sym, ap, ◌∙◌, map, inl, inr}
+use Rattle.std.proofs.Common.{◌≡◌, ℕ, ℤ, ◌≤◌, Bool, true, false, List, [], refl, sym, ap, ◌∙◌, map, inl, inr}
 use Rattle.std.specs.Prelude.{Result, Ok, Err, IfOk, if◌then◌else◌}
 use Rattle.std.proofs.lemmas.List.{length-map}
 use Rattle.pe_base.specs.declared.tally.Tally.{Tally}

@@ -1,18 +1,13 @@
 -- What is done below a cell, by its corners in hand.
-use Rattle.std.proofs.Common.{◌≡◌, ℕ, zero, suc, ◌-◌, ◌*◌, ◌^◌, ◌<◌, ◌≤◌, Bool, true, false, List, [], ◌∷◌, length, Result, Ok, refl, sym, ap, subst, ◌∙◌, arith}
-use Rattle.std.specs.Prelude.{All, slice_index}
-use Rattle.std.proofs.lemmas.List.Elements.{All-nil, All-cons}
+use Rattle.std.proofs.Common.{◌≡◌, ℕ, zero, ◌<◌, true, false, List, [], ◌∷◌, length, refl, sym, ap, subst, ◌∙◌, arith}
 use Rattle.pe_base.specs.declared.place.Place.{Place}
 use Rattle.pe_base.specs.declared.kind.Kind.{Kind}
 use Rattle.pe_base.specs.declared.kind.Kind.TheVariants.{Kept, Born, Dying, Hanging}
-use Rattle.pe_base.specs.Tree.Places.{IsCellPlace}
 use Rattle.pe_base.specs.Tree.Curve.{children}
 use Rattle.pe_base.proofs.Tree.CurveLaws.{length-children, power_positive}
-use Rattle.pe_base.proofs.Tree.PlaceLaws.{IsPosition-below}
 use Rattle.pe_base.specs.Walk.Course.{Course, at_once, course_map, each}
 use Rattle.pe_base.specs.Walk.Core.{Setting, way, Own}
 use Rattle.pe_base.specs.Walk.Touches.{kind_below}
-use Rattle.pe_mapping.specs.Moments.{IsBelowRoot}
 use Rattle.pe_hang.specs.Follows.{Fits}
 use Rattle.pe_hang.proofs.Leading.{and_then-fits}
 use Rattle.pe_walk.specs.Machine.{Machine, Ports, if_walked, inside, outside, walk_cell}

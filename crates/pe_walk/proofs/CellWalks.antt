@@ -1,13 +1,13 @@
 -- The walk of a cell, part by part.
-use Rattle.std.proofs.Common.{◌≡◌, ℕ, zero, suc, ◌+◌, ◌-◌, ◌^◌, ◌<◌, ◌≤◌, List, [], ◌∷◌, map, Result, Ok, Err, refl, sym, ap, subst, ◌∙◌, arith}
+use Rattle.std.proofs.Common.{◌≡◌, ℕ, ◌^◌, ◌<◌, ◌≤◌, List, [], Ok, Err, refl, sym, ap, subst, ◌∙◌}
 use Rattle.pe_base.specs.declared.place.Place.{Place}
 use Rattle.pe_base.specs.declared.tally.Tally.{Tally}
 use Rattle.pe_base.specs.Acts.Effects.{VertexRecord}
-use Rattle.pe_base.specs.Walk.Course.{Ending, done, halts, stuck, Course, Cause, limit_at, behind, from, and_then}
+use Rattle.pe_base.specs.Walk.Course.{Ending, done, halts, stuck, Course, limit_at, behind, from, and_then}
 use Rattle.pe_base.specs.Walk.Core.{Setting, Own}
 use Rattle.pe_base.specs.Walk.Touches.{tally_cell}
-use Rattle.pe_hang.specs.Follows.{Found, Failure, halted, Follows, Fits}
-use Rattle.pe_walk.specs.Machine.{Machine, Ports, count_cell, load_all, enter_cell, leave_cell, store_all, walk_cell}
+use Rattle.pe_hang.specs.Follows.{Found, halted, Follows, Fits}
+use Rattle.pe_walk.specs.Machine.{Machine, Ports, count_cell, load_all, enter_cell, leave_cell, store_all}
 use Rattle.pe_walk.specs.Visits.{walk_below, visit_cell}
 use Rattle.pe_walk.proofs.Simulation.Matching.{then-grouped}
 use Rattle.pe_walk.proofs.Visiting.{counts-on, counts-past}

@@ -1,22 +1,22 @@
 -- All corners of a cell, quad by quad.
-use Rattle.std.proofs.Common.{◌≡◌, ℕ, ℤ, zero, suc, ◌+◌, ◌*◌, ◌^◌, ◌<◌, ◌≤◌, true, false, List, [], ◌∷◌, ◌++◌, map, length, get_or, set, replicate, Option, Some, None, Result, Ok, Err, IsSome, refl, sym, ap, subst, ◌∙◌, arith}
+use Rattle.std.proofs.Common.{◌≡◌, ℕ, ℤ, zero, suc, ◌+◌, ◌*◌, ◌^◌, ◌<◌, ◌≤◌, true, false, List, [], ◌∷◌, ◌++◌, map, length, get_or, set, replicate, Option, Some, None, IsSome, refl, sym, ap, ◌∙◌, arith}
 use Rattle.std.specs.Prelude.{sum_by}
 use Rattle.std.specs.List.{filter_map}
 use Rattle.std.proofs.lemmas.List.{length-set, get_or-set_other}
 use Rattle.std.proofs.lemmas.List.Sums.{sum_by-set, sum_by-cons}
 use Rattle.pe_base.specs.declared.place.Place.{Place}
-use Rattle.pe_base.specs.Acts.Effects.{VertexRecord, Rules}
+use Rattle.pe_base.specs.Acts.Effects.{VertexRecord}
 use Rattle.pe_base.specs.Walk.Course.{Ending, done, halts, stuck, Course, behind, from, at_once, and_then, course_map}
 use Rattle.pe_base.specs.Walk.Core.{Setting}
 use Rattle.pe_stacks.specs.declared.record.Vertex.{Vertex}
 use Rattle.pe_stacks.specs.declared.quad.Quad.{Quad}
-use Rattle.pe_stacks.specs.Corners.{CornerList, vertex_at, vertices_of, with_vertex, no_vertices, IsFull}
-use Rattle.pe_stacks.specs.Quads.{quad_at, with_quad, quad_of, set_quad}
+use Rattle.pe_stacks.specs.Corners.{CornerList, vertex_at, with_vertex, no_vertices, IsFull}
+use Rattle.pe_stacks.specs.Quads.{quad_at, with_quad, set_quad}
 use Rattle.pe_stacks.proofs.QuadSlots.{length-set_quad}
 use Rattle.pe_mapping.specs.Sights.{seen_vertex, seen_corners}
 use Rattle.pe_adapt.specs.Slots.{seen_slot}
 use Rattle.pe_walk.specs.Machine.{Machine, Ports, load_corner, load_all, store_corner, store_all}
-use Rattle.pe_walk.specs.Corners.{filled_in, filled_in_quad, filled_in_corners, seen_slots, AreOf, load_four}
+use Rattle.pe_walk.specs.Corners.{filled_in, filled_in_quad, filled_in_corners, seen_slots, AreOf}
 use Rattle.pe_walk.proofs.Simulation.Matching.{turned-then, then-grouped}
 
 -- # Courses

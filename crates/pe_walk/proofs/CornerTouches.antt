@@ -1,11 +1,10 @@
 -- One corner of the cell that is walked, loaded and stored as the machine does.
-use Rattle.std.proofs.Common.{◌≡◌, ℕ, ℤ, ◌+◌, ◌^◌, ◌<◌, ◌≤◌, Bool, true, false, ◌&&◌, ◌||◌, List, [], Option, Some, None, Result, Ok, Err, refl, sym, ap, subst, ◌∙◌, arith, eqb-true}
+use Rattle.std.proofs.Common.{◌≡◌, ℕ, ℤ, ◌+◌, ◌^◌, ◌<◌, Bool, true, false, ◌&&◌, ◌||◌, List, [], Option, Some, None, Result, Ok, Err, refl, sym, ap, subst, ◌∙◌, arith, eqb-true}
 use Rattle.std.specs.Prelude.{◌-◌, ◌%◌, ◌==◌, if◌then◌else◌, IsSomeAnd, is_err, is_none, slice_index, OnOk, OnErr, IsSome}
 use Rattle.pe_base.specs.declared.place.Place.{Place}
 use Rattle.pe_base.specs.declared.kind.Kind.{Kind}
 use Rattle.pe_base.specs.declared.kind.Kind.TheVariants.{Kept, Born, Dying, Hanging}
 use Rattle.pe_base.specs.declared.tally.Tally.{Tally}
-use Rattle.pe_base.specs.Tree.Dim.{IsDim}
 use Rattle.pe_base.specs.declared.way.Way.{Way}
 use Rattle.pe_access.specs.States.{StandsFor}
 use Rattle.pe_base.specs.Tree.Places.{corner, IsInside, IsCellPlace}
@@ -21,11 +20,10 @@ use Rattle.pe_stacks.specs.Corners.{IsFull}
 use Rattle.pe_stacks.specs.Holdings.{Holdings, KeepsRoom, stack_count, stack_at, popped, popped_from}
 use Rattle.std.proofs.lemmas.List.{length-set}
 use Rattle.std.proofs.lemmas.Bool.{and_parts}
-use Rattle.pe_mapping.specs.Held.{Held, Keeps}
+use Rattle.pe_mapping.specs.Held.{Keeps}
 use Rattle.pe_mapping.specs.Sights.{Numbers, seen_corners}
 use Rattle.pe_access.specs.Numbers.{stack_of}
 use Rattle.pe_hang.specs.InHand.{KeepsMarks}
-use Rattle.pe_hang.specs.Moves.{allowed}
 use Rattle.pe_mapping.specs.Held.{Told}
 use Rattle.pe_hang.specs.Follows.{Follows, Fits, Found, Failure, Left, read_by}
 use Rattle.pe_hang.proofs.Leading.{and_then-fits, follows-map}

@@ -1,22 +1,16 @@
 -- All corners of the cell that is walked, loaded and stored quad by quad.
-use Rattle.std.proofs.Common.{◌≡◌, ℕ, ℤ, suc, ◌+◌, ◌*◌, ◌^◌, ◌<◌, ◌≤◌, List, [], ◌∷◌, ◌++◌, map, length, Option, Some, None, Result, Ok, Err, refl, sym, ap, subst, ◌∙◌, arith}
-use Rattle.std.specs.Prelude.{OnOk}
+use Rattle.std.proofs.Common.{◌≡◌, ℕ, suc, ◌+◌, List, [], ◌∷◌, ◌++◌, Result, Ok, Err, sym}
 use Rattle.pe_base.specs.declared.place.Place.{Place}
 use Rattle.pe_base.specs.Acts.Effects.{VertexRecord, Rules}
 use Rattle.pe_base.specs.Walk.Course.{Course, and_then}
 use Rattle.pe_base.specs.Walk.Core.{Setting}
-use Rattle.pe_stacks.specs.declared.record.Vertex.{Vertex}
-use Rattle.pe_stacks.specs.declared.quad.Quad.{Quad}
-use Rattle.pe_stacks.specs.Corners.{CornerList, no_vertices}
-use Rattle.pe_stacks.specs.Quads.{quad_at, with_quad}
 use Rattle.pe_mapping.specs.Sights.{Numbers}
 use Rattle.pe_adapt.specs.declared.stop.Halt.{Halt}
-use Rattle.pe_adapt.specs.Slots.{seen_slot}
 use Rattle.pe_walk.specs.declared.settings.Settings.{Settings}
 use Rattle.pe_walk.specs.Machine.{Machine, load_all, store_all}
 use Rattle.pe_walk.specs.InHand.{ports_of}
-use Rattle.pe_walk.specs.Corners.{Hand, MayGo, GoesAlong, AreOf, filled_in, filled_in_quad, filled_in_corners, seen_quad, seen_slots}
-use Rattle.pe_walk.proofs.Going.{may-first, may-next, may-same, goes-then, goes-err, goes-map, goes-same, goes-filled}
+use Rattle.pe_walk.specs.Corners.{Hand, MayGo, GoesAlong}
+use Rattle.pe_walk.proofs.Going.{may-first, may-next, may-same, goes-then, goes-err, goes-map, goes-same}
 use Rattle.pe_walk.proofs.CornerLists.{four_from, load_all-four, store_all-four}
 
 module _ {Plan V C : Type 0} (rules : Rules Plan) (numbers : Numbers V C) (settings : Settings) (place : Place) where

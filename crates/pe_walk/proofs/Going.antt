@@ -1,13 +1,12 @@
 -- Calls that go along with the machine, one after another.
-use Rattle.std.proofs.Common.{◌≡◌, ℕ, ℤ, ◌+◌, true, false, List, Result, Ok, Err, refl, sym, ap, subst, ◌∙◌, arith}
+use Rattle.std.proofs.Common.{◌≡◌, ℕ, ◌+◌, Result, Ok, Err, sym, subst, ◌∙◌, arith}
 use Rattle.std.specs.Prelude.{OnOk}
-use Rattle.pe_base.specs.Acts.Effects.{VertexRecord, Rules}
+use Rattle.pe_base.specs.Acts.Effects.{Rules}
 use Rattle.pe_base.specs.Walk.Course.{Course, and_then, course_map}
 use Rattle.pe_base.specs.Walk.Core.{Setting}
 use Rattle.pe_stacks.specs.Corners.{IsFull}
-use Rattle.pe_stacks.specs.Holdings.{Holdings}
 use Rattle.pe_mapping.specs.Sights.{Numbers}
-use Rattle.pe_hang.specs.Follows.{Follows, Fits, Left, IsRoomier, read_by}
+use Rattle.pe_hang.specs.Follows.{Follows, Fits, IsRoomier, read_by}
 use Rattle.pe_hang.proofs.Leading.{and_then-fits, leads_start, leads_next, leads_err, leads_rest, follows-then, follows-map, setting-kept}
 use Rattle.pe_adapt.specs.declared.stop.Halt.{Halt}
 use Rattle.pe_walk.specs.declared.settings.Settings.{Settings}

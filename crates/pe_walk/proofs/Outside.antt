@@ -12,7 +12,7 @@ use Rattle.pe_base.proofs.Lists.{Each, Each-weaker, Each-map, Each-flat_map, Eac
 use Rattle.pe_base.proofs.Tree.Mirrors.{Digits3, digit_lists_below}
 use Rattle.pe_base.proofs.Tree.Children.{child_of, children_are}
 use Rattle.pe_base.proofs.Faces.FaceLists.{is_child_at, leaving_is}
-use Rattle.pe_base.proofs.Tree.Ranks.{thirds, Rising, OnLevel, order_on_level, thirds-child, steps_within, list_any-Each, is_same-true, same_places}
+use Rattle.pe_base.proofs.Tree.Ranks.{thirds, Rising, OnLevel, order_on_level, thirds-child, steps_within, list_any-Each, same_places}
 use Rattle.pe_base.proofs.Faces.Quiet.{across_child, at_face_none, false_unless}
 use Rattle.pe_walk.specs.Laws.{ComesBefore}
 

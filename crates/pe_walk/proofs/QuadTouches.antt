@@ -1,12 +1,9 @@
 -- Four corners of the cell that is walked, one after another.
-use Rattle.std.proofs.Common.{◌≡◌, ℕ, ℤ, ◌+◌, ◌^◌, ◌<◌, ◌≤◌, List, [], ◌∷◌, Option, Some, None, Result, Ok, Err, refl, sym, ap, subst, ◌∙◌, arith, map}
-use Rattle.std.specs.Prelude.{slice_get, Bool, true, false, ◌||◌, ◌==◌, if◌then◌else◌}
-use Rattle.std.specs.List.{list_any}
+use Rattle.std.proofs.Common.{◌≡◌, ℕ, ◌+◌, ◌≤◌, List, [], ◌∷◌, Option, Some, None, Result, Ok, Err, refl, sym, ap, subst, ◌∙◌, arith}
+use Rattle.std.specs.Prelude.{slice_get, Bool, false, ◌==◌, if◌then◌else◌}
 use Rattle.std.specs.Option.{option_map}
 use Rattle.std.proofs.lemmas.Option.{slice_get-map}
 use Rattle.pe_base.specs.declared.place.Place.{Place}
-use Rattle.pe_base.specs.declared.state.State.{State}
-use Rattle.pe_base.specs.declared.kind.Kind.{Kind}
 use Rattle.pe_base.specs.Tree.Places.{corner, parent_of}
 use Rattle.pe_base.specs.Life.States.{is_old, is_new}
 use Rattle.pe_base.specs.Life.Kinds.{kind_from, level_one_kind}
@@ -14,10 +11,8 @@ use Rattle.pe_base.specs.Life.Carriers.{passes, is_carried, kind_by, carriers}
 use Rattle.pe_base.specs.Acts.Effects.{VertexRecord, Rules}
 use Rattle.pe_base.specs.Walk.Course.{Course, at_once, and_then, course_map}
 use Rattle.pe_base.specs.Walk.Core.{Setting}
-use Rattle.pe_stacks.specs.Corners.{CornerList}
-use Rattle.pe_stacks.specs.declared.record.Vertex.{Vertex}
-use Rattle.pe_mapping.specs.Sights.{Numbers, seen_corners}
-use Rattle.pe_hang.specs.InHand.{KeepsMarks, marks_of}
+use Rattle.pe_mapping.specs.Sights.{Numbers}
+use Rattle.pe_hang.specs.InHand.{marks_of}
 use Rattle.pe_adapt.specs.declared.stop.Halt.{Halt}
 use Rattle.pe_adapt.specs.Marked.{GiveKinds}
 use Rattle.pe_adapt.specs.Touches.{state_in_hand, corner_number}

@@ -1,10 +1,10 @@
 -- The root's corners are made, one after another.
-use Rattle.std.proofs.Common.{◌≡◌, ℕ, ℤ, zero, suc, List, [], ◌∷◌, Ok, refl, sym, ap, subst, ◌∙◌}
+use Rattle.std.proofs.Common.{◌≡◌, ℕ, ℤ, suc, List, ◌∷◌, Ok, sym, ap, subst, ◌∙◌}
 use Rattle.pe_base.specs.declared.state.State.TheVariants.{Unrefined}
 use Rattle.pe_base.specs.declared.kind.Kind.TheVariants.{Hanging}
 use Rattle.pe_base.specs.Tree.Places.{root}
 use Rattle.pe_base.specs.Acts.Effects.{VertexRecord}
-use Rattle.pe_base.specs.Walk.Course.{Course, done, at_once, and_then}
+use Rattle.pe_base.specs.Walk.Course.{Course}
 use Rattle.pe_base.specs.Walk.Core.{Setting, fresh_vertex}
 use Rattle.pe_stacks.specs.declared.record.Vertex.{Vertex}
 use Rattle.pe_stacks.specs.Holdings.{Holdings, lent}

@@ -4,7 +4,7 @@ use Rattle.pe_base.specs.declared.event.Event.{Event}
 use Rattle.pe_base.specs.declared.event.Event.TheVariants.{BeginIteration, EndIteration}
 use Rattle.pe_base.specs.Tree.Places.{root}
 use Rattle.pe_base.specs.Acts.Effects.{Rules, VertexRecord}
-use Rattle.pe_base.specs.Walk.Course.{Course, behind, from, and_then}
+use Rattle.pe_base.specs.Walk.Course.{Course, behind, and_then}
 use Rattle.pe_base.specs.Walk.Core.{Setting, plain_event}
 use Rattle.pe_mapping.specs.Held.{Held, Told}
 use Rattle.pe_mapping.specs.Sights.{Numbers, seen_vertex, seen_corners}

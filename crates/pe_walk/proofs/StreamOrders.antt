@@ -23,7 +23,7 @@ use Rattle.pe_base.specs.Walk.Maps.{at}
 use Rattle.pe_base.specs.Walk.Grids.{Grid, StoredVertex, state_in, is_cell, is_refined_cell, is_stored_vertex, is_stored_cell, IsWellFormed}
 use Rattle.pe_base.specs.Walk.Streams.{goes_below, next_way, stream_vertices, stream_cells, walked_loads, walked_cells, is_first}
 use Rattle.pe_base.specs.Walk.Foreseen.{next_traversal, was, will, will_on, touched_state, old_foreseen, new_foreseen, below, walks, walked}
-use Rattle.pe_base.proofs.Lists.{Each, Each-all, Each-weaker, filter_same, filter_none, list_any_same}
+use Rattle.pe_base.proofs.Lists.{Each-all, Each-weaker, filter_same, filter_none, list_any_same}
 use Rattle.pe_walk.specs.Tokens.{turned}
 use Rattle.pe_walk.specs.Takings.{loads_of, is_read, reads_of, writes_of, cell_reads_of, cell_writes_of, Grown}
 use Rattle.pe_walk.specs.Outlooks.{was_stored, outlook, stored_outlook, stored_walked, IsNew}

@@ -1,8 +1,6 @@
 -- Tests, lists and powers that several proofs need.
-use Rattle.std.proofs.Common.{◌≡◌, ◌⊎◌, inl, inr, ℕ, zero, suc, ◌*◌, ◌^◌, ◌≤◌, Bool, true, false, ◌&&◌, ◌||◌, List, [], ◌∷◌, refl, subst, pow-suc, arith}
+use Rattle.std.proofs.Common.{◌≡◌, ℕ, zero, suc, ◌*◌, ◌^◌, ◌≤◌, Bool, true, false, ◌&&◌, refl, subst, pow-suc, arith}
 use Rattle.std.proofs.Math.Nat.{mul-le-mul_right}
-use Rattle.std.specs.List.{AllByRecursion}
-use Rattle.pe_base.proofs.Lists.{Each}
 
 pub and_twice : (a b : Bool) → (a && (a && b)) ≡ (a && b)
 and_twice true b = refl

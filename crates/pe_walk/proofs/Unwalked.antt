@@ -15,7 +15,7 @@ use Rattle.pe_base.proofs.Tree.Mirrors.{Digits3, digit_lists_below}
 use Rattle.pe_base.proofs.Tree.Children.{child_of, children_are, reverse-children}
 use Rattle.pe_base.proofs.Tree.Corners.{own_corners}
 use Rattle.pe_base.proofs.Faces.FaceLists.{is_child_at, at_face_parts, leaving_is}
-use Rattle.pe_base.proofs.Tree.Ranks.{OnLevel, order_on_level, child_four, steps_within, list_any-Each, is_same-true, same_places}
+use Rattle.pe_base.proofs.Tree.Ranks.{OnLevel, order_on_level, child_four, steps_within, list_any-Each, same_places}
 use Rattle.pe_base.proofs.Faces.Quiet.{at_face_none, false_unless}
 use Rattle.pe_base.proofs.Faces.Waits.{digits_in, InTree, child_in_tree}
 use Rattle.pe_base.proofs.Steps.Counts.{reverse-order}

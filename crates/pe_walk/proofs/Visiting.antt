@@ -1,5 +1,5 @@
 -- The visit of a cell on stacks: its record comes to hand and leaves it, and in between the core.
-use Rattle.std.proofs.Common.{◌≡◌, ℕ, ℤ, ◌+◌, ◌^◌, ◌<◌, ◌≤◌, length, arith, Bool, true, false, ◌&&◌, List, [], ◌∷◌, Some, Result, Ok, Err, refl, sym, ap, subst, ◌∙◌}
+use Rattle.std.proofs.Common.{◌≡◌, ℕ, ℤ, ◌+◌, ◌^◌, ◌<◌, ◌≤◌, arith, Bool, true, false, ◌&&◌, List, [], Some, Result, Ok, Err, refl, sym, ap, subst, ◌∙◌}
 use Rattle.std.specs.Prelude.{nat_lt, OnOk, OnErr, IfErr, slice_get}
 use Rattle.std.proofs.lemmas.Bool.{lt-ltb, ltb-true}
 use Rattle.std.proofs.lemmas.Bool.Decides.{nat_tests}
@@ -17,7 +17,7 @@ use Rattle.pe_mapping.specs.Held.{Told, Adds}
 use Rattle.pe_mapping.proofs.Texts.{adds-nothing, part-nothing}
 use Rattle.pe_hang.specs.InHand.{map_holdings}
 use Rattle.pe_hang.specs.Moves.{allowed, may_rise, lend, give_up, pop, push}
-use Rattle.pe_hang.specs.Follows.{Follows, Fits, is_fit, Failure, halted, unwritten, wanting, unheard_of, Found, IsRoomier, HasOverfull, held_by, read_by}
+use Rattle.pe_hang.specs.Follows.{Follows, Fits, is_fit, Failure, halted, unwritten, wanting, unheard_of, Found, HasOverfull, held_by, read_by}
 use Rattle.pe_hang.proofs.Leading.{and_then-fits, follows-map, follows-behind, leads_start, leads_next, leads_rest, leads_err, leads_last}
 use Rattle.pe_hang.proofs.Moving.{allowed-fits, allowed-is, lend-is, pop-is, give_up-is, push-is}
 use Rattle.pe_base.specs.Walk.Touches.{tally_cell}

@@ -1,8 +1,7 @@
 -- The walk of a cell, as a call does it, answers by the law of a face.
-use Rattle.std.proofs.Common.{◌≡◌, ℕ, suc, ◌+◌, ◌-◌, ◌≤◌, true, Result, Ok, Err, refl, sym, subst, ap, ap₂, ◌∙◌, arith}
+use Rattle.std.proofs.Common.{◌≡◌, ℕ, suc, ◌-◌, ◌≤◌, true, Result, Ok, Err, refl, sym, subst, ap, ap₂, ◌∙◌, arith}
 use Rattle.pe_base.specs.declared.place.Place.{Place}
 use Rattle.pe_base.specs.declared.setup.Setup.{Setup}
-use Rattle.pe_base.specs.declared.tally.Tally.{Tally}
 use Rattle.pe_base.specs.Tree.Dim.{IsDim}
 use Rattle.pe_base.specs.Acts.Effects.{Rules}
 use Rattle.pe_base.specs.Walk.Course.{Ending, done, halts, stuck, Course}
@@ -16,13 +15,13 @@ use Rattle.pe_walk.specs.Machine.{Machine, Ports}
 use Rattle.pe_walk.specs.Machine as machine
 use Rattle.pe_walk.specs.Gridded.{ports_of}
 use Rattle.pe_walk.specs.InHand.{setting_in, ports_of as ports_in}
-use Rattle.pe_walk.specs.CellTraffic.{CellTraffic, CountsAreFew}
+use Rattle.pe_walk.specs.CellTraffic.{CountsAreFew}
 use Rattle.pe_walk.specs.Traversing.{Stores}
 use Rattle.pe_walk.specs.FaceLaw.{Moment, MayWalk, IsAt, HasWalked, CellEndsAlike, IsBrief, IsCellWalked, WalksCell, CellAnswers, by_address}
 use Rattle.pe_walk.proofs.Traversing.{of_all}
 use Rattle.pe_walk.proofs.Tokens.CellTraffic.{still_few}
 use Rattle.pe_walk.proofs.Simulation.FaceLaw.{law_of_a_face}
-use Rattle.pe_walk.proofs.Simulation.Tallied.Alike.{CountAlike, alike-sym, cell-alike}
+use Rattle.pe_walk.proofs.Simulation.Tallied.Alike.{CountAlike, cell-alike}
 use Rattle.pe_walk.proofs.Simulation.Tallied.Cells.{cells_are_exact}
 
 -- the machine's walk of the cell, by what a call is given

@@ -1,7 +1,7 @@
 -- Calls of a walk that go along with the machine, one after another.
-use Rattle.std.proofs.Common.{◌≡◌, ℕ, ℤ, ◌≤◌, List, Result, Ok, Err, refl, sym, ap, subst, ◌∙◌, arith}
+use Rattle.std.proofs.Common.{◌≡◌, ℕ, Result, Ok, Err, refl, sym, subst, ◌∙◌}
 use Rattle.pe_base.specs.Acts.Effects.{Rules}
-use Rattle.pe_base.specs.Walk.Course.{Course, and_then, course_map}
+use Rattle.pe_base.specs.Walk.Course.{Course, and_then}
 use Rattle.pe_base.specs.Walk.Core.{Setting}
 use Rattle.pe_stacks.specs.declared.record.Vertex.{Vertex}
 use Rattle.pe_stacks.specs.declared.record.CellRec.{CellRec}
@@ -10,8 +10,8 @@ use Rattle.pe_stacks.specs.Holdings.{Holdings, KeepsRoom}
 use Rattle.pe_mapping.specs.Held.{Held, Keeps}
 use Rattle.pe_mapping.specs.Sights.{Numbers}
 use Rattle.pe_hang.specs.InHand.{cells_on_stacks}
-use Rattle.pe_hang.specs.Follows.{Found, Failure, Follows, Fits, Leads, IsRoomier, found_of, held_by}
-use Rattle.pe_hang.proofs.Leading.{and_then-fits, follows-then, follows-map, leads_start, leads_rest, leads_next, leads_err, setting-kept}
+use Rattle.pe_hang.specs.Follows.{Found, Failure, Follows, Fits, IsRoomier, found_of, held_by}
+use Rattle.pe_hang.proofs.Leading.{follows-then, leads_start, leads_rest, leads_next, leads_err, setting-kept}
 use Rattle.pe_walk.specs.declared.settings.Settings.{Settings}
 use Rattle.pe_walk.specs.declared.progress.Progress.{Progress}
 use Rattle.pe_walk.specs.Machine.{Machine}

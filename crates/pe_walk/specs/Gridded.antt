@@ -1,19 +1,19 @@
 -- A grid on the stacks of the machine of lists, and what a traversal makes of it.
-use Rattle.std.specs.Prelude.{◌≡◌, ◌≢◌, ◌⊎◌, ℕ, ℤ, ◌+◌, ◌-◌, ◌*◌, ◌^◌, ◌≤◌, ◌<◌, Bool, not, ◌==◌, List, [], map, length, if◌then◌else◌}
+use Rattle.std.specs.Prelude.{◌≡◌, ◌≢◌, ◌⊎◌, ℕ, ◌+◌, ◌-◌, ◌*◌, ◌^◌, ◌≤◌, ◌<◌, Bool, not, ◌==◌, [], map, length, if◌then◌else◌}
 use Rattle.std.specs.List.{flat_map, AllByRecursion}
 use Rattle.pe_base.specs.declared.tally.Tally.{Tally}
 use Rattle.pe_base.specs.Acts.Effects.{VertexRecord, AreLawful}
 use Rattle.pe_base.specs.Tree.Places.{root}
 use Rattle.pe_base.specs.Tree.Ways.{way_of}
 use Rattle.pe_base.specs.Tree.Curve.{children}
-use Rattle.pe_base.specs.Walk.Course.{Cause, Ending, done, halts, stuck, Push, Course}
+use Rattle.pe_base.specs.Walk.Course.{Ending, done, halts, stuck, Push, Course}
 use Rattle.pe_base.specs.Walk.Core.{Setting}
 use Rattle.pe_base.specs.Walk.Working.{no_tally}
 use Rattle.pe_base.specs.Walk.Grids.{Grid, StoredVertex, IsWellFormed}
 use Rattle.pe_base.specs.Walk.Foreseen.{next_traversal, walks}
 use Rattle.pe_base.specs.Walk.Streams.{walked_cells, vertex_stream, cell_stream}
 use Rattle.pe_base.specs.Walk.Walk as model
-use Rattle.pe_stacks.specs.Holdings.{Holdings, stack_count, items_at, CountsWithin}
+use Rattle.pe_stacks.specs.Holdings.{stack_count, items_at, CountsWithin}
 use Rattle.pe_stacks.specs.Grid.{input_stack, cell_input_stack}
 use Rattle.pe_walk.specs.Machine.{Machine, Ports}
 use Rattle.pe_walk.specs.Machine as machine

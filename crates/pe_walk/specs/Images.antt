@@ -1,7 +1,7 @@
 -- The machine as the image of the working state by address and of the places on stacks.
 --
 -- A place that was not met yet has a record of some kind, which means nothing: its first touch overwrites the kind.
-use Rattle.std.specs.Prelude.{ℕ, ◌==◌, if◌then◌else◌}
+use Rattle.std.specs.Prelude.{◌==◌, if◌then◌else◌}
 use Rattle.pe_base.specs.declared.place.Place.{Place}
 use Rattle.pe_base.specs.Acts.Effects.{VertexRecord}
 use Rattle.pe_base.specs.Walk.Core.{Setting}

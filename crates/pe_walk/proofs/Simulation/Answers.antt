@@ -1,5 +1,4 @@
 -- A traversal on stacks is the walk by address.
-use Rattle.std.specs.Prelude.{List}
 use Rattle.pe_walk.specs.Gridded.{IsShort, StacksAreAddresses}
 use Rattle.pe_walk.proofs.Simulation.Traverses.{turns}
 use Rattle.pe_walk.proofs.Simulation.Ends.Turned.{turned_of}

@@ -1,26 +1,24 @@
 -- Whether the children of a cell are walked, and of which kind they are: by the cell's corners in hand it is as foreseen.
-use Rattle.std.proofs.Common.{◌≡◌, ℕ, ◌+◌, ◌-◌, ◌^◌, ◌<◌, ◌≤◌, ◌≢◌, Bool, true, false, not, ◌==◌, ◌||◌, List, [], ◌∷◌, map, Option, Some, refl, sym, ap, ap₂, subst, ◌∙◌, inl, inr, arith}
-use Rattle.std.specs.Prelude.{if◌then◌else◌, is_some}
+use Rattle.std.proofs.Common.{◌≡◌, ℕ, ◌+◌, ◌-◌, ◌^◌, ◌<◌, ◌≤◌, ◌≢◌, Bool, true, false, not, ◌==◌, ◌||◌, List, [], ◌∷◌, map, refl, sym, ap, ap₂, ◌∙◌, inl, arith}
+use Rattle.std.specs.Prelude.{if◌then◌else◌}
 use Rattle.std.specs.Option.{unwrap_or}
 use Rattle.std.specs.List.{list_any, range_with_len}
 use Rattle.std.proofs.lemmas.Bool.{eqb-true, eqb-false}
 use Rattle.pe_base.specs.declared.place.Place.{Place}
-use Rattle.pe_base.specs.declared.kind.Kind.{Kind}
-use Rattle.pe_base.specs.declared.kind.Kind.TheVariants.{Kept, Born, Dying, Hanging}
-use Rattle.pe_base.specs.Tree.Places.{corner, corners, parent_of}
+use Rattle.pe_base.specs.declared.kind.Kind.TheVariants.{Kept, Born}
+use Rattle.pe_base.specs.Tree.Places.{corner}
 use Rattle.pe_base.specs.Life.States.{is_old, is_new}
-use Rattle.pe_base.specs.Life.Kinds.{kind_from, is_hanging}
+use Rattle.pe_base.specs.Life.Kinds.{kind_from}
 use Rattle.pe_base.specs.Acts.Effects.{VertexRecord}
 use Rattle.pe_base.specs.Walk.Maps.{at}
 use Rattle.pe_base.specs.Walk.Core.{Setting}
-use Rattle.pe_base.specs.Walk.Working.{Working, no_vertex, record_at, records_of, family_of}
+use Rattle.pe_base.specs.Walk.Working.{Working, no_vertex, record_at, records_of}
 use Rattle.pe_base.specs.Walk.Touches.{kind_below, kind_of_children}
 use Rattle.pe_base.proofs.Lists.{Each}
 use Rattle.pe_base.proofs.Walk.Families.{Each-range}
 use Rattle.pe_base.proofs.Walk.Slots.{is_hung}
-use Rattle.pe_walk.specs.Machine.{Machine, kind_of_cell}
 use Rattle.pe_walk.specs.Tokens.{Outlook, Tokens}
-use Rattle.pe_walk.specs.Standing.{Foresight, Foresees, Outset, Stage, IsStage, Stands, Fair, Holds, IsOutset, IsFair, IsIdle}
+use Rattle.pe_walk.specs.Standing.{Foresight, Foresees, Outset, Stage, IsStage, Holds, IsOutset, IsFair, IsIdle}
 use Rattle.pe_walk.proofs.Simulation.LoadedKinds.{found_stored, idle_if}
 
 -- a record's marks are those foreseen of a vertex

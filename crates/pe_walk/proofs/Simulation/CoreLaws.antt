@@ -1,5 +1,5 @@
 -- What the core keeps of the records in hand: kinds, and old and new.
-use Rattle.std.proofs.Common.{◌≡◌, ℕ, ℤ, zero, suc, ◌-◌, ◌≤◌, Bool, true, false, ◌&&◌, List, [], ◌∷◌, length, Option, Some, None, refl, sym, ap, subst, ◌∙◌, inl, inr}
+use Rattle.std.proofs.Common.{◌≡◌, ℕ, ℤ, suc, ◌-◌, ◌≤◌, Bool, true, false, ◌&&◌, List, [], ◌∷◌, length, Option, Some, None, refl, sym, ap, subst, ◌∙◌, inl, inr}
 use Rattle.std.specs.Prelude.{nat_lt, if◌then◌else◌}
 use Rattle.std.specs.Option.{unwrap_or}
 use Rattle.std.proofs.lemmas.Bool.{le-ltb}
@@ -11,9 +11,9 @@ use Rattle.pe_base.specs.declared.event.Event.{Event}
 use Rattle.pe_base.specs.declared.event.Event.TheVariants.{TouchVertexFirstTime, TouchVertexLastTime, CreateInnerVertex, CreateHangingVertex, DestroyVertex, DestroyHangingVertex, CreateCell, DestroyCell, EnterCell, LeaveCell}
 use Rattle.pe_base.specs.declared.state.State.{State}
 use Rattle.pe_base.specs.declared.state.State.TheVariants.{Unrefined, RefinementTriggered}
-use Rattle.pe_base.specs.Life.States.{is_old, is_new, is_stored, refined_state, erased_state}
-use Rattle.pe_base.specs.Acts.Effects.{VertexRecord, Seen, Fault, Outcome, Rules, MayBecome, IsTriggered, AreTriggered, IsTriggeredIfAny, MayLeave, AreLawful}
-use Rattle.pe_base.specs.Walk.Course.{Ending, done, halts, stuck, Course, and_then, course_map}
+use Rattle.pe_base.specs.Life.States.{is_stored, refined_state, erased_state}
+use Rattle.pe_base.specs.Acts.Effects.{VertexRecord, Seen, Fault, Outcome, MayBecome, IsTriggered, AreTriggered, IsTriggeredIfAny, MayLeave, AreLawful}
+use Rattle.pe_base.specs.Walk.Course.{done, and_then, course_map}
 use Rattle.pe_base.specs.Walk.Core.{Setting, Family, Own, ended_by, fire, family_after, vertex_event, cell_event, fresh_vertex, read_vertex, load_touch, given_up, written, store_of, store_touch, enter_touch, leave_touch}
 use Rattle.pe_base.proofs.Walk.TableLaws.{keeps_marks}
 use Rattle.pe_walk.specs.CoreKeeps.{IsFinest, IsAlike, AreAlike, loaded, stays, stored_as, IsStoredAlike, KeepsParents, CoreKeeps}

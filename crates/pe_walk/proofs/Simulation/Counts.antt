@@ -1,11 +1,10 @@
 -- A cell is counted; and events of a traversal as a whole.
-use Rattle.std.proofs.Common.{◌≡◌, ℕ, ℤ, ◌+◌, ◌*◌, ◌^◌, ◌<◌, ◌≤◌, Bool, true, false, ◌&&◌, List, [], length, Option, Some, refl, sym, ap, ap₂, subst, ◌∙◌, arith}
+use Rattle.std.proofs.Common.{◌≡◌, ℕ, ℤ, ◌+◌, ◌*◌, ◌^◌, ◌<◌, ◌≤◌, Bool, true, false, List, refl, sym, ap, subst, arith}
 use Rattle.std.specs.Prelude.{nat_lt}
 use Rattle.std.proofs.lemmas.Bool.{lt-ltb, ltb-false, and_from}
 use Rattle.pe_base.specs.declared.place.Place.{Place}
-use Rattle.pe_base.specs.declared.event.Event.{Event}
 use Rattle.pe_base.specs.declared.tally.Tally.{Tally}
-use Rattle.pe_base.specs.Walk.Course.{Push, Course, done, halts, limit_at, ends, at_once}
+use Rattle.pe_base.specs.Walk.Course.{Push, Course, halts, limit_at, ends, at_once}
 use Rattle.pe_base.specs.Walk.Core.{Setting, plain_event}
 use Rattle.pe_base.specs.Walk.Working.{Working}
 use Rattle.pe_base.specs.Walk.Touches.{tally_cell, count_cell, within_limit}
@@ -14,8 +13,8 @@ use Rattle.pe_hang.specs.Moves.{allowed, may_rise}
 use Rattle.pe_walk.specs.Machine.{Machine, tally_may_rise}
 use Rattle.pe_walk.specs.Machine as machine
 use Rattle.pe_walk.specs.Tokens.{Tokens}
-use Rattle.pe_walk.specs.Standing.{Outset, Stage, per_cell, Owes, Holds, IsOutset, IsStage, Fair, Stands}
-use Rattle.pe_walk.proofs.Simulation.Matching.{Matches, Steps, some_same, done_same, core-matches, mapped-done}
+use Rattle.pe_walk.specs.Standing.{Outset, Stage, per_cell, Owes, Holds, IsOutset, Fair}
+use Rattle.pe_walk.proofs.Simulation.Matching.{Steps, some_same, done_same, core-matches, mapped-done}
 use Rattle.pe_walk.proofs.Simulation.Silent.{plain-silent}
 use Rattle.pe_walk.proofs.Simulation.Leaves.{image_of, ports, after_count, CountLeaf, PlainLeaf}
 

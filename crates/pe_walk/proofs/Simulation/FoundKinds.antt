@@ -1,24 +1,20 @@
 -- The kind of a corner as it is found: by the map, and by the parent's corners in hand, it is the one foreseen.
-use Rattle.std.proofs.Common.{◌≡◌, ◌⊎◌, ℕ, zero, suc, ◌+◌, ◌-◌, ◌*◌, ◌/◌, ◌%◌, ◌^◌, ◌<◌, ◌≤◌, ◌≢◌, Bool, true, false, not, ◌&&◌, ◌||◌, ◌==◌, List, [], ◌∷◌, map, length, Option, Some, None, refl, sym, ap, ap₂, subst, ◌∙◌, inl, inr, arith}
-use Rattle.std.specs.Prelude.{if◌then◌else◌, slice_get, is_some}
-use Rattle.std.specs.Option.{option_map, unwrap_or}
+use Rattle.std.proofs.Common.{◌≡◌, ℕ, zero, suc, ◌+◌, ◌-◌, ◌*◌, ◌/◌, ◌%◌, ◌^◌, ◌<◌, ◌≤◌, ◌≢◌, Bool, true, false, ◌||◌, ◌==◌, List, [], ◌∷◌, map, length, Option, Some, refl, sym, ap, ap₂, ◌∙◌, arith}
+use Rattle.std.specs.Prelude.{if◌then◌else◌, slice_get}
+use Rattle.std.specs.Option.{option_map}
 use Rattle.std.specs.List.{list_any, range_with_len, AllByRecursion}
 use Rattle.std.proofs.lemmas.Bool.{eqb-true, eqb-false}
 use Rattle.pe_base.specs.declared.place.Place.{Place}
 use Rattle.pe_base.specs.declared.state.State.{State}
-use Rattle.pe_base.specs.declared.kind.Kind.{Kind}
-use Rattle.pe_base.specs.declared.kind.Kind.TheVariants.{Kept, Born, Dying, Hanging}
-use Rattle.pe_base.specs.Tree.Places.{corner, bits, moved, parent_of, IsPosition}
+use Rattle.pe_base.specs.Tree.Places.{corner, bits, moved, parent_of}
 use Rattle.pe_base.specs.Life.States.{is_old, is_new}
-use Rattle.pe_base.specs.Life.Kinds.{kind_from, is_hanging, level_one_kind}
+use Rattle.pe_base.specs.Life.Kinds.{kind_from, level_one_kind}
 use Rattle.pe_base.specs.Life.Carriers.{carriers, passes, is_carried, kind_by}
 use Rattle.pe_base.specs.Acts.Effects.{VertexRecord}
 use Rattle.pe_base.specs.Walk.Laws.{IsCornerOf}
-use Rattle.pe_base.specs.Walk.Maps.{at}
-use Rattle.pe_base.specs.Walk.Core.{Setting, way}
-use Rattle.pe_base.specs.Walk.Working.{Working, state_of, vertex_at, record_at, records_of, family_of}
+use Rattle.pe_base.specs.Walk.Core.{Setting}
+use Rattle.pe_base.specs.Walk.Working.{Working, record_at, records_of}
 use Rattle.pe_base.proofs.Tree.PlaceLaws.{bits-suc}
-use Rattle.pe_base.proofs.Walk.CarrierLaws.{carriers_are_parents}
 use Rattle.pe_adapt.specs.Touches.{offset_number, corner_number, state_in_hand}
 use Rattle.pe_walk.specs.Standing.{Foresight}
 

@@ -1,9 +1,8 @@
 -- The steps of a walk that the simulation rests on, as statements: at each stage the machine is the image of the working
 -- state and of the places on stacks, and what holds at the stage holds at the next.
-use Rattle.std.specs.Prelude.{◌≡◌, ℕ, zero, suc, ◌+◌, ◌-◌, ◌^◌, ◌<◌, ◌≤◌, Bool, true, ◌==◌, if◌then◌else◌, List, [], ◌∷◌, ◌++◌, map, Option, Some}
+use Rattle.std.specs.Prelude.{◌≡◌, ℕ, suc, ◌+◌, ◌-◌, ◌^◌, ◌<◌, ◌≤◌, List, [], ◌∷◌, ◌++◌, map, Some}
 use Rattle.std.specs.List.{range_with_len, flat_map}
 use Rattle.pe_base.specs.declared.place.Place.{Place}
-use Rattle.pe_base.specs.declared.kind.Kind.{Kind}
 use Rattle.pe_base.specs.declared.event.Event.{Event}
 use Rattle.pe_base.specs.declared.event.Event.TheVariants.{BeginIteration, EndIteration}
 use Rattle.pe_base.specs.Tree.Places.{root}
@@ -11,11 +10,10 @@ use Rattle.pe_base.specs.Tree.Curve.{children}
 use Rattle.pe_base.specs.Acts.Effects.{VertexRecord}
 use Rattle.pe_base.specs.Walk.Course.{Push, Course, at_once, and_then, course_map, each}
 use Rattle.pe_base.specs.Walk.Core.{Setting, Own, way}
-use Rattle.pe_base.specs.Walk.Working.{Working, vertex_at, cell_at, record_at, family_of, own_of}
+use Rattle.pe_base.specs.Walk.Working.{Working, record_at, own_of}
 use Rattle.pe_base.specs.Walk.Touches as model
 use Rattle.pe_base.specs.Walk.Walk as walks
 use Rattle.pe_base.specs.Walk.Streams.{walked_cells}
-use Rattle.pe_hang.specs.InHand.{map_holdings}
 use Rattle.pe_walk.specs.Machine.{Machine, Ports}
 use Rattle.pe_walk.specs.Machine as machine
 use Rattle.pe_walk.specs.Tokens.{Outlook, Tokens, each_some}

@@ -1,5 +1,5 @@
 -- What is put back at a cell changes nothing at cells and vertices of other levels.
-use Rattle.std.proofs.Common.{◌≡◌, ℕ, ℤ, zero, suc, ◌+◌, ◌^◌, ◌<◌, ◌≤◌, ◌≢◌, Bool, true, false, ◌&&◌, ◌==◌, List, [], ◌∷◌, map, length, Option, Some, None, refl, sym, ap, ap₂, subst, ◌∙◌, arith}
+use Rattle.std.proofs.Common.{◌≡◌, ℕ, ℤ, ◌^◌, ◌≢◌, Bool, true, false, ◌&&◌, ◌==◌, List, [], ◌∷◌, map, length, Some, refl, sym, ap, ◌∙◌}
 use Rattle.std.specs.Prelude.{nat_eq, if◌then◌else◌}
 use Rattle.std.specs.Option.{unwrap_or}
 use Rattle.std.specs.List.{range_with_len}
@@ -7,17 +7,17 @@ use Rattle.std.specs.Cmp.Lexicographic.{pointwise}
 use Rattle.std.proofs.lemmas.Bool.{ne_eqb}
 use Rattle.std.proofs.Math.Bool.{and-false}
 use Rattle.pe_base.specs.declared.place.Place.{Place}
-use Rattle.pe_base.specs.Tree.Places.{corner, is_same, is_same_pos}
+use Rattle.pe_base.specs.Tree.Places.{corner, is_same}
 use Rattle.pe_base.specs.Acts.Effects.{VertexRecord}
 use Rattle.pe_base.specs.Walk.Maps.{at}
-use Rattle.pe_base.specs.Walk.Core.{Family, Own}
-use Rattle.pe_base.specs.Walk.Working.{Working, cell_at, put_cell, record_at, records_of, put_records, family_of, put_family, own_of, put_own}
+use Rattle.pe_base.specs.Walk.Core.{Family}
+use Rattle.pe_base.specs.Walk.Working.{Working, cell_at, put_cell, record_at, records_of, put_records, put_family, own_of}
 use Rattle.pe_base.proofs.Lists.{Each, map_same, Each-all}
 use Rattle.pe_base.proofs.Walk.MapLaws.{at-put}
-use Rattle.pe_base.proofs.Walk.Slots.{Slot, read, is_slot, slot_if, slot_of, is_hung, HangsSame, slot_of-same, record_at-is, SameBeside}
-use Rattle.pe_base.proofs.Walk.Families.{slots, slots_from, read-put_records, hangs-put_records, beside-put_records, family_of-put_family, own_of-put_own}
+use Rattle.pe_base.proofs.Walk.Slots.{read, is_slot, slot_if, slot_of, is_hung, slot_of-same, record_at-is}
+use Rattle.pe_base.proofs.Walk.Families.{read-put_records, hangs-put_records, beside-put_records}
 pub use Rattle.pe_base.proofs.Walk.Frames.{levels_differ}
-use Rattle.pe_walk.proofs.Simulation.Putting.{IsOff, at-put_records}
+use Rattle.pe_walk.proofs.Simulation.Putting.{at-put_records}
 
 -- corners of cells of two levels have two slots
 slots_apart : (axes : ℕ) (cell x : Place) (j k : ℕ) (b c : Bool) → cell.level ≢ x.level → is_slot (slot_if axes b cell j) (slot_if axes c x k) ≡ false

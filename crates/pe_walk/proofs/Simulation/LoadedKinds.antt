@@ -1,8 +1,6 @@
 -- At a load, the kind of a corner is the one foreseen, by the map and by the parent's corners in hand.
-use Rattle.std.proofs.Common.{◌≡◌, ◌⊎◌, ℕ, zero, suc, ◌+◌, ◌-◌, ◌/◌, ◌^◌, ◌<◌, ◌≤◌, ◌≢◌, Bool, true, false, not, ◌==◌, List, [], ◌∷◌, length, Option, Some, None, refl, sym, ap, ap₂, subst, ◌∙◌, inl, inr, arith}
+use Rattle.std.proofs.Common.{◌≡◌, ℕ, ◌/◌, ◌^◌, ◌<◌, ◌≤◌, Bool, true, false, not, length, None, refl, sym, ap, subst, ◌∙◌, inl, arith}
 use Rattle.std.specs.Option.{option_map, unwrap_or}
-use Rattle.std.specs.List.{list_any, AllByRecursion}
-use Rattle.std.proofs.lemmas.Bool.{cases_Bool}
 use Rattle.std.proofs.lemmas.List.{length-map}
 use Rattle.pe_base.specs.declared.place.Place.{Place}
 use Rattle.pe_base.specs.declared.way.Way.{Way}
@@ -12,20 +10,20 @@ use Rattle.pe_base.specs.declared.kind.Kind.TheVariants.{Kept, Born, Dying, Hang
 use Rattle.pe_base.specs.Tree.Places.{corner, parent_of}
 use Rattle.pe_base.specs.Life.States.{is_old, is_new}
 use Rattle.pe_base.specs.Life.Kinds.{is_hanging}
-use Rattle.pe_base.specs.Life.Carriers.{carriers, passes}
+use Rattle.pe_base.specs.Life.Carriers.{passes}
 use Rattle.pe_base.specs.Acts.Effects.{VertexRecord}
 use Rattle.pe_base.specs.Walk.Maps.{at}
 use Rattle.pe_base.specs.Walk.Core.{Setting, way}
 use Rattle.pe_base.specs.Walk.Working.{Working, no_vertex, state_of, vertex_at, record_at, records_of, family_of}
 use Rattle.pe_base.specs.Walk.Touches.{kind_of_vertex}
 use Rattle.pe_base.proofs.Walk.CarrierLaws.{carriers_are_parents}
-use Rattle.pe_base.proofs.Walk.Slots.{Slot, read, slot_if, slot_of, is_hung, record_at-is}
+use Rattle.pe_base.proofs.Walk.Slots.{read, slot_if, is_hung, record_at-is}
 use Rattle.pe_adapt.specs.Touches.{state_in_hand, kind_in_hand}
 use Rattle.pe_walk.specs.Laws.{IsCell}
 use Rattle.pe_walk.specs.Tokens.{Outlook, Tokens}
 use Rattle.pe_walk.proofs.Trees.{cell_position}
 use Rattle.pe_walk.proofs.Unwalked.{cell_four}
-use Rattle.pe_walk.specs.Standing.{Foresight, Foresees, IsForeseen, Outset, IsOutset, Stage, IsStage, Holds, Stands, Fair, IsFair, IsIdle, IsLive, KindsAreFound}
+use Rattle.pe_walk.specs.Standing.{Foresight, Foresees, IsForeseen, Stage, Stands, Fair, IsFair, IsIdle, KindsAreFound}
 use Rattle.pe_walk.proofs.Simulation.FoundKinds.{kind_by-foreseen, state_in_hand-corner}
 
 -- a corner that does not hang is found under its place, also by its number

@@ -1,12 +1,12 @@
 -- Steps of a model and of a machine that match: they add one text, and end alike, where the machine is an image of the
 -- model's state. What the machine logs has room.
-use Rattle.std.proofs.Common.{◌≡◌, ℕ, List, [], ◌∷◌, ◌++◌, refl, sym, ap, ap₂, subst, ◌∙◌, Option, Some, None}
+use Rattle.std.proofs.Common.{◌≡◌, List, [], ◌∷◌, ◌++◌, refl, sym, ap, ap₂, subst, ◌∙◌, Option, Some, None}
 use Rattle.std.specs.Option.{option_and_then}
 use Rattle.std.proofs.lemmas.List.{append_assoc, append-nil}
 use Rattle.pe_base.proofs.Lists.{Each, Each-append}
 pub use Rattle.pe_base.proofs.Walk.Courses.{done_same, mapped-done, then-done}
 use Rattle.pe_walk.specs.Tokens.{each_some}
-use Rattle.pe_base.specs.Walk.Course.{Cause, Ending, done, halts, stuck, Push, Course, ends, at_once, behind, from, and_then, course_map, each}
+use Rattle.pe_base.specs.Walk.Course.{Ending, done, halts, stuck, Push, Course, ends, at_once, behind, from, and_then, course_map, each}
 
 -- an ending with its result turned
 abbrev pub ending_map : {X Y : Type 0} → (X → Y) → Ending X → Ending Y

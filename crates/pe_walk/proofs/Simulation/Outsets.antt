@@ -1,12 +1,10 @@
 -- What is foreseen of a traversal of a grid is a foresight for the walk.
-use Rattle.std.proofs.Common.{◌≡◌, ◌⊎◌, ℕ, zero, suc, ◌+◌, ◌-◌, ◌^◌, ◌<◌, ◌≤◌, ◌≢◌, Bool, true, false, not, ◌&&◌, ◌||◌, ◌==◌, List, [], ◌∷◌, map, length, Option, Some, None, refl, sym, ap, ap₂, subst, ◌∙◌, inl, inr, arith, is_some, true≢false, if◌then◌else◌}
+use Rattle.std.proofs.Common.{◌≡◌, ℕ, zero, suc, ◌+◌, ◌-◌, ◌^◌, ◌<◌, ◌≤◌, Bool, true, false, not, ◌&&◌, ◌||◌, ◌==◌, Option, Some, None, refl, sym, ap, ap₂, subst, ◌∙◌, inl, inr, arith, is_some, true≢false, if◌then◌else◌}
 use Rattle.std.specs.Prelude.{nat_lt}
 use Rattle.std.specs.Option.{option_map, unwrap_or}
-use Rattle.std.specs.List.{list_any, AllByRecursion}
-use Rattle.std.proofs.lemmas.Bool.{le-ltb, lt-ltb, ne_eqb}
-use Rattle.std.proofs.Math.Bool.{and-false}
+use Rattle.std.specs.List.{list_any}
+use Rattle.std.proofs.lemmas.Bool.{lt-ltb, ne_eqb}
 use Rattle.pe_base.specs.declared.place.Place.{Place}
-use Rattle.pe_base.specs.declared.state.State.{State}
 use Rattle.pe_base.specs.declared.state.State.TheVariants.{Unrefined}
 use Rattle.pe_base.specs.declared.kind.Kind.{Kind}
 use Rattle.pe_base.specs.declared.kind.Kind.TheVariants.{Kept, Born, Dying, Hanging}
@@ -16,17 +14,14 @@ use Rattle.pe_base.specs.Life.States.{is_old, is_new, is_stored}
 use Rattle.pe_base.specs.Life.Table.{first_touch, start_state}
 use Rattle.pe_base.specs.Life.Kinds.{kind_from, is_hanging, is_inside, level_one_kind}
 use Rattle.pe_base.specs.Life.Carriers.{carriers, passes, is_carried}
-use Rattle.pe_base.specs.Acts.Effects.{VertexRecord, AreLawful}
+use Rattle.pe_base.specs.Acts.Effects.{VertexRecord}
 use Rattle.pe_base.specs.Walk.Maps.{at}
 use Rattle.pe_base.specs.Walk.Core.{Setting, way}
-use Rattle.pe_base.specs.Walk.Laws.{IsCornerOf}
-use Rattle.pe_base.specs.Walk.Grids.{Grid, StoredVertex, state_in, is_stored_vertex, IsWellFormed}
-use Rattle.pe_base.specs.Walk.Foreseen.{next_traversal, was, touched_state, will_on, will, kind_foreseen, counts, state_foreseen, old_foreseen, new_foreseen, below, walks, walked}
+use Rattle.pe_base.specs.Walk.Grids.{Grid, StoredVertex, state_in, is_stored_vertex}
+use Rattle.pe_base.specs.Walk.Foreseen.{next_traversal, was, touched_state, will_on, will, kind_foreseen, old_foreseen, new_foreseen, below}
 use Rattle.pe_base.proofs.Lists.{Each, Each-weaker, Each-all, Each-In, list_any_none, list_any_same}
 use Rattle.pe_walk.specs.Laws.{IsCell}
-use Rattle.pe_walk.specs.Tokens.{Outlook}
-use Rattle.pe_walk.specs.Outlooks.{outlook, was_stored, IsNew}
-use Rattle.pe_walk.specs.CoreKeeps.{IsFinest}
+use Rattle.pe_walk.specs.Outlooks.{outlook, was_stored}
 use Rattle.pe_walk.specs.Standing.{Foresight, IsForeseen, StartsFinest, Foresees}
 use Rattle.pe_walk.specs.Gridded.{IsTraversalOf}
 use Rattle.pe_base.specs.Tree.Curve.{order}

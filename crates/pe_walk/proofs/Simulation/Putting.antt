@@ -1,20 +1,19 @@
 -- What putting back the records in hand changes in the working state, and what it leaves.
-use Rattle.std.proofs.Common.{◌≡◌, ◌⊎◌, ℕ, ℤ, zero, suc, ◌+◌, ◌^◌, ◌<◌, ◌≤◌, ◌≢◌, Bool, true, false, cond, not, ◌&&◌, List, [], ◌∷◌, map, length, get_or, Option, Some, None, refl, sym, ap, subst, ◌∙◌, inl, inr, arith}
+use Rattle.std.proofs.Common.{◌≡◌, ℕ, ◌^◌, ◌<◌, ◌≤◌, Bool, true, false, List, [], ◌∷◌, map, length, Some, refl, ap, ◌∙◌, arith}
 use Rattle.std.specs.Prelude.{if◌then◌else◌, sum_by, count_by}
 use Rattle.std.specs.Option.{unwrap_or}
-use Rattle.std.specs.List.{range_with_len}
 use Rattle.std.proofs.lemmas.List.Sums.{sum_by-cons}
 use Rattle.pe_base.specs.declared.place.Place.{Place}
 use Rattle.pe_base.specs.Tree.Places.{corner, is_same}
 use Rattle.pe_base.specs.Acts.Effects.{VertexRecord}
 use Rattle.pe_base.specs.Walk.Maps.{at}
-use Rattle.pe_base.specs.Walk.Core.{Family, Own}
-use Rattle.pe_base.specs.Walk.Working.{Working, vertex_at, cell_at, put_cell, put_records, put_records_from, family_of, put_family}
+use Rattle.pe_base.specs.Walk.Core.{Family}
+use Rattle.pe_base.specs.Walk.Working.{Working, cell_at, put_cell, put_records, family_of, put_family}
 use Rattle.pe_base.proofs.Lists.{Each, map_same}
 use Rattle.pe_base.proofs.Steps.Counts.{is_same_itself}
 use Rattle.pe_base.proofs.Walk.MapLaws.{at-put}
-use Rattle.pe_base.proofs.Walk.Slots.{Slot, stored, hangs, read, write, is_slot, slot_if, slot_of, is_hung, HangsSame, write_all, SameBeside}
-use Rattle.pe_base.proofs.Walk.Families.{slots, slots_from, put_records-is, hangs-put_records, beside-put_records, family_of-put_family, read-put_records, Each-slots}
+use Rattle.pe_base.proofs.Walk.Slots.{Slot, stored, hangs, write, is_slot, slot_if, is_hung, write_all}
+use Rattle.pe_base.proofs.Walk.Families.{slots, slots_from, put_records-is, hangs-put_records, beside-put_records, family_of-put_family, Each-slots}
 use Rattle.pe_stacks.specs.Holdings.{Holdings, Stack}
 use Rattle.pe_hang.specs.InHand.{map_stack, map_holdings}
 use Rattle.pe_walk.specs.Apart.{lies}

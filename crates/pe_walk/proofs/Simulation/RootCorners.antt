@@ -1,5 +1,5 @@
 -- The root's corners as a traversal begins: they are made and lent, and hang.
-use Rattle.std.proofs.Common.{◌≡◌, ◌⊎◌, ℕ, ℤ, zero, suc, ◌+◌, ◌-◌, ◌^◌, ◌<◌, ◌≤◌, ◌≢◌, Bool, true, false, ◌&&◌, ◌==◌, List, [], ◌∷◌, map, length, Option, Some, None, refl, sym, ap, ap₂, subst, ◌∙◌, arith, is_some, true≢false, if◌then◌else◌, inl, inr}
+use Rattle.std.proofs.Common.{◌≡◌, ◌⊎◌, ℕ, zero, suc, ◌+◌, ◌^◌, ◌<◌, ◌≤◌, Bool, true, false, ◌&&◌, ◌==◌, List, ◌∷◌, map, Some, refl, sym, ap, ap₂, subst, ◌∙◌, arith, is_some, if◌then◌else◌, inl, inr}
 use Rattle.std.specs.Prelude.{nat_eq}
 use Rattle.std.specs.Cmp.Lexicographic.{pointwise}
 use Rattle.std.proofs.Math.Bool.{and-false}
@@ -9,19 +9,19 @@ use Rattle.std.proofs.lemmas.Bool.{ne_eqb, eq-eqb, lt-ltb}
 use Rattle.pe_base.specs.declared.place.Place.{Place}
 use Rattle.pe_base.specs.declared.state.State.TheVariants.{Unrefined}
 use Rattle.pe_base.specs.declared.kind.Kind.TheVariants.{Hanging}
-use Rattle.pe_base.specs.Tree.Places.{root, corner, is_same}
+use Rattle.pe_base.specs.Tree.Places.{root, corner}
 use Rattle.pe_base.specs.Acts.Effects.{VertexRecord}
 use Rattle.pe_base.specs.Walk.Maps.{at_corner}
-use Rattle.pe_base.specs.Walk.Course.{Course, at_once, and_then}
-use Rattle.pe_base.specs.Walk.Core.{Setting, Family, fresh_vertex}
+use Rattle.pe_base.specs.Walk.Course.{at_once, and_then}
+use Rattle.pe_base.specs.Walk.Core.{Setting, fresh_vertex}
 use Rattle.pe_base.specs.Walk.Working.{Working, vertex_at, record_at, family_of}
 use Rattle.pe_base.specs.Walk.Walk as model
-use Rattle.pe_base.proofs.Lists.{Each, map_same}
+use Rattle.pe_base.proofs.Lists.{map_same}
 use Rattle.pe_base.proofs.Walk.MapLaws.{found-changed}
 use Rattle.pe_base.proofs.Walk.Slots.{is_hung}
 use Rattle.pe_base.proofs.Walk.Families.{Each-range}
 use Rattle.pe_stacks.specs.Holdings.{Holdings, lent}
-use Rattle.pe_hang.specs.Moves.{lend, allowed}
+use Rattle.pe_hang.specs.Moves.{allowed}
 use Rattle.pe_walk.specs.Machine.{Machine, Ports}
 use Rattle.pe_walk.specs.Machine as machine
 use Rattle.pe_walk.specs.Standing.{IsIdle}

@@ -1,11 +1,11 @@
 -- The core of a walk logs nothing: only a push on a stack is logged.
-use Rattle.std.proofs.Common.{◌≡◌, ℕ, ℤ, Bool, true, false, List, [], ◌∷◌, ◌++◌, Option, refl, ap₂, ◌∙◌}
+use Rattle.std.proofs.Common.{◌≡◌, ℤ, Bool, true, false, List, [], ◌++◌, refl, ap₂}
 use Rattle.pe_base.specs.declared.place.Place.{Place}
 use Rattle.pe_base.specs.declared.kind.Kind.{Kind}
 use Rattle.pe_base.specs.declared.kind.Kind.TheVariants.{Kept, Born, Dying, Hanging}
 use Rattle.pe_base.specs.declared.event.Event.{Event}
 use Rattle.pe_base.specs.declared.event.Event.TheVariants.{TouchVertexFirstTime, TouchVertexLastTime, CreateInnerVertex, CreateHangingVertex, DestroyVertex, DestroyHangingVertex, CreateCell, DestroyCell, EnterCell, LeaveCell}
-use Rattle.pe_base.specs.Acts.Effects.{VertexRecord, Seen}
+use Rattle.pe_base.specs.Acts.Effects.{VertexRecord}
 use Rattle.pe_base.specs.Walk.Course.{Ending, done, halts, stuck, Push, Course, at_once, from, and_then, course_map}
 use Rattle.pe_base.specs.Walk.Core.{Setting, Family, Own, fire, plain_event, vertex_event, cell_event, fresh_vertex, read_vertex, load_touch, given_up, written, store_of, store_touch, enter_touch, leave_touch}
 

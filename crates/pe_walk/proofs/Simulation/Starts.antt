@@ -1,41 +1,39 @@
 -- A traversal of a grid as it begins: its outset, its places on stacks, and its working state.
-use Rattle.std.proofs.Common.{◌≡◌, ◌⊎◌, ℕ, ℤ, zero, suc, ◌+◌, ◌-◌, ◌*◌, ◌^◌, ◌<◌, ◌≤◌, ◌≢◌, Bool, true, false, not, ◌&&◌, ◌||◌, ◌==◌, List, [], ◌∷◌, map, filter, cond, length, slice_index, get_or, take, drop, Option, Some, None, refl, sym, ap, ap₂, subst, ◌∙◌, arith, is_some, true≢false, if◌then◌else◌, inl, inr}
+use Rattle.std.proofs.Common.{◌≡◌, ◌⊎◌, ℕ, zero, suc, ◌+◌, ◌-◌, ◌*◌, ◌^◌, ◌<◌, ◌≤◌, Bool, true, false, not, ◌&&◌, ◌||◌, ◌==◌, List, [], ◌∷◌, map, length, slice_index, get_or, take, drop, Option, Some, None, refl, sym, ap, subst, ◌∙◌, arith, is_some, true≢false, if◌then◌else◌, inl, inr}
 use Rattle.std.specs.Prelude.{nat_lt, nat_le}
 use Rattle.std.proofs.lemmas.Bool.{lt-ltb, ltb-true, ltb-false, eq-eqb, eqb-true, ne_eqb, and_parts, or_right}
 use Rattle.std.proofs.lemmas.List.FromFn.{length-range_with_len}
 use Rattle.std.proofs.Math.Bool.{and-false}
 use Rattle.std.specs.Option.{option_map, unwrap_or}
-use Rattle.std.specs.List.{flat_map, list_all}
+use Rattle.std.specs.List.{list_all}
 use Rattle.pe_base.specs.declared.place.Place.{Place}
 use Rattle.pe_base.specs.declared.state.State.TheVariants.{Unrefined}
 use Rattle.pe_base.specs.Tree.Dim.{IsDim}
 use Rattle.pe_base.specs.Tree.Places.{root, corner, parent_of, is_same}
-use Rattle.pe_base.specs.Tree.Curve.{children}
 use Rattle.pe_base.specs.Acts.Effects.{VertexRecord}
-use Rattle.pe_base.specs.Walk.Maps.{at, put}
+use Rattle.pe_base.specs.Walk.Maps.{at}
 use Rattle.pe_base.specs.Walk.Core.{Setting}
 use Rattle.pe_base.specs.declared.way.Way.{Way}
 use Rattle.pe_base.specs.Walk.Grids.{Grid, StoredVertex, state_in, is_cell, is_refined_cell, is_stored_vertex, is_stored_cell, IsWellFormed}
 use Rattle.pe_base.specs.Walk.Streams.{walked_cells, next_way, goes_below, stream_vertices, stream_cells, vertex_stream, cell_stream}
 use Rattle.pe_base.specs.declared.kind.Kind.{Kind}
-use Rattle.pe_base.specs.Walk.Working.{Working, no_vertex, vertex_at, cell_at, begun as begun_of}
+use Rattle.pe_base.specs.Walk.Working.{Working, no_vertex, cell_at, begun as begun_of}
 use Rattle.pe_base.specs.Walk.Walk as model
-use Rattle.pe_stacks.specs.Holdings.{Stack, Holdings, new_stack, stack_at, stack_count, items_at, len_at}
+use Rattle.pe_stacks.specs.Holdings.{new_stack, items_at, len_at}
 use Rattle.pe_stacks.specs.Grid.{input_stack, cell_input_stack}
 use Rattle.pe_hang.specs.InHand.{map_holdings}
 use Rattle.pe_walk.specs.Machine.{Machine}
 use Rattle.pe_walk.specs.Tokens.{Outlook, Tokens, begun, numbers}
-use Rattle.pe_walk.specs.Tokens as tokens
 use Rattle.pe_walk.specs.Takings.{Grown, MayTraverse}
 use Rattle.pe_walk.specs.CellsAhead.{times, cells_below}
 use Rattle.pe_walk.specs.Laws.{IsCell}
 use Rattle.pe_walk.specs.Outlooks.{outlook, stored_outlook, stored_walked, IsNew}
 use Rattle.pe_walk.specs.Standing.{Outset, Stage, IsOutset, Foresees, Stands, Fair, Owes, Holds}
-use Rattle.pe_walk.specs.Gridded.{HoldsGrid, IsTraversalOf, MayTurn}
+use Rattle.pe_walk.specs.Gridded.{IsTraversalOf, MayTurn}
 use Rattle.pe_base.specs.Tree.Ways.{way_of}
 use Rattle.pe_base.specs.Walk.Foreseen.{next_traversal, walked}
 use Rattle.pe_base.proofs.Steps.Counts.{is_same_itself}
-use Rattle.pe_base.proofs.Lists.{Each, map_same, Each-all, Each-weaker, Each-filter}
+use Rattle.pe_base.proofs.Lists.{map_same, Each-all, Each-weaker, Each-filter}
 use Rattle.pe_base.proofs.Walk.MapLaws.{at-put}
 use Rattle.pe_base.proofs.Walk.MapLaws.{found-turned_by}
 use Rattle.pe_base.proofs.Tree.Ranks.{same_places}
@@ -53,7 +51,7 @@ use Rattle.pe_walk.proofs.Tokens.CellsAhead.{count-filter, cells_on_input, begin
 use Rattle.pe_walk.proofs.Tokens.CellsApart.{walked_cells_differ}
 use Rattle.pe_walk.proofs.Tokens.DepotCounts.{Lent, lent_counts}
 use Rattle.pe_walk.proofs.Tokens.Short.{begins_counting}
-use Rattle.pe_walk.proofs.Tokens.Traversals.{lent_items, lent_stacks}
+use Rattle.pe_walk.proofs.Tokens.Traversals.{lent_items}
 use Rattle.pe_walk.proofs.Simulation.Shared.{on_one, lies_counts}
 use Rattle.pe_walk.proofs.Simulation.Levels.{levels_differ}
 use Rattle.pe_walk.proofs.Simulation.Leaves.{record_of}
@@ -61,7 +59,7 @@ use Rattle.pe_walk.proofs.Simulation.Visits.Entering.{times-here, times-there}
 use Rattle.pe_walk.proofs.Simulation.Outsets.{as_begun, foresight_of, foresees}
 use Rattle.pe_walk.proofs.Simulation.RootCorners.{HasCorners, has_corners}
 use Rattle.pe_walk.proofs.Simulation.Cells.Corners.{down_from}
-use Rattle.pe_walk.proofs.Simulation.Begins.{stacks_with, places_with, count-with, WithItems, with_items, image-with, kind_among, with_kind, records_again}
+use Rattle.pe_walk.proofs.Simulation.Begins.{places_with, count-with, WithItems, with_items, image-with, kind_among, with_kind, records_again}
 use Rattle.pe_walk.proofs.Tokens.Bounds.{few_cell_input_stacks, few_input_stacks}
 
 -- the places of a grid's streams on the stacks of a machine; nothing is held, and nothing was met

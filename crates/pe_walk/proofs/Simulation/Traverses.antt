@@ -1,8 +1,8 @@
 -- A traversal of the machine is the walk by address.
-use Rattle.std.proofs.Common.{◌≡◌, ◌⊎◌, ℕ, ℤ, zero, suc, ◌+◌, ◌-◌, ◌*◌, ◌^◌, ◌<◌, ◌≤◌, Bool, true, false, ◌==◌, List, [], ◌∷◌, ◌++◌, map, reverse, length, Option, Some, None, refl, sym, ap, ap₂, subst, ◌∙◌, arith, if◌then◌else◌}
-use Rattle.std.specs.Option.{option_map, unwrap_or}
+use Rattle.std.proofs.Common.{◌≡◌, ℕ, suc, ◌+◌, ◌-◌, ◌^◌, ◌≤◌, Bool, true, List, [], ◌∷◌, ◌++◌, map, length, Some, refl, sym, ap, subst, ◌∙◌, arith, if◌then◌else◌}
+use Rattle.std.specs.Option.{unwrap_or}
 use Rattle.std.specs.List.{range_with_len}
-use Rattle.std.proofs.Math.Nat.{mul-le-mul_left, mul-le-mul_right}
+use Rattle.std.proofs.Math.Nat.{mul-le-mul_left}
 use Rattle.std.proofs.lemmas.Bool.{ne_eqb}
 use Rattle.std.proofs.lemmas.List.{append-nil}
 use Rattle.std.proofs.lemmas.List.FromFn.{length-range_with_len}
@@ -11,13 +11,12 @@ use Rattle.pe_base.specs.declared.event.Event.TheVariants.{BeginIteration, EndIt
 use Rattle.pe_base.specs.Tree.Places.{root}
 use Rattle.pe_base.specs.Tree.Curve.{children}
 use Rattle.pe_base.specs.declared.tally.Tally.{Tally}
-use Rattle.pe_base.specs.Acts.Effects.{VertexRecord}
 use Rattle.pe_base.specs.Walk.Maps.{at}
-use Rattle.pe_base.specs.Walk.Course.{Ending, done, halts, stuck, Push, Course, ends, at_once, behind, from, and_then, course_map, each}
-use Rattle.pe_base.specs.Walk.Core.{Setting, Family, way}
+use Rattle.pe_base.specs.Walk.Course.{Ending, done, halts, stuck, Push, Course, at_once, from, and_then, course_map, each}
+use Rattle.pe_base.specs.Walk.Core.{Setting, way}
 use Rattle.pe_base.specs.Walk.Grids.{Grid}
 use Rattle.pe_base.specs.Walk.Foreseen.{walked}
-use Rattle.pe_base.specs.Walk.Working.{Working, cell_at, records_of, record_at, family_of, begun as begun_of, ended as ended_of}
+use Rattle.pe_base.specs.Walk.Working.{Working, cell_at, records_of, record_at, begun as begun_of, ended as ended_of}
 use Rattle.pe_base.specs.Walk.Walk as model
 use Rattle.pe_base.proofs.Lists.{Each}
 use Rattle.pe_base.proofs.Steps.Counts.{is_same_itself}
@@ -41,11 +40,11 @@ use Rattle.pe_walk.proofs.Tests.{some_power, times_one}
 use Rattle.pe_walk.proofs.Tokens.Short.{stacks_are_short}
 use Rattle.pe_walk.proofs.Tokens.Apart.{map_some}
 use Rattle.pe_walk.proofs.Tokens.Traversals.{whole_traversal}
-use Rattle.pe_walk.proofs.Simulation.Matching.{Matches, Steps, ending_map, then-grouped}
+use Rattle.pe_walk.proofs.Simulation.Matching.{Matches, ending_map, then-grouped}
 use Rattle.pe_walk.proofs.Simulation.Leaves.{image_of, record_of, at_root}
 use Rattle.pe_walk.proofs.Simulation.RootCorners.{HasCorners, has_corners, lent_times, corners_made}
 use Rattle.pe_walk.proofs.Simulation.Starts.{tokens_of, outset_of, sound_of, dim_of, grown_of, vertices_at, cells_at, may_traverse, image_vertices, image_cells, cornered, start, is_outset, starts}
-use Rattle.pe_walk.proofs.Simulation.Cells.Corners.{down_from, reverse-range}
+use Rattle.pe_walk.proofs.Simulation.Cells.Corners.{reverse-range}
 use Rattle.pe_walk.proofs.Simulation.Cells.Simulated.{traversal_simulated}
 use Rattle.pe_walk.proofs.Simulation.Unstuck.{middle-fits}
 

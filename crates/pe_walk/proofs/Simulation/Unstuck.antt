@@ -5,15 +5,15 @@ use Rattle.pe_base.specs.declared.place.Place.{Place}
 use Rattle.pe_base.specs.declared.kind.Kind.{Kind}
 use Rattle.pe_base.specs.declared.kind.Kind.TheVariants.{Kept, Born, Dying, Hanging}
 use Rattle.pe_base.specs.declared.event.Event.{Event}
-use Rattle.pe_base.specs.declared.event.Event.TheVariants.{BeginIteration, EndIteration, TouchVertexFirstTime, TouchVertexLastTime, CreateInnerVertex, CreateHangingVertex, DestroyVertex, DestroyHangingVertex, CreateCell, DestroyCell, EnterCell, LeaveCell}
+use Rattle.pe_base.specs.declared.event.Event.TheVariants.{BeginIteration, EndIteration, CreateCell, DestroyCell, EnterCell, LeaveCell}
 use Rattle.pe_base.specs.Tree.Places.{root, corner}
 use Rattle.pe_base.specs.Tree.Curve.{children}
 use Rattle.pe_base.specs.Acts.Effects.{VertexRecord, Seen, Fault}
-use Rattle.pe_base.specs.Walk.Course.{Ending, done, halts, stuck, Course, at_once, from, and_then, course_map, each}
-use Rattle.pe_base.specs.Walk.Core.{Setting, Family, Own, way, ended_by, fire, plain_event, vertex_event, cell_event, fresh_vertex, read_vertex, load_touch, given_up, written, store_of, store_touch, enter_touch, leave_touch}
+use Rattle.pe_base.specs.Walk.Course.{Course, at_once, and_then, course_map, each}
+use Rattle.pe_base.specs.Walk.Core.{Setting, Family, Own, way, ended_by, fire, plain_event, cell_event, load_touch, store_touch, enter_touch, leave_touch}
 use Rattle.pe_base.specs.Walk.Working.{Working, records_of, record_at, vertex_at, cell_at, family_of, own_of, loads_of}
 use Rattle.pe_base.specs.Walk.Touches.{kind_of_vertex, kind_of_children, within_limit, count_cell, load_corner, store_corner, enter_cell, leave_cell, tally_cell}
-use Rattle.pe_base.specs.Walk.Walk.{corner_numbers, around_below, if_walked, walk_cell, plain, root_corners, walk_root}
+use Rattle.pe_base.specs.Walk.Walk.{corner_numbers, around_below, if_walked, walk_cell, plain}
 use Rattle.pe_hang.specs.Follows.{is_fit, Fits}
 use Rattle.pe_adapt.proofs.Fitting.{and_then-fit, load-fits, store-fits}
 

@@ -1,5 +1,5 @@
 -- Vertices that count are at most as many as the walked cells, and so no stack is longer.
-use Rattle.std.proofs.Common.{◌≡◌, ◌⊎◌, inl, inr, ℕ, zero, suc, ◌+◌, ◌-◌, ◌*◌, ◌^◌, ◌<◌, ◌≤◌, Bool, true, false, ◌==◌, List, [], ◌∷◌, ◌++◌, filter, reverse, length, get_or, Option, Some, None, refl, sym, ap, ◌∙◌, subst, true≢false, arith}
+use Rattle.std.proofs.Common.{◌≡◌, inl, inr, ℕ, zero, suc, ◌+◌, ◌-◌, ◌*◌, ◌^◌, ◌≤◌, Bool, true, false, ◌==◌, List, [], ◌∷◌, ◌++◌, filter, reverse, length, get_or, Option, Some, None, refl, sym, ap, ◌∙◌, subst, true≢false, arith}
 use Rattle.std.specs.Prelude.{nat_lt, if◌then◌else◌, sum_by, count_by}
 use Rattle.std.specs.List.{AllByRecursion, flat_map}
 use Rattle.std.proofs.lemmas.List.{length-map, length-append, length-reverse}

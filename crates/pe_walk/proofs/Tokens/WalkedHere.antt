@@ -1,15 +1,14 @@
 -- Each cell of the tree that is walked is among the cells of the walk.
-use Rattle.std.proofs.Common.{◌≡◌, ◌⊎◌, ℕ, zero, suc, ◌+◌, ◌-◌, ◌<◌, ◌≤◌, Bool, true, false, List, [], ◌∷◌, ◌++◌, refl, sym, ap, subst, ◌∙◌, inl, inr, arith, true≢false}
+use Rattle.std.proofs.Common.{◌≡◌, ◌⊎◌, ℕ, zero, suc, ◌+◌, ◌<◌, ◌≤◌, Bool, true, false, List, [], ◌∷◌, ◌++◌, refl, sym, ap, subst, ◌∙◌, inl, inr, arith}
 use Rattle.std.specs.List.{flat_map, Contains}
 use Rattle.pe_base.specs.declared.place.Place.{Place}
-use Rattle.pe_base.specs.declared.way.Way.{Way}
 use Rattle.pe_base.specs.Tree.Dim.{IsDim}
 use Rattle.pe_base.specs.Tree.Places.{root, is_same}
 use Rattle.pe_base.specs.Tree.Curve.{children, order}
-use Rattle.pe_base.specs.Walk.Streams.{if_walks, walked_children, walked_cells}
-use Rattle.pe_base.proofs.Lists.{Each, Each-flat_map, Each-weaker, Each-In, In, In-append_left, In-append_right, In-flat_map}
+use Rattle.pe_base.specs.Walk.Streams.{if_walks, walked_cells}
+use Rattle.pe_base.proofs.Lists.{Each, Each-flat_map, Each-In, In, In-flat_map}
 use Rattle.pe_base.proofs.Steps.Counts.{is_same_itself}
-use Rattle.pe_walk.specs.Laws.{IsCell, IsWalk}
+use Rattle.pe_walk.specs.Laws.{IsCell}
 use Rattle.pe_walk.specs.Tokens.{Outlook}
 use Rattle.pe_walk.specs.Takings.{Grown}
 use Rattle.pe_walk.specs.CellsAhead.{times}

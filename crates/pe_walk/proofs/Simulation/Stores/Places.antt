@@ -1,7 +1,7 @@
 -- What the store of a corner does to the places: what counts goes from the hand to where it goes, and no other place moves.
 use Rattle.std.proofs.Common.{◌≡◌, inl, inr, ℕ, ◌+◌, ◌-◌, ◌<◌, ◌≤◌, Bool, true, false, List, length, suc, Option, Some, None, refl, sym, ap, subst, ◌∙◌, arith}
 use Rattle.std.specs.Prelude.{if◌then◌else◌}
-use Rattle.std.proofs.lemmas.List.Sums.{sum_by-set, sum_by-cons}
+use Rattle.std.proofs.lemmas.List.Sums.{sum_by-cons}
 use Rattle.std.proofs.lemmas.List.{get_or-set_same, get_or-set_other}
 use Rattle.std.proofs.lemmas.Bool.{cases_eq}
 use Rattle.pe_base.specs.declared.place.Place.{Place}
@@ -11,7 +11,7 @@ use Rattle.pe_stacks.specs.Holdings.{Holdings, Stack, new_stack, stack_count, st
 use Rattle.pe_walk.specs.Tokens.{Tokens, one_less, put}
 use Rattle.pe_walk.specs.Apart.{lies}
 use Rattle.pe_walk.specs.Standing.{times}
-use Rattle.pe_walk.proofs.Tokens.Apart.{one_if, there}
+use Rattle.pe_walk.proofs.Tokens.Apart.{one_if}
 use Rattle.pe_walk.proofs.Tokens.Stacks.{pushed_same, pushed_other, pushed_count}
 use Rattle.pe_walk.proofs.Tokens.StepFrames.{pushed_once}
 

@@ -2,16 +2,15 @@
 use Rattle.std.proofs.Common.{◌≡◌, suc, sym, ap, subst, ◌∙◌}
 use Rattle.pe_base.specs.declared.tally.Tally.{Tally}
 use Rattle.pe_base.specs.Tree.Dim.{IsDim}
-use Rattle.pe_base.specs.Walk.Course.{Course, done}
-use Rattle.pe_base.specs.Walk.Core.{Setting}
+use Rattle.pe_base.specs.Walk.Course.{Course}
 use Rattle.pe_base.specs.Walk.Walk as model
 use Rattle.pe_walk.specs.Machine.{Machine}
 use Rattle.pe_walk.specs.Machine as machine
 use Rattle.pe_walk.specs.Gridded.{ports_of}
 use Rattle.pe_walk.specs.Laws.{IsCell}
-use Rattle.pe_walk.specs.Tallies.{IsOfKinds, counted_walk}
+use Rattle.pe_walk.specs.Tallies.{IsOfKinds}
 use Rattle.pe_walk.specs.CellTraffic.{CellTraffic}
-use Rattle.pe_walk.specs.FaceLaw.{Moment, MayWalk, CellsAreExact}
+use Rattle.pe_walk.specs.FaceLaw.{CellsAreExact}
 use Rattle.pe_walk.proofs.Tokens.Traversals.{walk_of_a_cell}
 use Rattle.pe_walk.proofs.Tokens.CellTraffic.{cell_traffic}
 use Rattle.pe_walk.proofs.Simulation.Leaves.{image_of}

@@ -1,24 +1,23 @@
 -- A cell is entered: its numbers come to hand, fresh or from the input, and its events are fired.
-use Rattle.std.proofs.Common.{◌≡◌, ◌⊎◌, ℕ, ℤ, zero, suc, ◌+◌, ◌-◌, ◌*◌, ◌^◌, ◌<◌, ◌≤◌, ◌≢◌, Bool, true, false, not, ◌&&◌, ◌||◌, ◌==◌, List, [], ◌∷◌, length, Option, Some, None, refl, sym, ap, ap₂, subst, ◌∙◌, arith, is_some, is_none, true≢false, if◌then◌else◌, inl, inr}
-use Rattle.std.specs.Prelude.{nat_lt, map}
-use Rattle.std.specs.Option.{option_map, unwrap_or}
-use Rattle.std.proofs.lemmas.Bool.{lt-ltb, le-ltb, ltb-true, or_right, cases_eq}
+use Rattle.std.proofs.Common.{◌≡◌, ℕ, ℤ, zero, suc, ◌+◌, ◌-◌, ◌*◌, ◌^◌, ◌<◌, ◌≤◌, Bool, true, false, not, ◌&&◌, ◌||◌, List, [], ◌∷◌, length, Option, Some, None, refl, sym, ap, ap₂, subst, ◌∙◌, arith, is_some, is_none, true≢false, if◌then◌else◌, inl, inr}
+use Rattle.std.specs.Prelude.{nat_lt}
+use Rattle.std.proofs.lemmas.Bool.{lt-ltb, or_right, cases_eq}
 use Rattle.pe_base.specs.declared.place.Place.{Place}
 use Rattle.pe_base.specs.declared.kind.Kind.{Kind}
 use Rattle.pe_base.specs.declared.kind.Kind.TheVariants.{Kept, Born, Dying, Hanging}
-use Rattle.pe_base.specs.Tree.Places.{corner, parent_of, is_same}
+use Rattle.pe_base.specs.Tree.Places.{is_same}
 use Rattle.pe_base.specs.Life.Kinds.{is_hanging}
 use Rattle.pe_base.specs.Acts.Effects.{VertexRecord}
 use Rattle.pe_base.specs.Walk.Maps.{at}
 use Rattle.pe_base.specs.Walk.Course.{Push, Course, done, at_once, and_then, course_map}
-use Rattle.pe_base.specs.Walk.Core.{Setting, Family, Own, enter_touch, way}
-use Rattle.pe_base.specs.Walk.Working.{Working, cell_at, records_of, record_at, family_of, own_of}
+use Rattle.pe_base.specs.Walk.Core.{Setting, Family, Own, enter_touch}
+use Rattle.pe_base.specs.Walk.Working.{Working, cell_at, records_of, family_of}
 use Rattle.pe_base.specs.Walk.Touches.{after_cell}
 use Rattle.pe_base.specs.Walk.Touches as model
-use Rattle.pe_stacks.specs.Holdings.{Holdings, stack_count, stack_at, items_at, len_at, lent, popped}
-use Rattle.pe_stacks.specs.Grid.{output_stack, cell_input_stack}
+use Rattle.pe_stacks.specs.Holdings.{Holdings, stack_at, items_at, len_at, lent, popped}
+use Rattle.pe_stacks.specs.Grid.{cell_input_stack}
 use Rattle.pe_hang.specs.InHand.{map_holdings}
-use Rattle.pe_hang.specs.Moves.{lend, pop}
+use Rattle.pe_hang.specs.Moves.{pop}
 use Rattle.pe_base.specs.Steps.Stacks.{is_stack}
 use Rattle.pe_base.proofs.Tree.Ranks.{same_places}
 use Rattle.pe_walk.specs.Machine.{Machine, cell_comes}
@@ -27,10 +26,9 @@ use Rattle.pe_walk.specs.Tokens.{Outlook, Tokens, given, taken, cell_source, is_
 use Rattle.pe_walk.specs.Tokens as tokens
 use Rattle.pe_walk.specs.CoreKeeps.{AreAlike, KeepsParents}
 use Rattle.pe_walk.specs.CellsAhead.{CellsAhead}
-use Rattle.pe_walk.specs.Apart.{IsApart, lies, occurs}
-use Rattle.pe_walk.specs.Gridded.{ports_of}
+use Rattle.pe_walk.specs.Apart.{lies}
 use Rattle.pe_walk.specs.Outlooks.{was_stored}
-use Rattle.pe_walk.specs.Standing.{Foresight, Outset, Stage, per_cell, Stands, Fair, Owes, Holds, IsOutset, IsStage, IsWritten, times}
+use Rattle.pe_walk.specs.Standing.{Outset, Stage, per_cell, Stands, Fair, Owes, Holds, IsOutset, IsStage, times}
 use Rattle.pe_walk.proofs.Tokens.Apart.{map_some, one_if, at_most_one}
 use Rattle.pe_walk.proofs.Tokens.CellsAhead.{steps_keep_ahead}
 use Rattle.pe_walk.proofs.Tokens.StepFrames as frames
@@ -38,13 +36,12 @@ use Rattle.pe_walk.proofs.Tokens.CountLists.{count-cons}
 use Rattle.pe_walk.proofs.Tokens.DepotCounts.{Took, take_counts}
 use Rattle.pe_walk.proofs.Tokens.Stacks.{popped_same, popped_other}
 use Rattle.pe_walk.proofs.Tokens.Keeping.{given_some}
-use Rattle.pe_walk.proofs.Simulation.Matching.{Matches, Steps, core-matches, mapped-done, matches-same}
+use Rattle.pe_walk.proofs.Simulation.Matching.{Steps, core-matches, mapped-done, matches-same}
 use Rattle.pe_walk.proofs.Simulation.Silent.{enter-silent}
 use Rattle.pe_walk.proofs.Simulation.CoreLaws.{core_keeps}
-use Rattle.pe_walk.proofs.Simulation.Counts.{small_rises}
-use Rattle.pe_walk.proofs.Simulation.Below.{FindsCell, cell_found}
-use Rattle.pe_walk.proofs.Simulation.Shared.{lend-image, pop-image, cells-image, OneMore, owes-more}
-use Rattle.pe_walk.proofs.Simulation.Leaves.{image_of, in_hand, own_in_hand, record_of, records_from, ports, after_enter, EnterLeaf}
+use Rattle.pe_walk.proofs.Simulation.Below.{cell_found}
+use Rattle.pe_walk.proofs.Simulation.Shared.{lend-image, pop-image, cells-image, owes-more}
+use Rattle.pe_walk.proofs.Simulation.Leaves.{image_of, own_in_hand, record_of, records_from, ports, after_enter, EnterLeaf}
 use Rattle.pe_walk.proofs.Simulation.Visits.Records.{Visited, visited, fair_visited, vertices_visited}
 use Rattle.pe_walk.proofs.Tokens.Bounds.{few_cell_input_stacks}
 

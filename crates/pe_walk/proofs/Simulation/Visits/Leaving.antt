@@ -1,5 +1,5 @@
 -- A cell is left: its events are fired, and its numbers go to the output, or are given up.
-use Rattle.std.proofs.Common.{◌≡◌, ◌⊎◌, ℕ, ℤ, zero, suc, ◌+◌, ◌-◌, ◌*◌, ◌^◌, ◌<◌, ◌≤◌, ◌≢◌, Bool, true, false, not, ◌&&◌, ◌||◌, ◌==◌, List, [], ◌∷◌, length, Option, Some, None, refl, sym, ap, ap₂, subst, ◌∙◌, arith, is_some, is_none, true≢false, if◌then◌else◌, inl, inr}
+use Rattle.std.proofs.Common.{◌≡◌, ℕ, ℤ, suc, ◌+◌, ◌-◌, ◌*◌, ◌^◌, ◌<◌, ◌≤◌, ◌≢◌, Bool, true, false, not, ◌&&◌, ◌||◌, ◌==◌, List, [], ◌∷◌, length, Some, None, refl, sym, ap, ap₂, subst, ◌∙◌, arith, is_some, true≢false, if◌then◌else◌}
 use Rattle.std.specs.Prelude.{nat_lt}
 use Rattle.std.specs.Option.{unwrap_or}
 use Rattle.std.proofs.lemmas.Bool.{lt-ltb, eq-eqb, or_right}
@@ -7,15 +7,14 @@ use Rattle.pe_base.specs.declared.place.Place.{Place}
 use Rattle.pe_base.specs.declared.kind.Kind.{Kind}
 use Rattle.pe_base.specs.declared.kind.Kind.TheVariants.{Kept, Born, Dying, Hanging}
 use Rattle.pe_base.specs.Tree.Dim.{IsDim}
-use Rattle.pe_base.specs.Tree.Places.{parent_of, is_same}
+use Rattle.pe_base.specs.Tree.Places.{is_same}
 use Rattle.pe_base.specs.Life.States.{is_stored}
 use Rattle.pe_base.specs.Life.Kinds.{is_hanging}
-use Rattle.pe_base.specs.Acts.Effects.{VertexRecord}
 use Rattle.pe_base.specs.Steps.Stacks.{is_stack}
 use Rattle.pe_base.specs.Walk.Maps.{Map, at, removed}
 use Rattle.pe_base.specs.Walk.Course.{Push, Course, done, at_once, and_then, course_map}
 use Rattle.pe_base.specs.Walk.Core.{Setting, Family, Own, leave_touch}
-use Rattle.pe_base.specs.Walk.Working.{Working, cell_at, records_of, record_at, family_of, own_of}
+use Rattle.pe_base.specs.Walk.Working.{Working, cell_at, records_of, family_of, own_of}
 use Rattle.pe_base.specs.Walk.Touches.{after_cell, put_left}
 use Rattle.pe_base.specs.Walk.Touches as model
 use Rattle.pe_base.proofs.Steps.Counts.{is_same_itself}
@@ -31,19 +30,19 @@ use Rattle.pe_walk.specs.Tokens.{Outlook, Tokens, given, put, cell_target}
 use Rattle.pe_walk.specs.Tokens as tokens
 use Rattle.pe_walk.specs.CoreKeeps.{AreAlike, KeepsParents}
 use Rattle.pe_walk.specs.CellsAhead.{CellsAhead}
-use Rattle.pe_walk.specs.Apart.{IsApart, lies, occurs}
+use Rattle.pe_walk.specs.Apart.{lies}
 use Rattle.pe_walk.specs.Frames.{AfterLeave}
 use Rattle.pe_walk.specs.Gridded.{ports_of}
-use Rattle.pe_walk.specs.Standing.{Foresight, Outset, Stage, per_cell, Stands, Fair, Owes, Holds, HasRoom, IsOutset, IsStage, times}
+use Rattle.pe_walk.specs.Standing.{Outset, Stage, Stands, Fair, Owes, Holds, HasRoom, IsOutset, IsStage, times}
 use Rattle.pe_walk.proofs.Tokens.CellsAhead.{steps_keep_ahead}
 use Rattle.pe_walk.proofs.Tokens.StepFrames as frames
 use Rattle.pe_walk.proofs.Tokens.DepotCounts.{Gave, put_counts}
 use Rattle.pe_walk.proofs.Simulation.Matching.{Matches, Steps, core-then-matches, mapped-done, matches-same}
 use Rattle.pe_walk.proofs.Simulation.Silent.{leave-silent}
 use Rattle.pe_walk.proofs.Simulation.CoreLaws.{core_keeps}
-use Rattle.pe_walk.proofs.Simulation.Below.{FindsCell, cell_found}
-use Rattle.pe_walk.proofs.Simulation.Shared.{give_up-image, push-image, cells-image, OneMore, owes-more}
-use Rattle.pe_walk.proofs.Simulation.Leaves.{image_of, in_hand, own_in_hand, record_of, records_from, ports, after_leave, LeaveLeaf}
+use Rattle.pe_walk.proofs.Simulation.Below.{cell_found}
+use Rattle.pe_walk.proofs.Simulation.Shared.{give_up-image, push-image, cells-image, owes-more}
+use Rattle.pe_walk.proofs.Simulation.Leaves.{image_of, in_hand, record_of, records_from, ports, after_leave, LeaveLeaf}
 use Rattle.pe_walk.proofs.Simulation.Levels.{levels_differ}
 use Rattle.pe_walk.proofs.Simulation.Visits.Records.{Visited, visited, fair_visited, vertices_visited, stage_levels}
 use Rattle.pe_walk.proofs.Simulation.Visits.Entering.{times-here, times-there, all_records}

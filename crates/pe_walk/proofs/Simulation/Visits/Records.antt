@@ -1,27 +1,27 @@
 -- The records in hand of a cell that is entered or left are put back: its own, and those of its family.
-use Rattle.std.proofs.Common.{◌≡◌, ℕ, ℤ, zero, suc, ◌+◌, ◌-◌, ◌^◌, ◌<◌, ◌≤◌, ◌≢◌, Bool, true, false, not, ◌&&◌, ◌||◌, List, length, Option, Some, refl, sym, ap, ap₂, subst, ◌∙◌, arith, is_some, if◌then◌else◌}
-use Rattle.std.specs.Prelude.{nat_le, nat_lt}
+use Rattle.std.proofs.Common.{◌≡◌, ℕ, ℤ, zero, suc, ◌-◌, ◌^◌, ◌<◌, ◌≤◌, ◌≢◌, Bool, true, not, ◌&&◌, ◌||◌, List, length, Some, refl, sym, ap, ap₂, subst, ◌∙◌, arith, is_some, if◌then◌else◌}
+use Rattle.std.specs.Prelude.{nat_lt}
 use Rattle.std.proofs.lemmas.Bool.{lt-ltb, le-leb}
 use Rattle.pe_base.specs.declared.place.Place.{Place}
-use Rattle.pe_base.specs.Tree.Places.{corner, parent_of, is_same}
+use Rattle.pe_base.specs.Tree.Places.{corner, is_same}
 use Rattle.std.specs.Option.{unwrap_or}
-use Rattle.pe_base.specs.Walk.Maps.{Map, at, at_corner}
+use Rattle.pe_base.specs.Walk.Maps.{Map, at}
 use Rattle.pe_base.specs.Walk.Core.{Setting, Family, Own, way}
-use Rattle.pe_base.specs.Walk.Working.{Working, record_at, records_of, family_of, put_family, own_of, put_own}
+use Rattle.pe_base.specs.Walk.Working.{Working, record_at, records_of, family_of, own_of, put_own}
 use Rattle.pe_base.specs.Walk.Touches.{after_cell}
 use Rattle.pe_base.proofs.Steps.Counts.{is_same_itself}
 use Rattle.pe_base.proofs.Walk.Slots.{is_hung}
 use Rattle.pe_walk.specs.Laws.{IsCell}
 use Rattle.pe_walk.specs.CoreKeeps.{AreAlike, KeepsParents}
 use Rattle.pe_walk.specs.Tokens.{Tokens}
-use Rattle.pe_stacks.specs.Holdings.{Holdings, items_at}
+use Rattle.pe_stacks.specs.Holdings.{Holdings}
 use Rattle.pe_stacks.specs.Grid.{output_stack}
 use Rattle.pe_hang.specs.InHand.{map_holdings}
 use Rattle.pe_walk.specs.Apart.{lies}
-use Rattle.pe_walk.specs.Standing.{Foresight, Outset, Stage, IsStage, Holds, IsOutset, Fair, IsFair, IsWritten, IsIdle, times}
+use Rattle.pe_walk.specs.Standing.{Outset, Stage, IsStage, Holds, IsOutset, Fair, IsFair, IsWritten, IsIdle, times}
 use Rattle.pe_walk.proofs.Unwalked.{cell_four}
 use Rattle.pe_walk.proofs.Simulation.LoadedKinds.{parent_long}
-use Rattle.pe_walk.proofs.Simulation.Levels.{levels_differ, at-put_family, records_of-put_family, own_of-put_family}
+use Rattle.pe_walk.proofs.Simulation.Levels.{records_of-put_family, own_of-put_family}
 use Rattle.pe_walk.proofs.Simulation.Shared.{PutsBack, HasPut, has_put, put_count, on_one, lies_unheld, vertices-image}
 use Rattle.pe_walk.proofs.Simulation.Leaves.{record_of}
 

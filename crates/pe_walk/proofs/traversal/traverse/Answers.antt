@@ -1,13 +1,12 @@
-use Rattle.std.proofs.Common.{◌≡◌, ◌+◌, ◌∙◌, sym, subst}
-use Rattle.pe_base.specs.Walk.Grids.{Grid}
+use Rattle.std.proofs.Common.{◌+◌, ◌∙◌, sym, subst}
 use Rattle.pe_base.specs.Walk.Working.{no_tally}
 use Rattle.pe_hang.specs.InHand.{setting_of}
 use Rattle.pe_hang.specs.Follows.{Fits, Follows, read_by, found_of, held_by}
 use Rattle.pe_adapt.specs.Stops.{failure_of}
 use Rattle.pe_walk.specs.Machine.{traverse}
-use Rattle.pe_walk.specs.Gridded.{MayTurn, ports_of}
+use Rattle.pe_walk.specs.Gridded.{ports_of}
 use Rattle.pe_walk.specs.InHand.{machine_between}
-use Rattle.pe_walk.specs.Traversing.{Stores, MayTraverse}
+use Rattle.pe_walk.specs.Traversing.{Stores}
 use Rattle.pe_walk.proofs.Simulation.Answers.{stacks_are_addresses}
 use Rattle.pe_walk.proofs.Traversing.{may_turn, fits_of, answers}
 use Rattle.pe_walk.proofs.Beginnings.{goes_on_if}
