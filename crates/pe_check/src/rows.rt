@@ -66,6 +66,7 @@ fn first_words(rt: HostRuntime) -> Result<(), Fail> {
         (VERTEX, "print v99.u;", CheckFault::NotHere { at: 6 }),
         (CELL, "print v4.nope;", CheckFault::Corner { at: 6 }),
         (CELL, "print v3.nope;", CheckFault::UnknownName { at: 6 }),
+        (CELL, "print v0.nope;", CheckFault::UnknownName { at: 6 }),
         (CELL, "v0.state = 3;", CheckFault::ReadOnly { at: 0 }),
         (VERTEX, "level = 1;", CheckFault::ReadOnly { at: 0 }),
         (

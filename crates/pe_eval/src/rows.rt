@@ -110,6 +110,16 @@ fn faults(rt: HostRuntime) -> Result<(), Fail> {
         ),
         ("print 1, 1 / 0; print 2;", b"".as_slice(), Stop::Division),
         (
+            "print 7 / 2; print 7 / 0, 1;",
+            b"print 3\n".as_slice(),
+            Stop::Division,
+        ),
+        (
+            "print 7 / -2, 7 % -2, -7 / 2, -7 % 2, 2 < 3, !5; print 1 / 0;",
+            b"print -3 1 -3 -1 1 0\n".as_slice(),
+            Stop::Division,
+        ),
+        (
             "print min(1 % 0, 9223372036854775807 * 2);",
             b"".as_slice(),
             Stop::Division,

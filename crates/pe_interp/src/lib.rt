@@ -3,5 +3,7 @@
 
 mod interp;
 mod lines;
+#[cfg(test)]
+mod rows;
 
 pub use interp::Interp;

@@ -26,6 +26,7 @@ Range traversals: dim = 2 ~ traversals = 1001 ~ max_level = 0";
 
 // The same, behind `dim = 2` and `traversals = 1`.
 const REFUSED_BEHIND: &str = "\
+UnknownKey a b: 'a b' = 1
 Range max_level: max_level = 0 ~ start_level = 0
 Range max_level: max_level = 21
 Shape max_level: max_level = 3.0
@@ -192,6 +193,7 @@ fn bytes_that_are_no_document(rt: HostRuntime) -> Result<(), Fail> {
             Err(SceneFault::NotToml)
         )
     );
+    assert!(rt; matches!(read_text(rt.alloc(), "dim ="), Err(SceneFault::NotToml)));
     Ok(())
 }
 
