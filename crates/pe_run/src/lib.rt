@@ -2,6 +2,8 @@
 #![tactic(auto)]
 
 mod ask;
+#[cfg(test)]
+mod grid_rows;
 mod lines;
 mod refusal;
 #[cfg(test)]

@@ -75,7 +75,7 @@ const TALLIED: &str = "\
 
 /// One run: the words, what the shelf holds under `S`, the calls that fail, and what is to come of it.
 #[derive(Clone, Copy)]
-struct Row {
+pub(crate) struct Row {
     words: &'static [&'static str],
     scenario: Option<&'static [u8]>,
     shelf_fails: &'static [u64],
@@ -84,10 +84,10 @@ struct Row {
     status: u8,
 }
 
-const RUN: &[&str] = &["run", "S"];
+pub(crate) const RUN: &[&str] = &["run", "S"];
 
 /// A run of the words `run S` in which no call fails.
-const fn plain(scenario: &'static [u8], text: &'static str, status: u8) -> Row {
+pub(crate) const fn plain(scenario: &'static [u8], text: &'static str, status: u8) -> Row {
     Row {
         words: RUN,
         scenario: Some(scenario),
@@ -98,7 +98,7 @@ const fn plain(scenario: &'static [u8], text: &'static str, status: u8) -> Row {
     }
 }
 
-fn words_of(alloc: Global, words: &[&str]) -> Result<Vec<String>, AllocError> {
+pub(crate) fn words_of(alloc: Global, words: &[&str]) -> Result<Vec<String>, AllocError> {
     let mut all = Vec::new(alloc);
     for word in words {
         all.push(word.to_string(alloc)?)?;
@@ -108,12 +108,12 @@ fn words_of(alloc: Global, words: &[&str]) -> Result<Vec<String>, AllocError> {
 
 // The depots of a run: ten stacks of vertices, and two of cells.
 #[derive(Drop)]
-struct Depots {
-    vertices: VecDepot<Vertex<Fields>>,
-    cells: VecDepot<CellRec<Fields>>,
+pub(crate) struct Depots {
+    pub vertices: VecDepot<Vertex<Fields>>,
+    pub cells: VecDepot<CellRec<Fields>>,
 }
 
-fn new_depots(alloc: Global) -> Result<Depots, AllocError>
+pub(crate) fn new_depots(alloc: Global) -> Result<Depots, AllocError>
     ensures vertices { IfOk result (λ depots. holdings_of depots.vertices ≡ new_holdings 10) }
     ensures cells { IfOk result (λ depots. holdings_of depots.cells ≡ new_holdings 2) }
 {
@@ -137,7 +137,7 @@ fn check_settled(rt: &impl Abort, depots: &Depots) {
     }
 }
 
-fn check(rt: &impl Abort, alloc: Global, row: &Row) -> Result<Depots, AllocError> {
+pub(crate) fn check(rt: &impl Abort, alloc: Global, row: &Row) -> Result<Depots, AllocError> {
     let mut shelf = MemShelf::new(alloc, row.shelf_fails)?;
     if let Some(scenario) = row.scenario {
         shelf.add(alloc, "S", scenario)?;
@@ -355,38 +355,103 @@ fn words_that_name_no_job(rt: HostRuntime) -> Result<(), Fail> {
     Ok(())
 }
 
+// One line for each cause; where a scenario is refused for several, the first one is told.
+const REFUSED: &str = "\
+unknown-key colour: colour = 1
+unknown-key a?b: 'a b' = 1
+shape max_cells: max_cells = '81'
+range max_cells: max_cells = 80
+range start_level: max_level = 1 ~ start_level = 2
+name trace: trace = ['enter']
+shape events.enter_cell: events.enter_cell = 1
+name fields.vertex: fields.vertex = ['state']
+unknown-key events.enter: events.enter = ''
+body enter_cell 0 corner: fields.vertex = ['u'] ~ events.enter_cell = 'v4.u = 1;'
+body enter_cell 8 character: events.enter_cell = 'print 1 & 2;'
+body enter_cell 9 syntax: events.enter_cell = 'print 1 +;'
+body enter_cell 70 too-deep: events.enter_cell = 'print (((((((((((((((((((((((((((((((((((((((((((((((((((((((((((((((((1)))))))))))))))))))))))))))))))))))))))))))))))))))))))))))))))));'
+body enter_cell 21 too-many: events.enter_cell = 'print 1,1,1,1,1,1,1,1,1;'
+body enter_cell 6 literal: events.enter_cell = 'print 9223372036854775808;'
+body enter_cell 6 unknown-name: events.enter_cell = 'print u;'
+body begin_iteration 6 not-here: events.begin_iteration = 'print v.u;'
+body begin_iteration 0 read-only: events.begin_iteration = 't = 1;'";
+
+// The lines of a table, each behind a `~`, as lines of a document.
+fn document(alloc: Global, row: &str) -> Result<String, AllocError> {
+    let mut text = String::new(alloc);
+    for c in row.chars() {
+        text.push(if c == '~' { '\n' } else { c })?;
+    }
+    Ok(text)
+}
+
+// Compares what comes of a scenario.
+fn check_scenario(
+    rt: &impl Abort,
+    alloc: Global,
+    scenario: &[u8],
+    text: &[u8],
+    status: u8,
+) -> Result<(), AllocError> {
+    let mut shelf = MemShelf::new(alloc, &[])?;
+    shelf.add(alloc, "S", scenario)?;
+    let mut sink = MemSink::new(alloc, 4096, &[])?;
+    let words = words_of(alloc, RUN)?;
+    let mut depots = new_depots(alloc)?;
+    let answer = peano(
+        alloc,
+        words.as_slice(),
+        &mut shelf,
+        &mut sink,
+        &mut depots.vertices,
+        &mut depots.cells,
+    );
+    assert_eq!(rt; sink.text(), text);
+    assert_eq!(rt; answer, status);
+    check_settled(rt, &depots);
+    Ok(())
+}
+
 #[test]
 fn scenarios_that_are_refused(rt: HostRuntime) -> Result<(), Fail> {
-    let unbuilt: [&[u8]; 11] = [
-        b"dim = 2\ntraversals = 1\ntrace = [\"enter_cell\"]\nmax_cells = 81\n",
-        b"dim = 1\ntraversals = 1\n",
-        b"dim = 2\ntraversals = 1\ntrace = [\"destroy_nothing\"]\n",
-        b"dim = 5\ntraversals = 1\ntrace = [\"enter_cell\"]\n",
-        b"",
-        b"dim = 2\n",
-        b"dim = 2\ntraversals = 0\n",
-        b"dim = 2\ntraversals = 1001\n",
-        b"dim = 2\ntraversals = \"1\"\n",
-        b"dim = 2\ntraversals = 1\ntrace = [\"enter_cell\", \"enter_cell\"]\n",
-        b"dim = 2\ntraversals = 1\ntrace = [1]\n",
-    ];
-    for scenario in unbuilt {
-        let _depots = check(
-            &rt,
-            rt.alloc(),
-            &plain(scenario, "fault scenario unbuilt form\n", 3),
-        )?;
+    let alloc = rt.alloc();
+    for row in REFUSED.lines() {
+        let (cause, lines) = row.split_once(": ").ok_or("a row")?;
+        let lines = document(alloc, lines)?;
+        let scenario = format!(in alloc; "dim = 2\ntraversals = 1\n{lines}\n")?;
+        let text = format!(in alloc; "fault scenario {cause}\n")?;
+        check_scenario(&rt, alloc, scenario.as_bytes(), text.as_bytes(), 3)?;
     }
-    let _depots = check(
-        &rt,
-        rt.alloc(),
-        &plain(b"\xff", "fault scenario not-toml\n", 3),
-    )?;
-    let _depots = check(
-        &rt,
-        rt.alloc(),
-        &plain(b"dim = \n", "fault scenario not-toml\n", 3),
-    )?;
+    for (scenario, text) in [
+        ("", "fault scenario missing dim\n"),
+        ("dim = '2'\n", "fault scenario shape dim\n"),
+        ("dim = 5\ntraversals = 1\n", "fault scenario range dim\n"),
+        (
+            "dim = 2\ntraversals = 0\n",
+            "fault scenario range traversals\n",
+        ),
+        (
+            "dim = 2\ntraversals = 1001\n",
+            "fault scenario range traversals\n",
+        ),
+        ("dim = \n", "fault scenario not-toml\n"),
+    ] {
+        check_scenario(&rt, alloc, scenario.as_bytes(), text.as_bytes(), 3)?;
+    }
+    check_scenario(&rt, alloc, b"\xff", b"fault scenario not-toml\n", 3)?;
+    Ok(())
+}
+
+// As deep as a body may nest.
+#[test]
+fn a_body_of_64_nestings(rt: HostRuntime) -> Result<(), Fail> {
+    let scenario =
+        "dim = 2\ntraversals = 1\nevents.begin_iteration = 'print ((((((((((((((((((((((((((((((((((((((((((((((((((((((((((((((((1))))))))))))))))))))))))))))))))))))))))))))))))))))))))))))))));'\n";
+    let text = "\
+        print 1\n\
+        traversal 1 forward cells 9 in 0 out 4 created 4 destroyed 0 hanging 20\n\
+        done\n";
+    check_scenario(&rt, rt.alloc(), scenario.as_bytes(), text.as_bytes(), 0)?;
     Ok(())
 }
 
