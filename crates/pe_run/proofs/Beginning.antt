@@ -1,22 +1,19 @@
 -- What stands before the first traversal of a scenario.
-use Rattle.std.proofs.Common.{◌≡◌, ℕ, ℤ, zero, suc, ◌+◌, ◌*◌, ◌^◌, ◌≤◌, false, List, [], ◌∷◌, length, replicate, get_or, None, true, refl, sym, ap, ap₂, subst, inl, ◌∙◌, arith}
+use Rattle.std.proofs.Common.{◌≡◌, ℕ, ℤ, zero, suc, ◌*◌, false, List, [], replicate, get_or, None, true, refl, sym, ap, subst, ◌∙◌, arith}
 use Rattle.std.proofs.lemmas.List.{length-replicate}
 use Rattle.pe_base.specs.declared.fields.Fields.{Fields}
 use Rattle.pe_base.specs.Acts.Payloads.{zeros}
 use Rattle.pe_base.specs.Tree.Dim.{IsDim}
-use Rattle.pe_base.specs.Walk.Grids.{Grid, new_grid}
-use Rattle.pe_base.specs.Walk.Working.{no_tally}
+use Rattle.pe_base.specs.Walk.Grids.{new_grid}
 use Rattle.pe_stacks.specs.declared.record.Vertex.{Vertex}
 use Rattle.pe_stacks.specs.declared.record.CellRec.{CellRec}
 use Rattle.pe_stacks.specs.declared.grid.Grid.{Grid as Handle}
-use Rattle.pe_stacks.specs.Holdings.{Holdings, Stack, new_stack, new_holdings, stack_at}
+use Rattle.pe_stacks.specs.Holdings.{Holdings, Stack, new_stack, new_holdings}
 use Rattle.pe_stacks.proofs.Raising.{within_new}
 use Rattle.pe_mapping.specs.Held.{Held}
 use Rattle.pe_scene.specs.declared.scenario.Scenario.{Scenario}
 use Rattle.pe_scene.specs.SaidView.{said_of}
 use Rattle.pe_interp.specs.Held.{fields_numbers}
-use Rattle.pe_walk.specs.Gridded.{HoldsGrid}
-use Rattle.pe_walk.specs.InHand.{machine_between}
 use Rattle.pe_walk.specs.Traversing.{MayTraverse, HoldsNothing}
 use Rattle.pe_walk.proofs.Beginnings.{may_begin}
 use Rattle.pe_run.specs.declared.traversals.Between.{Between}

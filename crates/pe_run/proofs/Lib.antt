@@ -1,7 +1,11 @@
 -- What the run of the program rests on.
 
+-- # What is written
 -- what a sink tells, as the run says it and as its traversals do
 pub mod Telling
+-- the words of a tally's line, one after another
+pub mod TallyLines
+-- # Traversals
 -- what one traversal more adds to what the depots have counted
 pub mod Counting
 -- before the first traversal
@@ -12,3 +16,12 @@ pub mod Traversing
 pub mod Tallied
 -- traversals in turn
 pub mod InTurn
+-- # The stages
+-- what was asked for, by what the shelf answered
+pub mod Asking
+-- how a stage ends at its last line
+pub mod Stopping
+-- the last line behind traversals
+pub mod Ending
+-- what the stages make up
+pub mod RunLaws

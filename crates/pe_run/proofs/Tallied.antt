@@ -1,5 +1,5 @@
 -- One traversal more, with its tally line.
-use Rattle.std.proofs.Common.{ℕ, List, [], ◌++◌, ap, subst}
+use Rattle.std.proofs.Common.{ℕ, List, [], subst}
 use Rattle.std.proofs.lemmas.List.{append-nil}
 use Rattle.pe_base.specs.declared.fields.Fields.{Fields}
 use Rattle.pe_base.specs.declared.tally.Tally.{Tally}

@@ -1,12 +1,10 @@
 -- One traversal more of a grid that stands between two traversals.
-use Rattle.std.proofs.Common.{◌≡◌, ◌⊎◌, ◌∙◌, ℕ, ℤ, ◌+◌, ◌*◌, ◌≤◌, Bool, true, false, not, List, [], ◌∷◌, ◌++◌, length, Result, Ok, Err, refl, sym, ap, subst, inl, inr, arith, length-append}
+use Rattle.std.proofs.Common.{◌≡◌, ◌⊎◌, ◌∙◌, ℕ, ℤ, ◌+◌, ◌*◌, ◌≤◌, not, List, [], ◌∷◌, ◌++◌, length, Result, Ok, Err, sym, ap, subst, inl, inr, arith, length-append}
 use Rattle.std.specs.Prelude.{IfOk}
-use Rattle.std.proofs.Math.Nat.{mul-le-mul_left}
 use Rattle.std.proofs.lemmas.List.{length-map, append-nil}
 use Rattle.pe_base.specs.declared.fields.Fields.{Fields}
 use Rattle.pe_base.specs.declared.tally.Tally.{Tally}
 use Rattle.pe_base.specs.Tree.Dim.{IsDim}
-use Rattle.pe_base.specs.Walk.Course.{Cause, done, halts}
 use Rattle.pe_base.specs.Walk.Core.{Setting}
 use Rattle.pe_base.specs.Walk.Grids.{Grid, IsWellFormed}
 use Rattle.pe_base.specs.Walk.Traversals.{Traversal}
@@ -24,7 +22,6 @@ use Rattle.pe_hang.specs.Follows.{Found, Failure, halted, unwritten, wanting, un
 use Rattle.pe_adapt.specs.declared.stop.WalkStop.{WalkStop}
 use Rattle.pe_adapt.specs.Stops.{failure_of}
 use Rattle.pe_scene.specs.declared.scenario.Scenario.{Scenario}
-use Rattle.pe_scene.specs.Said.{Said}
 use Rattle.pe_scene.specs.SaidView.{said_of}
 use Rattle.pe_interp.specs.Effect.{said_rules, scenario_rules}
 use Rattle.pe_interp.specs.Held.{fields_numbers}
@@ -36,7 +33,7 @@ use Rattle.pe_walk.specs.Traversing.{IsAdvanced, MayTraverse, Traverses, Answers
 use Rattle.pe_run.specs.declared.traversals.Between.{Between}
 use Rattle.pe_run.specs.Run.{said_setting}
 use Rattle.pe_run.specs.Traffic.{is_swapped, HasTraffic}
-use Rattle.pe_run.specs.Between.{most_rise, Stands, IsTraversed, FailsToTell, StopsFor, WalkAnswer}
+use Rattle.pe_run.specs.Between.{most_rise, Stands, IsTraversed, StopsFor, WalkAnswer}
 use Rattle.pe_run.proofs.Counting.{swapped_more, counts_more}
 
 -- depots through which records are seen have as many stacks

@@ -1,5 +1,5 @@
 -- What stands between two traversals of a scenario.
-use Rattle.std.specs.Prelude.{◌≡◌, ℕ, ℤ, ◌⊎◌, ◌+◌, ◌*◌, ◌≤◌, List, [], ◌∷◌, ◌++◌, length, Result, Ok, Err}
+use Rattle.std.specs.Prelude.{◌≡◌, ℕ, ◌⊎◌, ◌+◌, ◌*◌, List, [], ◌∷◌, ◌++◌, length, Result, Ok, Err}
 use Rattle.pe_base.specs.declared.fields.Fields.{Fields}
 use Rattle.pe_base.specs.declared.tally.Tally.{Tally}
 use Rattle.pe_base.specs.Lines.{tally_line}
@@ -10,7 +10,6 @@ use Rattle.pe_base.specs.Walk.Walk.{traverse}
 use Rattle.pe_base.specs.Walk.Working.{no_tally}
 use Rattle.pe_stacks.specs.declared.record.Vertex.{Vertex}
 use Rattle.pe_stacks.specs.declared.record.CellRec.{CellRec}
-use Rattle.pe_stacks.specs.declared.grid.Grid.{Grid as Handle}
 use Rattle.pe_stacks.specs.Holdings.{Holdings, CountsWithin}
 use Rattle.pe_mapping.specs.Held.{Told, Adds, AddsPart, SinkFailed}
 use Rattle.pe_hang.specs.Follows.{Failure, halted, unwritten, wanting, unheard_of}

@@ -1,6 +1,6 @@
 -- How a run ends: the number of its status, and its last line.
 use Rattle.std.specs.Prelude.{ℕ, List, [], ◌∷◌, codes, Result, Ok, Err}
-use Rattle.pe_base.specs.Acts.Effects.{Fault, Overflow, Division}
+use Rattle.pe_base.specs.Acts.Effects.{Overflow, Division}
 use Rattle.pe_base.specs.Lines.{done_line, fault_words, fault_shelf_scenario, fault_scenario, fault_at_key, fault_in_body, fault_at_event, fault_cells}
 use Rattle.pe_base.specs.Walk.Course.{Cause, fault_at, limit_at, Ending, done, halts, stuck}
 use Rattle.pe_base.specs.Walk.Grids.{Grid}

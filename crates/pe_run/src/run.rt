@@ -1,6 +1,7 @@
 // The run of the program, stage by stage.
-ghost use Rattle.std.specs.Prelude.{◌≡◌, ◌≢◌, ◌≤◌, ◌+◌, Result as Outcome, Err, Ok, OnOk, map, length, string_bytes};
+ghost use Rattle.std.specs.Prelude.{◌≡◌, ◌≢◌, ◌≤◌, ◌+◌, Result as Outcome, Err, Ok, OnOk, OnErr, map, length, string_bytes};
 ghost use Rattle.pe_io.specs.Counts.{Rises};
+ghost use Rattle.pe_io.specs.Sink.{Appends, AppendsPrefix};
 ghost use Rattle.pe_stacks.specs.Holdings.{new_holdings, cleared};
 ghost use Rattle.pe_scene.specs.Said.{Said};
 ghost use Rattle.pe_scene.specs.SaidView.{said_of};
@@ -8,7 +9,7 @@ ghost use Rattle.pe_scene.specs.declared.scenario.Scenario.{Scenario as AScenari
 ghost use Rattle.pe_run.specs.declared.refusal.Refusal.{Refusal as ARefusal};
 ghost use Rattle.pe_run.specs.declared.traversals.Halt.{Halt as AHalt};
 ghost use Rattle.pe_run.specs.Words.{job_of};
-ghost use Rattle.pe_run.specs.Endings.{ending_of};
+ghost use Rattle.pe_run.specs.Endings.{ending_of, scene_line};
 ghost use Rattle.pe_run.specs.Traffic.{IsSettled};
 ghost use Rattle.pe_run.specs.Run.{run_asked, names_of, CountsTraversals, IsRun, IsShelfCause, IsComplete};
 ghost use Rattle.pe_run.specs.Stages.{told_by, IsAsked, EndsFor, RunsTo};
@@ -20,31 +21,47 @@ use crate::status::{Status, Stop, exit_status};
 use crate::traversals::{Halt, traverse_all};
 use pe_adapt::WalkStop;
 use pe_base::{Dim, Fields, Stop as EventStop};
-use pe_io::{Shelf, Sink};
+use pe_io::{Shelf, Sink, SinkFailed};
 use pe_scene::{Scenario, SceneFault};
 use pe_stacks::{CellRec, Depot, Shown, Vertex};
 use std::alloc::Global;
 
 // Writes the line of a refused scenario; want of memory has none.
+fn write_scene_fault<K: Sink>(fault: &SceneFault, sink: &mut K) -> Result<(), SinkFailed>
+    ensures ok { OnOk result (Appends (K.text sink.old) (scene_line fault.now) (K.text sink.new)) }
+    ensures err { OnErr result (AppendsPrefix (K.text sink.old) (scene_line fault.now) (K.text sink.new)) }
+    ensures faults { K.faults sink.old ≤ K.faults sink.new }
+    ensures failed { OnErr result (Rises (K.faults sink.old) (K.faults sink.new)) }
+{
+    match fault {
+        SceneFault::TooLong => sink.write(b"fault scenario too-long\n"),
+        SceneFault::NotToml => sink.write(b"fault scenario not-toml\n"),
+        SceneFault::UnknownKey { key } => write_key_fault("unknown-key", key.as_str(), sink),
+        SceneFault::Missing { key } => write_key_fault("missing", key.as_str(), sink),
+        SceneFault::Shape { key } => write_key_fault("shape", key.as_str(), sink),
+        SceneFault::Range { key } => write_key_fault("range", key.as_str(), sink),
+        SceneFault::Name { key } => write_key_fault("name", key.as_str(), sink),
+        SceneFault::Body { event, at, cause } => write_body_fault(*event, *at, *cause, sink),
+        SceneFault::Memory => Ok(()),
+    }
+}
+
+// Ends a run whose scenario is refused, or for which there was no memory.
 fn refuse_scenario<K: Sink>(fault: &SceneFault, sink: &mut K) -> Result<Status, Stop>
     ensures run { (said : Outcome Said ARefusal) → IsAsked {S = AScenario} said_of (Err (Refusal.Scene fault.now)) said
         → RunsTo (run_asked said) (told_by K.text K.faults sink.old) (told_by K.text K.faults sink.new) result }
+    ensures status { OnOk result (result ≢ Ok Status.Done) }
 {
     match fault {
-        SceneFault::TooLong => sink.write(b"fault scenario too-long\n")?,
-        SceneFault::NotToml => sink.write(b"fault scenario not-toml\n")?,
-        SceneFault::UnknownKey { key } => write_key_fault("unknown-key", key.as_str(), sink)?,
-        SceneFault::Missing { key } => write_key_fault("missing", key.as_str(), sink)?,
-        SceneFault::Shape { key } => write_key_fault("shape", key.as_str(), sink)?,
-        SceneFault::Range { key } => write_key_fault("range", key.as_str(), sink)?,
-        SceneFault::Name { key } => write_key_fault("name", key.as_str(), sink)?,
-        SceneFault::Body { event, at, cause } => write_body_fault(*event, *at, *cause, sink)?,
-        SceneFault::Memory => return Err(Stop::Memory),
+        SceneFault::Memory => Err(Stop::Memory),
+        _ => {
+            write_scene_fault(fault, sink)?;
+            Ok(Status::Refused)
+        }
     }
-    Ok(Status::Refused)
 }
 
-// Writes the line of a refusal.
+// Ends a run for which there is no scenario.
 fn refuse<K: Sink>(refusal: &Refusal, sink: &mut K) -> Result<Status, Stop>
     ensures run { (said : Outcome Said ARefusal) → IsAsked {S = AScenario} said_of (Err refusal.now) said
         → RunsTo (run_asked said) (told_by K.text K.faults sink.old) (told_by K.text K.faults sink.new) result }
@@ -95,6 +112,7 @@ fn run_scenario<K: Sink, DV: Depot<Vertex<Fields>>, DC: Depot<CellRec<Fields>>>(
     vertices: &mut DV,
     cells: &mut DC,
 ) -> Result<Status, Stop>
+    requires few { scenario.now.traversals ≤ 1000 }
     requires vertices { DV.holds vertices.old ≡ new_holdings 10 }
     requires cells { DC.holds cells.old ≡ new_holdings 2 }
     ensures run { RunsTo (run_asked (Ok (said_of scenario.now))) (told_by K.text K.faults sink.old) (told_by K.text K.faults sink.new) result }

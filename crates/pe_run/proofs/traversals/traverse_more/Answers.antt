@@ -1,5 +1,4 @@
 use Rattle.std.proofs.Common.{◌+◌, ◌∙◌, ap}
-use Rattle.pe_base.specs.Lines.{tally_line}
 use Rattle.pe_run.specs.Stages.{told_by}
 use Rattle.pe_run.proofs.Telling.{adds_told, part_told}
 use Rattle.pe_run.proofs.Tallied.{with_line, fails_at_line}
