@@ -170,7 +170,22 @@ impl CellState {
         }
     }
 
+    // The number by which the cell takes its corner, where this is the last axis. A literal makes it short.
+    #[inline(always)]
+    fn coming_along(&self, last: u8, row: &Row, corner: u8) -> u32
+        requires corner { corner < 2 ^ axes_of self.now }
+        requires row { IsRow (axes_of self.now) (front_of self.now) row.now }
+        requires axes { IsDim (axes_of self.now) }
+        requires last { last + 1 ≡ axes_of self.now }
+        ensures { (axes : ℕ) (way : AWay) (cell : APlace) → IsCellPlace axes cell → StandsFor axes way cell self.now
+            → let vertex = corner_at axes cell corner in IsInside axes vertex → stack_of result ≡ stack_in axes way vertex cell }
+    {
+        let here = self.along[last as usize].at((corner >> last) % 2).coming;
+        here.max(row.coming[(corner % (1 << last)) as usize])
+    }
+
     /// The number by which the cell takes its corner, as `coming` tells it, from the row that the cell is in.
+    #[inline(always)]
     pub fn coming_in(&self, row: &Row, corner: u8) -> u32
         requires corner { corner < 2 ^ axes_of self.now }
         requires row { IsRow (axes_of self.now) (front_of self.now) row.now }
@@ -178,12 +193,29 @@ impl CellState {
         ensures { (axes : ℕ) (way : AWay) (cell : APlace) → IsCellPlace axes cell → StandsFor axes way cell self.now
             → let vertex = corner_at axes cell corner in IsInside axes vertex → stack_of result ≡ stack_in axes way vertex cell }
     {
-        let last = self.axes - 1;
-        let here = self.along[last as usize].at((corner >> last) % 2).coming;
-        here.max(row.coming[(corner % (1 << last)) as usize])
+        match self.axes {
+            2 => self.coming_along(1, row, corner),
+            3 => self.coming_along(2, row, corner),
+            _ => self.coming_along(3, row, corner),
+        }
+    }
+
+    // The number by which the cell hands its corner on, where this is the last axis. A literal makes it short.
+    #[inline(always)]
+    fn going_along(&self, last: u8, row: &Row, corner: u8) -> u32
+        requires corner { corner < 2 ^ axes_of self.now }
+        requires row { IsRow (axes_of self.now) (front_of self.now) row.now }
+        requires axes { IsDim (axes_of self.now) }
+        requires last { last + 1 ≡ axes_of self.now }
+        ensures { (axes : ℕ) (way : AWay) (cell : APlace) → IsCellPlace axes cell → StandsFor axes way cell self.now
+            → let vertex = corner_at axes cell corner in IsInside axes vertex → stack_of result ≡ stack_out axes way vertex cell }
+    {
+        let here = self.along[last as usize].at((corner >> last) % 2).going;
+        here.max(row.going[(corner % (1 << last)) as usize])
     }
 
     /// The number by which the cell hands its corner on, as `going` tells it, from the row that the cell is in.
+    #[inline(always)]
     pub fn going_in(&self, row: &Row, corner: u8) -> u32
         requires corner { corner < 2 ^ axes_of self.now }
         requires row { IsRow (axes_of self.now) (front_of self.now) row.now }
@@ -191,9 +223,11 @@ impl CellState {
         ensures { (axes : ℕ) (way : AWay) (cell : APlace) → IsCellPlace axes cell → StandsFor axes way cell self.now
             → let vertex = corner_at axes cell corner in IsInside axes vertex → stack_of result ≡ stack_out axes way vertex cell }
     {
-        let last = self.axes - 1;
-        let here = self.along[last as usize].at((corner >> last) % 2).going;
-        here.max(row.going[(corner % (1 << last)) as usize])
+        match self.axes {
+            2 => self.going_along(1, row, corner),
+            3 => self.going_along(2, row, corner),
+            _ => self.going_along(3, row, corner),
+        }
     }
 
     /// Where the cell takes its corner from: the stream exactly where no other cell comes before it around the

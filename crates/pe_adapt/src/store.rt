@@ -27,6 +27,7 @@ use pe_states::last_touch;
 
 /// Puts a record on a stack. Where there is no memory it is given up.
 #[inline]
+#[inline(always)]
 pub fn put_down<X, D: Depot<X>>(d: &mut D, s: u8, r: X) -> Result<(), Halt>
     requires may { MayPush (D.holds d.old) s }
     ensures pushed { OnOk result (D.holds d.new ≡ pushed (D.holds d.old) s r) }

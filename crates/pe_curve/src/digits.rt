@@ -24,20 +24,43 @@ fn forward_digits(dim: Dim, flips: u8, n: u8) -> Digits
     ensures child { slice_get (child_digits dim Forward (bits dim flips)) n ≡ Some result }
     ensures digits { IsDigits dim result }
 {
-    let mut part = dim.parts();
-    let mut rest = n;
-    let mut flips_left = flips;
-    let mut before = 0;
-    let mut k = [0; 4];
-    for axis in 0..dim.axes() as usize {
-        part /= 3;
-        let t = rest / part;
-        rest %= part;
-        k[axis] = mirrored(flips_left % 2 + before, t);
-        flips_left /= 2;
-        before += t;
+    let first = flips % 2;
+    let second = flips / 2 % 2;
+    let third = flips / 4 % 2;
+    let fourth = flips / 8 % 2;
+    match dim.axes() {
+        2 => {
+            let (x, y) = (n / 3, n % 3);
+            Digits {
+                k: [mirrored(first, x), mirrored(second + x, y), 0, 0],
+            }
+        }
+        3 => {
+            let (x, rest) = (n / 9, n % 9);
+            let (y, z) = (rest / 3, rest % 3);
+            Digits {
+                k: [
+                    mirrored(first, x),
+                    mirrored(second + x, y),
+                    mirrored(third + x + y, z),
+                    0,
+                ],
+            }
+        }
+        _ => {
+            let (x, behind) = (n / 27, n % 27);
+            let (y, rest) = (behind / 9, behind % 9);
+            let (z, w) = (rest / 3, rest % 3);
+            Digits {
+                k: [
+                    mirrored(first, x),
+                    mirrored(second + x, y),
+                    mirrored(third + x + y, z),
+                    mirrored(fourth + x + y + z, w),
+                ],
+            }
+        }
     }
-    Digits { k }
 }
 
 // A digit, mirrored where the number of turns is odd.

@@ -104,6 +104,7 @@ impl<R: Drop> Depot<R> for VecDepot<R> {
         self.most
     }
 
+    #[inline(always)]
     fn lend(&mut self, r: R) -> R {
         self.fresh += 1;
         self.out += 1;
@@ -111,11 +112,13 @@ impl<R: Drop> Depot<R> for VecDepot<R> {
         r
     }
 
+    #[inline(always)]
     fn give_up(&mut self, _r: R) {
         self.spent += 1;
         self.out -= 1;
     }
 
+    #[inline(always)]
     fn push(&mut self, s: u8, r: R) -> Result<(), R> {
         match self.stacks[s as usize].push(r) {
             Ok(()) => {
@@ -126,12 +129,13 @@ impl<R: Drop> Depot<R> for VecDepot<R> {
         }
     }
 
+    // It is counted first, so that the record moves once, from its stack to where it is wanted.
+    #[inline(always)]
     fn pop(&mut self, s: u8) -> R {
-        let r = self.stacks[s as usize].pop();
         let out = self.out + 1;
         self.out = out;
         self.most = self.most.max(out);
-        r
+        self.stacks[s as usize].pop()
     }
 
     fn reserve(&mut self, s: u8, n: u64) -> Result<(), AllocError> {

@@ -30,6 +30,7 @@ impl<R> VecStack<R> {
         (self.items.capacity() - self.items.len()) as u64
     }
 
+    #[inline(always)]
     pub(crate) fn push(&mut self, r: R) -> Result<(), R>
         requires { self.old.pushes < 2 ^ 63 }
         ensures handed { IfErr result (λ back. back ≡ r) }
@@ -46,6 +47,7 @@ impl<R> VecStack<R> {
         }
     }
 
+    #[inline(always)]
     pub(crate) fn pop(&mut self) -> R
         requires full { 0 < vec_len self.old.items }
         requires count { self.old.pops < 2 ^ 63 }

@@ -50,6 +50,25 @@ fn child_marks(settings: &Settings, above: &Above, row_marks: Marks, digits: Dig
     }
 }
 
+// Makes a child the one at these digits, of whatever row.
+fn turn_to(settings: &Settings, above: &Above, child: &mut Child, digits: Digits)
+    requires above { IsAbove settings.now.setup.dim settings.now above.now }
+    requires digits { IsDigits settings.now.setup.dim digits }
+    ensures child { IsChild settings.now.setup.dim settings.now above.now child.new }
+    ensures digits { child.new.digits ≡ digits }
+{
+    let dim = settings.setup.dim;
+    let place = child_at(&above.place, digits);
+    child.cell.place = place;
+    child.cell.state = above.state.descend(digits);
+    child.cell.row = child.cell.state.row();
+    let row_marks = above.marks.row(dim, digits);
+    child.row_marks = row_marks;
+    let marks = child_marks(settings, above, row_marks, digits);
+    child.cell.marks = marks;
+    child.digits = digits;
+}
+
 /// The child at these digits.
 pub(crate) fn child_of(settings: &Settings, above: &Above, digits: Digits) -> Child
     requires above { IsAbove settings.now.setup.dim settings.now above.now }
@@ -57,20 +76,18 @@ pub(crate) fn child_of(settings: &Settings, above: &Above, digits: Digits) -> Ch
     ensures child { IsChild settings.now.setup.dim settings.now above.now result }
     ensures digits { result.digits ≡ digits }
 {
-    let dim = settings.setup.dim;
-    let state = above.state.descend(digits);
-    let row_marks = above.marks.row(dim, digits);
-    let marks = child_marks(settings, above, row_marks, digits);
-    Child {
+    let mut child = Child {
         cell: WalkedCell {
-            place: child_at(&above.place, digits),
-            state,
-            row: state.row(),
-            marks,
+            place: above.place,
+            state: above.state,
+            row: above.state.row(),
+            marks: above.marks,
         },
         digits,
-        row_marks,
-    }
+        row_marks: above.marks,
+    };
+    turn_to(settings, above, &mut child, digits);
+    child
 }
 
 // Makes a child the one at these digits, of the same row.
@@ -112,6 +129,6 @@ pub(crate) fn move_to(settings: &Settings, above: &Above, child: &mut Child, dig
     if are_in_one_row(settings.setup.dim, &child.digits, &digits) {
         step_to(settings, above, child, digits);
     } else {
-        *child = child_of(settings, above, digits);
+        turn_to(settings, above, child, digits);
     }
 }

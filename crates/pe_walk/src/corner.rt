@@ -16,6 +16,7 @@ use pe_adapt::{Halt, put_down};
 use pe_base::Kind;
 use pe_mapping::Mapping;
 use pe_stacks::{CellRec, Corners, Depot, Vertex, fill_slot, filled};
+use pe_states::kind_of;
 
 // Loads a corner. One that is on its way from another cell is popped, and that is all.
 #[inline(always)]
@@ -44,21 +45,19 @@ pub(crate) fn load_corner<M: Mapping, DV: Depot<Vertex<M::V>>>(
     ensures loaded { OnOk result (IsSome slot.new) }
     ensures emptied { OnErr result (slot.new ≡ None) }
 {
-    let kind = cell.marks.kind_at(k);
-    match kind {
-        Kind::Hanging => load_hanging(settings, cell, k, progress, slot, m, dv, parents, parent),
-        _ => {
-            let come = cell.state.coming_in(&cell.row, k);
-            if come == 0 {
-                load_first(
-                    settings, cell, k, kind, progress, slot, m, dv, parents, parent,
-                )
-            } else {
-                fill_slot(slot, dv.pop((come % 8) as u8));
-                Ok(())
-            }
-        }
+    let (old, new) = cell.marks.at(k);
+    if !old && !new {
+        return load_hanging(settings, cell, k, progress, slot, m, dv, parents, parent);
     }
+    let come = cell.state.coming_in(&cell.row, k);
+    if come == 0 {
+        let kind = kind_of(old, new);
+        return load_first(
+            settings, cell, k, kind, progress, slot, m, dv, parents, parent,
+        );
+    }
+    fill_slot(slot, dv.pop((come % 8) as u8));
+    Ok(())
 }
 
 // Stores a corner. One that goes on to another cell is pushed, and that is all.

@@ -1,5 +1,7 @@
-use Rattle.std.proofs.Common.{◌≡◌, ap, refl, sym, subst, ◌∙◌, true, Some, Ok}
+use Rattle.std.proofs.Common.{◌≡◌, ◌⊎◌, ap, refl, sym, subst, ◌∙◌, Bool, true, false, Some, Ok, inl, inr}
 use Rattle.std.specs.Prelude.{◌%◌, is_none, is_some}
+use Rattle.pe_base.specs.declared.kind.Kind.TheVariants.{Hanging}
+use Rattle.pe_base.specs.Life.Kinds.{kind_from}
 use Rattle.pe_base.specs.Tree.Places.{corner}
 use Rattle.pe_base.specs.Steps.Routes.{stack_in}
 use Rattle.pe_base.specs.Walk.Core.{way}
@@ -19,8 +21,16 @@ use Rattle.pe_walk.proofs.CornerTouches.{goes-load, may-load-desk, may-load-plac
 use Rattle.pe_walk.proofs.corner.load_corner.Goals as goal
 use Rattle.pe_walk.proofs.Walking.{keeps-same}
 
-pub kind_at-kind-requires : goal.kind_at-kind-requires
-kind_at-kind-requires g c = small_corner (g.M.Mapping.held c.args.m.now).dim c.args.k c.requires.walked.state.grid.1 c.requires.corner
+pub at-old-requires : goal.at-old-requires
+at-old-requires g c = small_corner (g.M.Mapping.held c.args.m.now).dim c.args.k c.requires.walked.state.grid.1 c.requires.corner
+
+-- a vertex that is old or new counts
+counts : (old new : Bool) → ((old ≡ false) × (new ≡ true)) ⊎ (old ≡ true) → kind_from old new ≡ Hanging → ⊥
+counts true true either hangs = cc
+counts true false either hangs = cc
+counts false true either hangs = cc
+counts false false (inl is) hangs = let wrong : false ≡ true = is.1 in cc
+counts false false (inr is) hangs = let wrong : false ≡ true = is in cc
 
 pub load_first-requires-clause-first : goal.load_first-requires-clause-first
 load_first-requires-clause-first g c =
@@ -33,10 +43,12 @@ load_first-requires-clause-first g c =
     let room = g.DV.Depot.room c.args.dv.now in
     let old = hand_of held holds room c.args.parents.now c.args.parent.now c.args.progress.now in
     let vertex = corner held.dim cell.place c.args.k in
-    let kind = c.kind_at-kind.ensures ∙ c.requires.kinds c.args.k c.requires.corner in
+    let here = kind_from c.at-old.result.0 c.at-old.result.1 in
+    let counted = counts c.at-old.result.0 c.at-old.result.1 c.else-not-old.either in
+    let kind = ap (λ (marks : Bool × Bool). kind_from marks.0 marks.1) c.at-old.ensures ∙ c.requires.kinds c.args.k c.requires.corner in
     let placed = subst (λ kind. is_placed held.dim kind vertex ≡ true) (sym kind) (may-load-placed rules numbers settings cell.place c.args.k (Ok tt) old old c.requires.fits) in
     let number = c.coming_in-come.result in
-    let route = route-is stack_in held.dim settings cell c.args.k c.kind_at-kind.result number c.requires.walked c.in_default.not-Hanging placed c.coming_in-come.ensures in
+    let route = route-is stack_in held.dim settings cell c.args.k here number c.requires.walked counted placed c.coming_in-come.ensures in
     sym route ∙ number-none number c.if-come-eq0.true
 
 pub pop-requires : goal.pop-requires
@@ -50,22 +62,24 @@ pop-requires g c =
     let room = g.DV.Depot.room c.args.dv.now in
     let old = hand_of held holds room c.args.parents.now c.args.parent.now c.args.progress.now in
     let vertex = corner held.dim cell.place c.args.k in
-    let kind = c.kind_at-kind.ensures ∙ c.requires.kinds c.args.k c.requires.corner in
+    let here = kind_from c.at-old.result.0 c.at-old.result.1 in
+    let counted = counts c.at-old.result.0 c.at-old.result.1 c.else-not-old.either in
+    let kind = ap (λ (marks : Bool × Bool). kind_from marks.0 marks.1) c.at-old.ensures ∙ c.requires.kinds c.args.k c.requires.corner in
     let placed = subst (λ kind. is_placed held.dim kind vertex ≡ true) (sym kind) (may-load-placed rules numbers settings cell.place c.args.k (Ok tt) old old c.requires.fits) in
     let number = c.coming_in-come.result in
-    let route = route-is stack_in held.dim settings cell c.args.k c.kind_at-kind.result number c.requires.walked c.in_default.not-Hanging placed c.coming_in-come.ensures in
+    let route = route-is stack_in held.dim settings cell c.args.k here number c.requires.walked counted placed c.coming_in-come.ensures in
     let s = number % 8 in
     let from = sym (number-some number c.if-come-eq0.false) ∙ route in
     let set = setting_in rules held settings in
     let family = family_in_hand numbers c.args.parents.now c.args.parent.now held.list in
     let desk = desk_in_hand numbers holds c.args.parents.now c.args.parent.now held.list in
-    let same = load-same set held.dim settings.input cell.place c.args.k desk c.kind_at-kind.result (Some s) vertex refl refl kind (λ counts. from) in
+    let same = load-same set held.dim settings.input cell.place c.args.k desk here (Some s) vertex refl refl kind (λ counts. from) in
     let fits = subst Fits (sym same) (may-load-desk rules numbers settings cell.place c.args.k (Ok tt) old old c.requires.fits) in
-    let may = waiting-may (seen_vertex numbers.vertex) set settings.input vertex holds family c.kind_at-kind.result (Some s) s c.in_default.not-Hanging refl fits in
+    let may = waiting-may (seen_vertex numbers.vertex) set settings.input vertex holds family here (Some s) s counted refl fits in
     record { stack = may.stack; full = may.full; count = may.count }
 
-pub returns-else-come-eq0-clause-goes : goal.returns-else-come-eq0-clause-goes
-returns-else-come-eq0-clause-goes g c =
+pub returns-clause-goes : goal.returns-clause-goes
+returns-clause-goes g c =
     let held = g.M.Mapping.held c.args.m.now in
     let numbers = g.M.Mapping.numbers in
     let rules = g.M.Effects.rules in
@@ -75,16 +89,18 @@ returns-else-come-eq0-clause-goes g c =
     let room = g.DV.Depot.room c.args.dv.now in
     let old = hand_of held holds room c.args.parents.now c.args.parent.now c.args.progress.now in
     let vertex = corner held.dim cell.place c.args.k in
-    let kind = c.kind_at-kind.ensures ∙ c.requires.kinds c.args.k c.requires.corner in
+    let here = kind_from c.at-old.result.0 c.at-old.result.1 in
+    let counted = counts c.at-old.result.0 c.at-old.result.1 c.else-not-old.either in
+    let kind = ap (λ (marks : Bool × Bool). kind_from marks.0 marks.1) c.at-old.ensures ∙ c.requires.kinds c.args.k c.requires.corner in
     let placed = subst (λ kind. is_placed held.dim kind vertex ≡ true) (sym kind) (may-load-placed rules numbers settings cell.place c.args.k (Ok tt) old old c.requires.fits) in
     let number = c.coming_in-come.result in
-    let route = route-is stack_in held.dim settings cell c.args.k c.kind_at-kind.result number c.requires.walked c.in_default.not-Hanging placed c.coming_in-come.ensures in
+    let route = route-is stack_in held.dim settings cell c.args.k here number c.requires.walked counted placed c.coming_in-come.ensures in
     let s = number % 8 in
     let from = sym (number-some number c.if-come-eq0.false) ∙ route in
     let set = setting_in rules held settings in
     let family = family_in_hand numbers c.args.parents.now c.args.parent.now held.list in
     let desk = desk_in_hand numbers holds c.args.parents.now c.args.parent.now held.list in
-    let same = load-same set held.dim settings.input cell.place c.args.k desk c.kind_at-kind.result (Some s) vertex refl refl kind (λ counts. from) in
+    let same = load-same set held.dim settings.input cell.place c.args.k desk here (Some s) vertex refl refl kind (λ counts. from) in
     let fits = subst Fits (sym same) (may-load-desk rules numbers settings cell.place c.args.k (Ok tt) old old c.requires.fits) in
     let holds' = g.DV.Depot.holds c.pop.new.self in
     let room' = g.DV.Depot.room c.pop.new.self in
@@ -94,11 +110,11 @@ returns-else-come-eq0-clause-goes g c =
     let kind' = kind_in_hand set cell.place (seen_corners numbers.vertex c.args.parents.now) vertex in
     let first = is_none (stack_in held.dim (way set) vertex cell.place) in
     goes-load rules numbers settings cell.place c.args.k (Ok tt) old new slot' c.requires.fits
-    (sym (tally-comes kind' first c.args.progress.now.tally (λ hangs. c.in_default.not-Hanging (kind ∙ hangs)) (ap is_none (sym from))))
+    (sym (tally-comes kind' first c.args.progress.now.tally (λ hangs. counted (kind ∙ hangs)) (ap is_none (sym from))))
     (λ cells. subst (λ course. Follows course (λ (done : Unit {0}). (seen_slot numbers.vertex slot', desk')) (Ok tt) (found_in old cells) held.told) same
-    (subst (λ slot. Follows (load_as set settings.input c.kind_at-kind.result (Some s) vertex desk) (λ (done : Unit {0}). (seen_slot numbers.vertex slot, desk')) (Ok tt) (found_in old cells) held.told)
+    (subst (λ slot. Follows (load_as set settings.input here (Some s) vertex desk) (λ (done : Unit {0}). (seen_slot numbers.vertex slot, desk')) (Ok tt) (found_in old cells) held.told)
     (sym c.fill_slot.ensures)
-    (loaded-waiting (seen_vertex numbers.vertex) set settings.input vertex holds family c.kind_at-kind.result (Some s) s holds' c.pop.result (found_in old cells)
-    c.in_default.not-Hanging refl fits c.pop.ensures.holds c.pop.ensures.handed)))
+    (loaded-waiting (seen_vertex numbers.vertex) set settings.input vertex holds family here (Some s) s holds' c.pop.result (found_in old cells)
+    counted refl fits c.pop.ensures.holds c.pop.ensures.handed)))
     (popped-left holds holds' room room' s c.pop.ensures.holds c.pop.ensures.room) (keeps-same held) c.requires.full refl
     (ap is_some c.fill_slot.ensures) tt

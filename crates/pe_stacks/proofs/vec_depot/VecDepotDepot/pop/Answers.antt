@@ -15,8 +15,8 @@ invariant_of-self g c =
       balanced =
           omega (
             arith,
-            total_len-set xs c.args.s old old c.pop-r.new.self c.requires.stack c.index_mut.ensures.value,
-            length-items (stack_of c.pop-r.new.self) (popped_from (stack_of old)) c.pop-r.ensures.holds,
+            total_len-set xs c.args.s old old c.pop.new.self c.requires.stack c.index_mut.ensures.value,
+            length-items (stack_of c.pop.new.self) (popped_from (stack_of old)) c.pop.ensures.holds,
             length-drop 1 (stack_of old).items,
             depot.balanced,
             length-items _ (stack_of old) (stack_at-map xs c.args.s old old c.requires.stack c.index_mut.ensures.value),
@@ -28,10 +28,10 @@ invariant_of-self g c =
 pub returns-clause-room : goal.returns-clause-room
 returns-clause-room g c =
     let old = c.index_mut.result.now in
-    room_kept-set c.args.self.now.stacks.items c.args.s old old c.pop-r.new.self c.index_mut.ensures.value c.pop-r.ensures.room
+    room_kept-set c.args.self.now.stacks.items c.args.s old old c.pop.new.self c.index_mut.ensures.value c.pop.ensures.room
 
 pub returns-clause-holds : goal.returns-clause-holds
 returns-clause-holds g c =
     let xs = c.args.self.now.stacks.items in
     let old = c.index_mut.result.now in
-    cc (stacks-set popped_from xs c.args.s old old c.pop-r.new.self c.requires.stack c.index_mut.ensures.value c.pop-r.ensures.holds)
+    cc (stacks-set popped_from xs c.args.s old old c.pop.new.self c.requires.stack c.index_mut.ensures.value c.pop.ensures.holds)

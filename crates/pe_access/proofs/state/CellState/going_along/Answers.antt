@@ -10,7 +10,7 @@ use Rattle.pe_access.proofs.NumberLaws.{numbers_are, greatest_four, stack_of-gre
 use Rattle.pe_access.proofs.RouteProofs.{bits-small, route_out-is}
 use Rattle.pe_access.proofs.RowLaws.{number_at, in_row}
 use Rattle.pe_access.proofs.StateLaws.{front-lines, idle-rest}
-use Rattle.pe_access.proofs.state.CellState.going_in.Goals as goal
+use Rattle.pe_access.proofs.state.CellState.going_along.Goals as goal
 
 pub returns : goal.returns
 returns c axes way cell place h inside =
@@ -32,9 +32,13 @@ returns c axes way cell place h inside =
     λ i s within side. ap went (side_of i s (get_or along i d) (get_or lines i root_line) (are.each i d root_line within) side) in
     let idle : (i : ℕ) → n ≤ i → i < 4 → went (get_or along i d).near ≡ 0 =
     λ i past within. at i 0 within (omega arith) ∙ idle_going i (get_or lines i root_line) (idle_at lines i root_line are.four within (h.held.others i (omega (arith, past, h.same_axes)))) in
+    let last = c.args.last in
+    let behind : last ≡ n - 1 = omega arith in
     let here : c.at-here.result.going ≡ number_at went (get_or along (n - 1) d) (k / 2 ^ (n - 1) % 2) =
-    ap went c.at-here.ensures ∙ ap (λ a. number_at went a (k / 2 ^ (n - 1) % 2)) (are.each (n - 1) _ root_line (omega (arith, few, most)) ∙ sym (are.each (n - 1) d root_line (omega (arith, few, most)))) in
-    let front : slice_index row (k % (1 * 2 ^ (n - 1) % 256)) ≡ slice_index row (k % 2 ^ (n - 1)) = ap (λ (m : ℕ). slice_index row (k % m)) (one_shl (n - 1) 8 (omega (arith, few, most))) in
+    ap went c.at-here.ensures ∙ ap (λ a. number_at went a (k / 2 ^ last % 2)) (are.each last _ root_line (omega (arith, few, most)) ∙ sym (are.each last d root_line (omega (arith, few, most))))
+    ∙ ap (λ (m : ℕ). number_at went (get_or along m d) (k / 2 ^ m % 2)) behind in
+    let front : slice_index row (k % (1 * 2 ^ last % 256)) ≡ slice_index row (k % 2 ^ (n - 1)) =
+    ap (λ (m : ℕ). slice_index row (k % m)) (one_shl last 8 (omega (arith, few, most)) ∙ ap (λ (m : ℕ). 2 ^ m) behind) in
     let lowest : k / 1 % 2 ≡ k % 2 = omega arith in
     let first : number_at went (get_or along 0 d) (k / 1 % 2) ≡ face_number Later 0 (k % 2) (get_or lines 0 root_line) = ap (λ (b : ℕ). number_at went (get_or along 0 d) b) lowest ∙ at 0 (k % 2) (omega arith) (omega arith) in
     let number = c.max.ensures ∙ ap₂ (λ (x y : ℕ). max x y) here front ∙ in_row went n k along row d few most long c.requires.corner c.requires.row.going idle in

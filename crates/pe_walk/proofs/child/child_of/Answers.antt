@@ -1,5 +1,0 @@
-use Rattle.pe_base.proofs.Tree.PlaceLaws.{cell_coordinate_below}
-use Rattle.pe_walk.proofs.child.child_of.Goals as goal
-
-pub child_at-requires-clause-pos : goal.child_at-requires-clause-pos
-child_at-requires-clause-pos c = cell_coordinate_below c.args.settings.now.setup.dim c.args.above.now.place c.requires.above.place
