@@ -14,12 +14,12 @@ use Rattle.pe_mapping.specs.Held.{Held}
 use Rattle.pe_scene.specs.declared.scenario.Scenario.{Scenario}
 use Rattle.pe_scene.specs.SaidView.{said_of}
 use Rattle.pe_interp.specs.Held.{fields_numbers}
-use Rattle.pe_walk.specs.Traversing.{MayTraverse, HoldsNothing}
+use Rattle.pe_walk.specs.Traversing.{most_rise, MayTraverse, HoldsNothing}
 use Rattle.pe_walk.proofs.Beginnings.{may_begin}
 use Rattle.pe_run.specs.declared.traversals.Between.{Between}
 use Rattle.pe_run.specs.Run.{first_grid}
 use Rattle.pe_run.specs.Traffic.{HasTraffic}
-use Rattle.pe_run.specs.Between.{most_rise, Stands}
+use Rattle.pe_run.specs.Between.{Stands}
 
 -- each stack of a depot that nothing was done with is new
 all_new : {X : Type 0} (stacks s : ℕ) → get_or (replicate stacks (new_stack {X = X})) s new_stack ≡ new_stack

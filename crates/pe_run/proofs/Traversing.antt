@@ -29,11 +29,11 @@ use Rattle.pe_walk.specs.Gridded.{HoldsGrid}
 use Rattle.pe_walk.specs.InHand.{machine_between}
 use Rattle.pe_walk.specs.Outlooks.{IsNew, outlook}
 use Rattle.pe_walk.specs.Tallies.{ExactTraffic}
-use Rattle.pe_walk.specs.Traversing.{IsAdvanced, MayTraverse, Traverses, Answers}
+use Rattle.pe_walk.specs.Traversing.{most_rise, IsAdvanced, MayTraverse, Traverses, Answers}
 use Rattle.pe_run.specs.declared.traversals.Between.{Between}
 use Rattle.pe_run.specs.Run.{said_setting}
 use Rattle.pe_run.specs.Traffic.{is_swapped, HasTraffic}
-use Rattle.pe_run.specs.Between.{most_rise, Stands, IsTraversed, StopsFor, WalkAnswer}
+use Rattle.pe_run.specs.Between.{Stands, IsTraversed, StopsFor, WalkAnswer}
 use Rattle.pe_run.proofs.Counting.{swapped_more, counts_more}
 
 -- depots through which records are seen have as many stacks

@@ -18,16 +18,13 @@ use Rattle.pe_interp.specs.Held.{fields_numbers}
 use Rattle.pe_walk.specs.Gridded.{HoldsGrid}
 use Rattle.pe_walk.specs.InHand.{machine_between}
 use Rattle.pe_walk.specs.Outlooks.{IsNew}
+use Rattle.pe_walk.specs.Traversing.{most_rise}
 use Rattle.pe_adapt.specs.Stops.{failure_of}
 use Rattle.pe_run.specs.declared.traversals.Between.{Between}
 use Rattle.pe_run.specs.declared.traversals.Halt.{Halt}
 use Rattle.pe_run.specs.declared.traversals.Halt.TheVariants.{Walk, Line}
 use Rattle.pe_run.specs.Run.{said_setting}
 use Rattle.pe_run.specs.Traffic.{is_swapped, HasTraffic}
-
--- how far the counts of a depot rise in a traversal at most: by 64 for each cell, and once more
-abbrev pub most_rise : ℕ
-most_rise = 64 * (4194304 + 1)
 
 -- After some traversals of a scenario the depots, the handle and the numbers of the whole grid hold this grid, and the depots
 -- have counted the traversals.

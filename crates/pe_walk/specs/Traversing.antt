@@ -85,6 +85,15 @@ pub record WantsRoom {Plan : Type 0} (set : Setting Plan) (grid : Grid) (swapped
   pub told : AddsPart old.told course.text new
   pub room : old.sure ≡ true → LacksRoom set grid swapped old
 
+-- how far a traversal raises the counts of a depot at most: by 64 for each cell that may be walked, and once more
+abbrev pub most_rise : ℕ
+most_rise = 64 * (4194304 + 1)
+
+-- So the counts of depots that were new are within what a traversal asks for, for a billion traversals.
+abbrev pub CountsStay : Type 0
+CountsStay = (finished cells : ℕ) → finished ≤ 1000000000 → cells ≤ 4194304
+    → (most_rise * finished ≤ 2 ^ 60) × (most_rise * finished + 64 * (cells + 1) ≤ most_rise * (finished + 1))
+
 abbrev pub Answers : {Plan V C : Type 0} → Numbers V C → Setting Plan → Grid → Bool → Course (Grid × Tally) → Result (Handle C × Tally) Failure → Found → Stores V C → Held Plan → Stores V C → Type 0
 Answers numbers set grid swapped course (Ok answer) old before mapping after = Traverses numbers set grid swapped course old.told before mapping after answer
 Answers numbers set grid swapped course (Err (halted cause)) old before mapping after = Does course (halts cause) old.told mapping.told

@@ -35,6 +35,7 @@ ghost use Rattle.pe_walk.specs.Traffic.{TrafficOfACell, TrafficOfATraversal, Loa
 ghost use Rattle.pe_walk.specs.Apart.{StepsKeepApart, BeginsApart, CornersByCounting};
 ghost use Rattle.pe_walk.specs.FewCells.{FewCells, FewCellsOfTraversals, FewCellsOfGrids};
 ghost use Rattle.pe_walk.specs.Tallies.{TallyOfACell, TrafficByTally, KindsForeseen, TrafficOfGrids};
+ghost use Rattle.pe_walk.specs.Traversing.{CountsStay};
 ghost use Rattle.pe_walk.specs.TurnTraffic.{TallyIsForeseen, TurnsAreExact};
 ghost use Rattle.pe_walk.specs.Frames.{WhatStepsChange, WhatWalksLeave};
 ghost use Rattle.pe_walk.specs.CellsAhead.{WalkedCellsDiffer, StepsKeepAhead, BeginsAhead, MovesItsCells};
@@ -244,4 +245,10 @@ pub fn stacks_are_addresses<E: Effects>()
 pub fn turns_are_exact<E: Effects>()
     ensures tally { TallyIsForeseen E.Plan }
     ensures exact { TurnsAreExact E.Plan }
+{}
+
+/// No count of a depot that was new passes what a traversal asks for, over a billion traversals, each of no more cells than
+/// may be walked.
+pub fn counts_stay()
+    ensures stay { CountsStay }
 {}
