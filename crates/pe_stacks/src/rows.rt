@@ -52,8 +52,7 @@ fn depart_in_place<P>(corners: &mut Corners<P>, q: u8, state: State)
 }
 
 #[test]
-fn the_definitions_give_the_rows() {
-}
+fn the_definitions_give_the_rows() {}
 
 #[test]
 fn a_depot_of_ten_stacks(rt: HostRuntime) -> Result<(), Fail> {
