@@ -52,9 +52,6 @@ fn depart_in_place<P>(corners: &mut Corners<P>, q: u8, state: State)
 }
 
 #[test]
-fn the_definitions_give_the_rows() {}
-
-#[test]
 fn a_depot_of_ten_stacks(rt: HostRuntime) -> Result<(), Fail> {
     let alloc = rt.alloc();
     let mut depot = VecDepot::new(alloc, 10)?;
