@@ -47,6 +47,18 @@ fn deep_grids_that_do_not_change(rt: HostRuntime) -> Result<(), Fail> {
                 done\n",
             0,
         ),
+        // And on four axes.
+        plain(
+            b"\
+                dim = 4\n\
+                traversals = 2\n\
+                start_level = 2\n",
+            "\
+                traversal 1 forward cells 6642 in 0 out 4112 created 4112 destroyed 0 hanging 40480\n\
+                traversal 2 inverted cells 6642 in 4112 out 4112 created 0 destroyed 0 hanging 40480\n\
+                done\n",
+            0,
+        ),
     ];
     for row in &rows {
         let _depots = check(&rt, rt.alloc(), row)?;
@@ -346,8 +358,8 @@ fn the_traffic_of_one_refined_vertex(rt: HostRuntime) -> Result<(), Fail> {
     Ok(())
 }
 
-// The text of a run of which nothing fails, with its status.
-fn run(rt: &impl Abort, alloc: Global, scenario: &[u8]) -> Result<MemSink, Fail> {
+// The text of a run in which no call fails, and which ends with this status.
+fn run(rt: &impl Abort, alloc: Global, scenario: &[u8], expected: u8) -> Result<MemSink, Fail> {
     let mut shelf = MemShelf::new(alloc, &[])?;
     shelf.add(alloc, "S", scenario)?;
     let mut sink = MemSink::new(alloc, 131_072, &[])?;
@@ -361,7 +373,7 @@ fn run(rt: &impl Abort, alloc: Global, scenario: &[u8]) -> Result<MemSink, Fail>
         &mut depots.vertices,
         &mut depots.cells,
     );
-    assert_eq!(rt; status, 0);
+    assert_eq!(rt; status, expected);
     Ok(sink)
 }
 
@@ -381,6 +393,7 @@ fn vertices_that_hang_among_all_their_cells(rt: HostRuntime) -> Result<(), Fail>
             \n\
             [events]\n\
             touch_vertex_last_time = \"if t == 1 && level == 2 && x1 == 3 && (x0 == 2 || x0 == 4) { refine v; }\"\n",
+        0,
     )?;
     for (line, count) in [
         ("create_hanging_vertex 3 9 7\n", 4),
@@ -413,9 +426,30 @@ fn times(text: &[u8], piece: &[u8]) -> usize {
     count
 }
 
+// The line of the cell too many stands behind those of as many as may be.
+#[test]
+fn as_many_cells_as_may_be(rt: HostRuntime) -> Result<(), Fail> {
+    let sink = run(
+        &rt,
+        rt.alloc(),
+        b"\
+            dim = 2\n\
+            traversals = 2\n\
+            max_level = 5\n\
+            max_cells = 81\n\
+            start_level = 2\n\
+            trace = [\"enter_cell\"]\n",
+        4,
+    )?;
+    let last = "enter_cell 1 2 2\nfault cells traversal 1 2 6 6\n";
+    assert_eq!(rt; times(sink.text(), b"enter_cell "), 81);
+    assert!(rt; sink.text().ends_with(last.as_bytes()));
+    Ok(())
+}
+
 #[test]
 fn a_thousand_traversals(rt: HostRuntime) -> Result<(), Fail> {
-    let sink = run(&rt, rt.alloc(), b"dim = 2\ntraversals = 1000\n")?;
+    let sink = run(&rt, rt.alloc(), b"dim = 2\ntraversals = 1000\n", 0)?;
     let last =
         "traversal 1000 inverted cells 9 in 4 out 4 created 0 destroyed 0 hanging 20\ndone\n";
     assert!(rt; sink.text().ends_with(last.as_bytes()));
