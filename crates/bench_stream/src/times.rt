@@ -6,7 +6,7 @@ use std::io;
 use std::io::{ErrorKind, Print};
 use std::time::{Clock, Instant};
 
-/// How many seconds the steps took: a copy of the bytes, a read of them, and a write of what was read.
+/// How many seconds the moves took: a copy of the bytes, a read of them, and a write of what was read.
 #[derive(Clone, Copy)]
 pub struct Times {
     copied: f64,
@@ -39,7 +39,7 @@ impl Times {
         self.alike = self.alike && other.alike;
     }
 
-    /// Prints the time of each step as a ratio to the copy.
+    /// Prints the time of each move as a ratio to the copy.
     pub fn print(&self, rt: &impl Print) -> io::Result<()> {
         println!(rt; "copy   {:.3} s", self.copied)?;
         println!(rt;

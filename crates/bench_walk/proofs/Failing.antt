@@ -2,7 +2,7 @@
 use Rattle.std.proofs.Common.{◌≡◌, ℕ, ◌≤◌, List, [], take, drop, Option, Some, None, refl, sym, subst}
 use Rattle.std.proofs.lemmas.List.{take-append-drop}
 use Rattle.pe_base.specs.Acts.Effects.{Outcome}
-use Rattle.pe_io.specs.Counts.{Rises}
+use Rattle.pe_io.specs.Counters.{Rises}
 use Rattle.pe_io.specs.Sink.{AppendsPrefix}
 use Rattle.pe_mapping.specs.Held.{Told, Held, IsLonger, AddsPart}
 use Rattle.pe_mapping.specs.Answers.{IsSinkFault}

@@ -1,7 +1,7 @@
 -- What the proofs of the mappings cite.
 
 -- numbers that are counted
-pub mod Counts
+pub mod Counted
 -- the corners of a cell when each of them is counted
 pub mod CountedCorners
 -- events at cells whose corners are counted

@@ -1,7 +1,7 @@
 //! What the words ask for.
 ghost use Rattle.std.specs.Prelude.{◌≡◌, IfSome};
 
-use crate::running::Turns;
+use crate::running::Repeats;
 use pe_base::{Dim, Setup};
 
 const MOST_CELLS: u64 = 4_194_304;
@@ -10,11 +10,11 @@ const MOST_CELLS: u64 = 4_194_304;
 #[derive(Clone, Copy)]
 pub enum Job {
     /// A whole grid.
-    Regular(Setup, Turns),
+    Regular(Setup, Repeats),
     /// A sphere that moves.
-    Ring(Setup, Turns),
+    Ring(Setup, Repeats),
     /// A mill with a number.
-    Mill(Setup, Turns, u16),
+    Mill(Setup, Repeats, u16),
 }
 
 fn setup_of(axes: u8, max_level: u8, start_level: u8) -> Option<Setup> {
@@ -45,27 +45,27 @@ fn mill(number: u64) -> Option<Job> {
         _ => (4, 3),
     };
     let setup = setup_of(axes, levels, 1)?;
-    let turns = Turns {
+    let repeats = Repeats {
         all: 4 + number % 5,
         first: 1,
     };
-    Some(Job::Mill(setup, turns, (number % 1000) as u16))
+    Some(Job::Mill(setup, repeats, (number % 1000) as u16))
 }
 
 fn regular(axes: u8, level: u8, traversals: u64) -> Option<Job> {
-    let turns = Turns {
+    let repeats = Repeats {
         all: traversals,
         first: 1,
     };
-    Some(Job::Regular(setup_of(axes, level, level)?, turns))
+    Some(Job::Regular(setup_of(axes, level, level)?, repeats))
 }
 
 fn ring(axes: u8, level: u8, traversals: u64) -> Option<Job> {
-    let turns = Turns {
+    let repeats = Repeats {
         all: traversals,
         first: u64::from(level),
     };
-    Some(Job::Ring(setup_of(axes, level, 1)?, turns))
+    Some(Job::Ring(setup_of(axes, level, 1)?, repeats))
 }
 
 /// The job that the words behind the program's name ask for.

@@ -32,18 +32,18 @@ use times::Times;
 fn walk(rt: &HostRuntime, job: Job) -> io::Result<Times> {
     let alloc = rt.alloc();
     match job {
-        Job::Regular(setup, turns) => {
+        Job::Regular(setup, repeats) => {
             let mut mapping = Regular::new(setup.dim, setup.max_level);
-            walk_often(rt, alloc, &setup, turns, &mut mapping)
+            walk_often(rt, alloc, &setup, repeats, &mut mapping)
         }
-        Job::Ring(setup, turns) => match Ring::new(setup.dim, setup.max_level) {
+        Job::Ring(setup, repeats) => match Ring::new(setup.dim, setup.max_level) {
             Some(ring) => {
                 let mut mapping = ring;
-                walk_often(rt, alloc, &setup, turns, &mut mapping)
+                walk_often(rt, alloc, &setup, repeats, &mut mapping)
             }
             None => Err(io::Error::from(ErrorKind::InvalidInput)),
         },
-        Job::Mill(setup, turns, number) => {
+        Job::Mill(setup, repeats, number) => {
             let wheel = Wheel {
                 dim: setup.dim,
                 greatest: setup.max_level,
@@ -51,7 +51,7 @@ fn walk(rt: &HostRuntime, job: Job) -> io::Result<Times> {
             };
             let mut sink = StdSink::new(io::writer(rt));
             let mut mapping = Mill::new(wheel, &mut sink);
-            walk_often(rt, alloc, &setup, turns, &mut mapping)
+            walk_often(rt, alloc, &setup, repeats, &mut mapping)
         }
     }
 }

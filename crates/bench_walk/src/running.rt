@@ -20,7 +20,7 @@ const MOST_TRAVERSALS: u64 = 1_000_000_000;
 
 /// How often a grid is walked, and how many walks are behind before it has its size.
 #[derive(Clone, Copy)]
-pub struct Turns {
+pub struct Repeats {
     /// How often.
     pub all: u64,
     /// How many.
@@ -130,7 +130,7 @@ pub fn walk_often<M: Mapping>(
     rt: &(impl Print + Clock),
     alloc: Global,
     setup: &Setup,
-    turns: Turns,
+    repeats: Repeats,
     m: &mut M,
 ) -> io::Result<Times>
 where
@@ -144,9 +144,9 @@ where
     let root = m.fresh_c()?;
     let mut grid = begun(root, setup, m, &dv, &dc);
     let mut times = Times::none();
-    for turn in 0..turns.all {
+    for made in 0..repeats.all {
         let (next, tally, seconds) = walk_once(rt, grid, setup, m, &mut dv, &mut dc)?;
-        times.add(&tally, seconds, turn >= turns.first);
+        times.add(&tally, seconds, made >= repeats.first);
         grid = next;
     }
     drop(grid.close());

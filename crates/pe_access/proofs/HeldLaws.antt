@@ -19,45 +19,45 @@ use Rattle.pe_base.proofs.Steps.Levels.{cells}
 use Rattle.pe_base.proofs.Steps.Rounds.{order-cells, cells-long}
 use Rattle.pe_base.proofs.Steps.SlowerLaws.{times, count-tally, threes-times}
 use Rattle.pe_base.proofs.Steps.StackLaws.{length-parents}
-use Rattle.pe_base.proofs.Steps.Counts.{pos_itself}
-use Rattle.pe_access.specs.Lines.{Face, Earlier, Later, Outside, Line, bit_of, root_line, root_face, near_face, far_face}
-use Rattle.pe_access.specs.Faces.{relation_to, face_of, line_of}
-use Rattle.pe_access.proofs.ChildLines.{child_lines, lines_of}
-use Rattle.pe_access.proofs.LineLaws.{length-lines_of, lines_of-odd}
+use Rattle.pe_base.proofs.Steps.VertexTouches.{pos_itself}
+use Rattle.pe_access.specs.Extents.{Face, Earlier, Later, Outside, Extent, bit_of, root_extent, root_face, near_face, far_face}
+use Rattle.pe_access.specs.Faces.{relation_to, face_of, extent_of}
+use Rattle.pe_access.proofs.ChildExtents.{child_extents, extents_of}
+use Rattle.pe_access.proofs.ExtentLaws.{length-extents_of, extents_of-odd}
 use Rattle.pe_access.proofs.OrderLaws.{Beside, is_either, near_at, far_at, first_of, First, first-is, beside-apart, not-same, find-same}
 use Rattle.pe_access.proofs.RouteProofs.{index-padded, split}
 
 -- the faces of a child along an axis
-record NearChild (i level b : ℕ) (xs : List ℕ) (lines : List Line) : Type 0 where
+record NearChild (i level b : ℕ) (xs : List ℕ) (extents : List Extent) : Type 0 where
   pub turns : ℕ
-  pub is : near_at i (child_lines level b (parents xs) xs lines) ≡ (if slice_index xs i % 3 == 0 then near_at i lines else near_face level turns)
+  pub is : near_at i (child_extents level b (parents xs) xs extents) ≡ (if slice_index xs i % 3 == 0 then near_at i extents else near_face level turns)
 
-record FarChild (i level b : ℕ) (xs : List ℕ) (lines : List Line) : Type 0 where
+record FarChild (i level b : ℕ) (xs : List ℕ) (extents : List Extent) : Type 0 where
   pub turns : ℕ
-  pub is : far_at i (child_lines level b (parents xs) xs lines) ≡ (if slice_index xs i % 3 == 2 then far_at i lines else far_face level turns)
+  pub is : far_at i (child_extents level b (parents xs) xs extents) ≡ (if slice_index xs i % 3 == 2 then far_at i extents else far_face level turns)
 
-near-child : (i level b : ℕ) (xs : List ℕ) (lines : List Line) → i < length xs → length lines ≡ length xs → NearChild i level b xs lines
-near-child i level b [] lines h e = absurd (omega arith)
+near-child : (i level b : ℕ) (xs : List ℕ) (extents : List Extent) → i < length xs → length extents ≡ length xs → NearChild i level b xs extents
+near-child i level b [] extents h e = absurd (omega arith)
 near-child i level b (x ∷ xs) [] h e = absurd (omega arith)
-near-child zero level b (x ∷ xs) (line ∷ lines) h e = record { turns = b + x / 3; is = refl }
-near-child (suc i) level b (x ∷ xs) (line ∷ lines) h e =
-    let rest = near-child i level (b + x % 3) xs lines (omega arith) (omega arith) in
+near-child zero level b (x ∷ xs) (extent ∷ extents) h e = record { turns = b + x / 3; is = refl }
+near-child (suc i) level b (x ∷ xs) (extent ∷ extents) h e =
+    let rest = near-child i level (b + x % 3) xs extents (omega arith) (omega arith) in
     record { turns = rest.turns; is = rest.is }
 
-far-child : (i level b : ℕ) (xs : List ℕ) (lines : List Line) → i < length xs → length lines ≡ length xs → FarChild i level b xs lines
-far-child i level b [] lines h e = absurd (omega arith)
+far-child : (i level b : ℕ) (xs : List ℕ) (extents : List Extent) → i < length xs → length extents ≡ length xs → FarChild i level b xs extents
+far-child i level b [] extents h e = absurd (omega arith)
 far-child i level b (x ∷ xs) [] h e = absurd (omega arith)
-far-child zero level b (x ∷ xs) (line ∷ lines) h e = record { turns = b + x / 3; is = refl }
-far-child (suc i) level b (x ∷ xs) (line ∷ lines) h e =
-    let rest = far-child i level (b + x % 3) xs lines (omega arith) (omega arith) in
+far-child zero level b (x ∷ xs) (extent ∷ extents) h e = record { turns = b + x / 3; is = refl }
+far-child (suc i) level b (x ∷ xs) (extent ∷ extents) h e =
+    let rest = far-child i level (b + x % 3) xs extents (omega arith) (omega arith) in
     record { turns = rest.turns; is = rest.is }
 
-root-near : (i : ℕ) (xs : List ℕ) → near_at i (map (λ x. root_line) xs) ≡ root_face
+root-near : (i : ℕ) (xs : List ℕ) → near_at i (map (λ x. root_extent) xs) ≡ root_face
 root-near i [] = refl
 root-near zero (x ∷ xs) = refl
 root-near (suc i) (x ∷ xs) = root-near i xs
 
-root-far : (i : ℕ) (xs : List ℕ) → far_at i (map (λ x. root_line) xs) ≡ root_face
+root-far : (i : ℕ) (xs : List ℕ) → far_at i (map (λ x. root_extent) xs) ≡ root_face
 root-far i [] = refl
 root-far zero (x ∷ xs) = refl
 root-far (suc i) (x ∷ xs) = root-far i xs
@@ -66,23 +66,23 @@ index-parents : (xs : List ℕ) (i : ℕ) → i < length xs → slice_index (par
 index-parents xs i h = get_or-map (λ c. c / 3) xs i 0 0 h
 
 -- no neighbour on the root's boundary
-near-outside : (way : Way) (level i : ℕ) (xs : List ℕ) → i < length xs → slice_index xs i ≡ 0 → (near_at i (lines_of way level xs)).relation ≡ Outside
+near-outside : (way : Way) (level i : ℕ) (xs : List ℕ) → i < length xs → slice_index xs i ≡ 0 → (near_at i (extents_of way level xs)).relation ≡ Outside
 near-outside way zero i xs h e = ap (λ f. f.relation) (root-near i xs)
 near-outside way (suc level) i xs h e =
     let ps = parents xs in
-    let child = near-child i (suc level) (way_turns way + sum ps) xs (lines_of way level ps) h (length-lines_of way level ps ∙ length-parents xs) in
+    let child = near-child i (suc level) (way_turns way + sum ps) xs (extents_of way level ps) h (length-extents_of way level ps ∙ length-parents xs) in
     ap (λ f. f.relation) child.is
-    ∙ ap (λ v. (if v then near_at i (lines_of way level ps) else near_face (suc level) child.turns).relation) (eq-eqb (slice_index xs i % 3) 0 (omega arith))
+    ∙ ap (λ v. (if v then near_at i (extents_of way level ps) else near_face (suc level) child.turns).relation) (eq-eqb (slice_index xs i % 3) 0 (omega arith))
     ∙ near-outside way level i ps (omega (arith, length-parents xs)) (index-parents xs i h ∙ omega arith)
 
-far-outside : (way : Way) (level i : ℕ) (xs : List ℕ) → i < length xs → slice_index xs i + 1 ≡ 3 ^ level → (far_at i (lines_of way level xs)).relation ≡ Outside
+far-outside : (way : Way) (level i : ℕ) (xs : List ℕ) → i < length xs → slice_index xs i + 1 ≡ 3 ^ level → (far_at i (extents_of way level xs)).relation ≡ Outside
 far-outside way zero i xs h e = ap (λ f. f.relation) (root-far i xs)
 far-outside way (suc level) i xs h e =
     let ps = parents xs in
     let bound : 3 ^ suc level ≡ 3 * 3 ^ level = omega (arith, pow-suc 3 level) in
-    let child = far-child i (suc level) (way_turns way + sum ps) xs (lines_of way level ps) h (length-lines_of way level ps ∙ length-parents xs) in
+    let child = far-child i (suc level) (way_turns way + sum ps) xs (extents_of way level ps) h (length-extents_of way level ps ∙ length-parents xs) in
     ap (λ f. f.relation) child.is
-    ∙ ap (λ v. (if v then far_at i (lines_of way level ps) else far_face (suc level) child.turns).relation) (eq-eqb (slice_index xs i % 3) 2 (omega arith))
+    ∙ ap (λ v. (if v then far_at i (extents_of way level ps) else far_face (suc level) child.turns).relation) (eq-eqb (slice_index xs i % 3) 2 (omega arith))
     ∙ far-outside way level i ps (omega (arith, length-parents xs)) (ap (λ n. n + 1) (index-parents xs i h) ∙ omega arith)
 
 -- a plane appears on the level on which 3 no longer divides it
@@ -92,42 +92,42 @@ times-new level x e = ap (λ v. if v then suc (times level (record { x = x / 3; 
 times-old : (level x : ℕ) → (x % 3 == 0) ≡ true → times (suc level) (record { x = x; on = true }) ≡ suc (times level (record { x = x / 3; on = true }))
 times-old level x e = ap (λ v. if v then suc (times level (record { x = x / 3; on = v })) else 0) e
 
-near-level : (way : Way) (level i : ℕ) (xs : List ℕ) → i < length xs → (near_at i (lines_of way level xs)).level ≡ level - times level (record { x = slice_index xs i; on = true })
+near-level : (way : Way) (level i : ℕ) (xs : List ℕ) → i < length xs → (near_at i (extents_of way level xs)).level ≡ level - times level (record { x = slice_index xs i; on = true })
 near-level way zero i xs h = ap (λ f. f.level) (root-near i xs)
 near-level way (suc level) i xs h =
     let ps = parents xs in
     let x = slice_index xs i in
-    let child = near-child i (suc level) (way_turns way + sum ps) xs (lines_of way level ps) h (length-lines_of way level ps ∙ length-parents xs) in
+    let child = near-child i (suc level) (way_turns way + sum ps) xs (extents_of way level ps) h (length-extents_of way level ps ∙ length-parents xs) in
     ap (λ f. f.level) child.is
     ∙ elim (cases_Bool (x % 3 == 0)) [
       | inl e ↦
-          ap (λ v. (if v then near_at i (lines_of way level ps) else near_face (suc level) child.turns).level) e
+          ap (λ v. (if v then near_at i (extents_of way level ps) else near_face (suc level) child.turns).level) e
           ∙ near-level way level i ps (omega (arith, length-parents xs))
           ∙ ap (λ (q : ℕ). level - times level (record { x = q; on = true })) (index-parents xs i h)
           ∙ omega (arith, times-old level x e)
       | inr e ↦
-          ap (λ v. (if v then near_at i (lines_of way level ps) else near_face (suc level) child.turns).level) e
+          ap (λ v. (if v then near_at i (extents_of way level ps) else near_face (suc level) child.turns).level) e
           ∙ omega (arith, times-new level x e)
     ]
 
-far-level : (way : Way) (level i : ℕ) (xs : List ℕ) → i < length xs → (far_at i (lines_of way level xs)).level ≡ level - times level (record { x = slice_index xs i + 1; on = true })
+far-level : (way : Way) (level i : ℕ) (xs : List ℕ) → i < length xs → (far_at i (extents_of way level xs)).level ≡ level - times level (record { x = slice_index xs i + 1; on = true })
 far-level way zero i xs h = ap (λ f. f.level) (root-far i xs)
 far-level way (suc level) i xs h =
     let ps = parents xs in
     let x = slice_index xs i in
-    let child = far-child i (suc level) (way_turns way + sum ps) xs (lines_of way level ps) h (length-lines_of way level ps ∙ length-parents xs) in
+    let child = far-child i (suc level) (way_turns way + sum ps) xs (extents_of way level ps) h (length-extents_of way level ps ∙ length-parents xs) in
     ap (λ f. f.level) child.is
     ∙ elim (cases_Bool (x % 3 == 2)) [
       | inl e ↦
           let edge : x % 3 ≡ 2 = eqb-true (x % 3) 2 e in
           let third : slice_index ps i + 1 ≡ (x + 1) / 3 = ap (λ n. n + 1) (index-parents xs i h) ∙ omega arith in
-          ap (λ v. (if v then far_at i (lines_of way level ps) else far_face (suc level) child.turns).level) e
+          ap (λ v. (if v then far_at i (extents_of way level ps) else far_face (suc level) child.turns).level) e
           ∙ far-level way level i ps (omega (arith, length-parents xs))
           ∙ ap (λ (q : ℕ). level - times level (record { x = q; on = true })) third
           ∙ omega (arith, times-old level (x + 1) (eq-eqb ((x + 1) % 3) 0 (omega arith)))
       | inr e ↦
           let inner = eqb-false (x % 3) 2 e in
-          ap (λ v. (if v then far_at i (lines_of way level ps) else far_face (suc level) child.turns).level) e
+          ap (λ v. (if v then far_at i (extents_of way level ps) else far_face (suc level) child.turns).level) e
           ∙ omega (arith, times-new level (x + 1) (ne_eqb ((x + 1) % 3) 0 (λ k. inner (omega arith))))
     ]
 
@@ -211,7 +211,7 @@ either-swap us vs x = elim (is_same_pos x us) as (λ v. (v || is_same_pos x vs) 
 ]
 
 -- when the neighbour at the near end comes
-near-relation : (axes level i : ℕ) (way : Way) (us vs : List ℕ) → axes ≤ 4 → length us ≡ axes → length vs ≡ axes → Beside i us vs → First axes way level i us vs → relation_to axes way (at level vs) (Some (at level us)) ≡ (near_at i (lines_of way level vs)).relation
+near-relation : (axes level i : ℕ) (way : Way) (us vs : List ℕ) → axes ≤ 4 → length us ≡ axes → length vs ≡ axes → Beside i us vs → First axes way level i us vs → relation_to axes way (at level vs) (Some (at level us)) ≡ (near_at i (extents_of way level vs)).relation
 near-relation axes level i way us vs few e f h first =
     let v = first.lower in
     ap (λ o. if is_place o (at level us) then Earlier else Later) (first-place axes level way us vs (first_of v us vs) few e f first.found)
@@ -219,7 +219,7 @@ near-relation axes level i way us vs few e f h first =
     ∙ sym first.near
 
 -- when the neighbour at the far end comes
-far-relation : (axes level i : ℕ) (way : Way) (us vs : List ℕ) → axes ≤ 4 → length us ≡ axes → length vs ≡ axes → Beside i us vs → First axes way level i us vs → relation_to axes way (at level us) (Some (at level vs)) ≡ (far_at i (lines_of way level us)).relation
+far-relation : (axes level i : ℕ) (way : Way) (us vs : List ℕ) → axes ≤ 4 → length us ≡ axes → length vs ≡ axes → Beside i us vs → First axes way level i us vs → relation_to axes way (at level us) (Some (at level vs)) ≡ (far_at i (extents_of way level us)).relation
 far-relation axes level i way us vs few e f h first =
     let v = first.lower in
     let found : find (is_either vs us) (cells axes (way_turns way) level) ≡ Some (first_of v us vs) =
@@ -241,7 +241,7 @@ below-at bound [] i h k = absurd (omega arith)
 below-at bound (x ∷ xs) zero h k = k.0
 below-at bound (x ∷ xs) (suc i) h k = below-at bound xs i (omega arith) k.1
 
-near-face : (axes level i : ℕ) (way : Way) (cs : List ℕ) → axes ≤ 4 → length cs ≡ axes → Below (3 ^ level) cs → i < axes → face_of axes way (at level cs) i 0 ≡ near_at i (lines_of way level cs)
+near-face : (axes level i : ℕ) (way : Way) (cs : List ℕ) → axes ≤ 4 → length cs ≡ axes → Below (3 ^ level) cs → i < axes → face_of axes way (at level cs) i 0 ≡ near_at i (extents_of way level cs)
 near-face axes level i way cs few long below within =
     let c = slice_index cs i in
     let cell = at level cs in
@@ -250,7 +250,7 @@ near-face axes level i way cs few long below within =
     let small : c < 3 ^ level = below-at (3 ^ level) cs i inside below in
     let place : ℕ → Option Place = λ x. if x + 0 == 0 || x + 0 == 3 ^ level then None else (Some (record { level = level; pos = slice_set (padded cs) i (x - 1) })) in
     let none : c + 0 ≡ c = omega arith in
-    let relation : relation_to axes way cell (place c) ≡ (near_at i (lines_of way level cs)).relation =
+    let relation : relation_to axes way cell (place c) ≡ (near_at i (extents_of way level cs)).relation =
     elim (cases_lt 0 c) [
       | inl positive ↦
           let us = set cs i (c - 1) in
@@ -265,12 +265,12 @@ near-face axes level i way cs few long below within =
           let there : place c ≡ None = ap (λ v. if v || c + 0 == 3 ^ level then None else (Some (record { level = level; pos = slice_set (padded cs) i (c - 1) }))) (eq-eqb (c + 0) 0 (omega arith)) in
           ap (relation_to axes way cell) there ∙ sym (near-outside way level i cs inside zero-is)
     ] in
-    let level-is : level - threes level (c + 0) ≡ (near_at i (lines_of way level cs)).level = ap (λ (x : ℕ). level - threes level x) none ∙ ap (λ n. level - n) (threes-is level c) ∙ sym (near-level way level i cs inside) in
+    let level-is : level - threes level (c + 0) ≡ (near_at i (extents_of way level cs)).level = ap (λ (x : ℕ). level - threes level x) none ∙ ap (λ n. level - n) (threes-is level c) ∙ sym (near-level way level i cs inside) in
     ap (λ (x : ℕ). let f : Face = record { relation = relation_to axes way cell (place x); level = level - threes level (x + 0) } in f) x-is
     ∙ ap (λ r. let f : Face = record { relation = r; level = level - threes level (c + 0) } in f) relation
-    ∙ ap (λ n. let f : Face = record { relation = (near_at i (lines_of way level cs)).relation; level = n } in f) level-is
+    ∙ ap (λ n. let f : Face = record { relation = (near_at i (extents_of way level cs)).relation; level = n } in f) level-is
 
-far-face : (axes level i : ℕ) (way : Way) (cs : List ℕ) → axes ≤ 4 → length cs ≡ axes → Below (3 ^ level) cs → i < axes → face_of axes way (at level cs) i 1 ≡ far_at i (lines_of way level cs)
+far-face : (axes level i : ℕ) (way : Way) (cs : List ℕ) → axes ≤ 4 → length cs ≡ axes → Below (3 ^ level) cs → i < axes → face_of axes way (at level cs) i 1 ≡ far_at i (extents_of way level cs)
 far-face axes level i way cs few long below within =
     let c = slice_index cs i in
     let cell = at level cs in
@@ -278,7 +278,7 @@ far-face axes level i way cs few long below within =
     let x-is : slice_index (padded cs) i ≡ c = index-padded cs (4 - length cs) i in
     let small : c < 3 ^ level = below-at (3 ^ level) cs i inside below in
     let place : ℕ → Option Place = λ x. if x + 1 == 0 || x + 1 == 3 ^ level then None else (Some (record { level = level; pos = slice_set (padded cs) i (x + 1) })) in
-    let relation : relation_to axes way cell (place c) ≡ (far_at i (lines_of way level cs)).relation =
+    let relation : relation_to axes way cell (place c) ≡ (far_at i (extents_of way level cs)).relation =
     elim (cases_lt (c + 1) (3 ^ level)) [
       | inl room ↦
           let vs = set cs i (c + 1) in
@@ -294,50 +294,50 @@ far-face axes level i way cs few long below within =
           let there : place c ≡ None = ap (λ v. if v then None else (Some (record { level = level; pos = slice_set (padded cs) i (c + 1) }))) (or_right (c + 1 == 0) (c + 1 == 3 ^ level) (eq-eqb (c + 1) (3 ^ level) last)) in
           ap (relation_to axes way cell) there ∙ sym (far-outside way level i cs inside last)
     ] in
-    let level-is : level - threes level (c + 1) ≡ (far_at i (lines_of way level cs)).level = ap (λ n. level - n) (threes-is level (c + 1)) ∙ sym (far-level way level i cs inside) in
+    let level-is : level - threes level (c + 1) ≡ (far_at i (extents_of way level cs)).level = ap (λ n. level - n) (threes-is level (c + 1)) ∙ sym (far-level way level i cs inside) in
     ap (λ (x : ℕ). let f : Face = record { relation = relation_to axes way cell (place x); level = level - threes level (x + 1) } in f) x-is
     ∙ ap (λ r. let f : Face = record { relation = r; level = level - threes level (c + 1) } in f) relation
-    ∙ ap (λ n. let f : Face = record { relation = (far_at i (lines_of way level cs)).relation; level = n } in f) level-is
+    ∙ ap (λ n. let f : Face = record { relation = (far_at i (extents_of way level cs)).relation; level = n } in f) level-is
 
-odd_at : ℕ → List Line → Bool
+odd_at : ℕ → List Extent → Bool
 odd_at i [] = false
-odd_at zero (line ∷ lines) = line.odd
-odd_at (suc i) (line ∷ lines) = odd_at i lines
+odd_at zero (extent ∷ extents) = extent.odd
+odd_at (suc i) (extent ∷ extents) = odd_at i extents
 
-line-at : (i : ℕ) (lines more : List Line) → i < length lines → slice_get (lines ++ more) i ≡ Some (record { odd = odd_at i lines; near = near_at i lines; far = far_at i lines })
+extent-at : (i : ℕ) (extents more : List Extent) → i < length extents → slice_get (extents ++ more) i ≡ Some (record { odd = odd_at i extents; near = near_at i extents; far = far_at i extents })
 unfolding odd_at
-line-at i [] more h = absurd (omega arith)
-line-at zero (line ∷ lines) more h = refl
-line-at (suc i) (line ∷ lines) more h = line-at i lines more (omega arith)
+extent-at i [] more h = absurd (omega arith)
+extent-at zero (extent ∷ extents) more h = refl
+extent-at (suc i) (extent ∷ extents) more h = extent-at i extents more (omega arith)
 
 odd-bit : (odd : Bool) (c : ℕ) → bit_of odd ≡ c % 2 → odd ≡ (c % 2 == 1)
 odd-bit true c e = sym (eq-eqb (c % 2) 1 (sym e))
 odd-bit false c e = sym (ne_eqb (c % 2) 1 (λ k. omega arith))
 
-odd-is : (i : ℕ) (lines : List Line) (cs : List ℕ) → i < length lines → map (λ line. bit_of line.odd) lines ≡ map (λ x. x % 2) cs → odd_at i lines ≡ (slice_index cs i % 2 == 1)
+odd-is : (i : ℕ) (extents : List Extent) (cs : List ℕ) → i < length extents → map (λ extent. bit_of extent.odd) extents ≡ map (λ x. x % 2) cs → odd_at i extents ≡ (slice_index cs i % 2 == 1)
 unfolding odd_at
 odd-is i [] cs h e = absurd (omega arith)
-odd-is i (line ∷ lines) [] h e = cc
-odd-is zero (line ∷ lines) (c ∷ cs) h e = odd-bit line.odd c (cc)
-odd-is (suc i) (line ∷ lines) (c ∷ cs) h e = odd-is i lines cs (omega arith) (cc)
+odd-is i (extent ∷ extents) [] h e = cc
+odd-is zero (extent ∷ extents) (c ∷ cs) h e = odd-bit extent.odd c (cc)
+odd-is (suc i) (extent ∷ extents) (c ∷ cs) h e = odd-is i extents cs (omega arith) (cc)
 
--- what the lines of a cell are, by the order of the walk
-pub held : (axes : ℕ) (way : Way) (cell : Place) (axis : ℕ) → axes ≤ 4 → IsCellPlace axes cell → axis < axes → slice_get (lines_of way cell.level cell.pos) axis ≡ Some (line_of axes way cell axis)
+-- what the extents of a cell are, by the order of the walk
+pub held : (axes : ℕ) (way : Way) (cell : Place) (axis : ℕ) → axes ≤ 4 → IsCellPlace axes cell → axis < axes → slice_get (extents_of way cell.level cell.pos) axis ≡ Some (extent_of axes way cell axis)
 held axes way cell axis few place within =
     let level = cell.level in
     let cs = take axes cell.pos in
     let long : length cs ≡ axes = length-front axes (3 ^ level) cell.pos few place.pos in
     let below = Below-front axes (3 ^ level) cell.pos place.pos.inside in
-    let lines = lines_of way level cs in
-    let many : length lines ≡ axes = length-lines_of way level cs ∙ long in
+    let extents = extents_of way level cs in
+    let many : length extents ≡ axes = length-extents_of way level cs ∙ long in
     let parts = split way level (4 - length cs) cs in
-    let P : Place → Type 0 = λ c. slice_get (lines_of way c.level c.pos) axis ≡ Some (line_of axes way c axis) in
-    let odd : odd_at axis lines ≡ (slice_index (padded cs) axis % 2 == 1) =
-    odd-is axis lines cs (omega arith) (lines_of-odd way level cs below) ∙ ap (λ (x : ℕ). x % 2 == 1) (sym (index-padded cs (4 - length cs) axis)) in
+    let P : Place → Type 0 = λ c. slice_get (extents_of way c.level c.pos) axis ≡ Some (extent_of axes way c axis) in
+    let odd : odd_at axis extents ≡ (slice_index (padded cs) axis % 2 == 1) =
+    odd-is axis extents cs (omega arith) (extents_of-odd way level cs below) ∙ ap (λ (x : ℕ). x % 2 == 1) (sym (index-padded cs (4 - length cs) axis)) in
     let near = sym (near-face axes level axis way cs few long below within) in
     let far = sym (far-face axes level axis way cs few long below within) in
     subst P (sym (at-front axes (3 ^ level) cell few place.pos))
-    (ap (λ xs. slice_get xs axis) parts.is ∙ line-at axis lines parts.tail (omega arith)
-    ∙ ap (λ o. Some (let l : Line = record { odd = o; near = near_at axis lines; far = far_at axis lines } in l)) odd
-    ∙ ap (λ f. Some (let l : Line = record { odd = slice_index (padded cs) axis % 2 == 1; near = f; far = far_at axis lines } in l)) near
-    ∙ ap (λ f. Some (let l : Line = record { odd = slice_index (padded cs) axis % 2 == 1; near = face_of axes way (at level cs) axis 0; far = f } in l)) far)
+    (ap (λ xs. slice_get xs axis) parts.is ∙ extent-at axis extents parts.tail (omega arith)
+    ∙ ap (λ o. Some (let l : Extent = record { odd = o; near = near_at axis extents; far = far_at axis extents } in l)) odd
+    ∙ ap (λ f. Some (let l : Extent = record { odd = slice_index (padded cs) axis % 2 == 1; near = f; far = far_at axis extents } in l)) near
+    ∙ ap (λ f. Some (let l : Extent = record { odd = slice_index (padded cs) axis % 2 == 1; near = face_of axes way (at level cs) axis 0; far = f } in l)) far)

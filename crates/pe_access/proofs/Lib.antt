@@ -1,10 +1,10 @@
 -- Laws of cell states, in reading order.
 
 -- # States from parent to child
--- the lines of a cell from those of its parent
-pub mod ChildLines
--- lines from a cell to its child, and the flips of a cell
-pub mod LineLaws
+-- the extents of a cell from those of its parent
+pub mod ChildExtents
+-- extents from a cell to its child, and the flips of a cell
+pub mod ExtentLaws
 -- # Routes
 -- the fastest face at a corner, by relations and levels, and by numbers
 pub mod Choices
@@ -18,7 +18,7 @@ pub mod RouteProofs
 pub mod OrderLaws
 -- what a state holds of each axis is what the order of the walk says of the cell
 pub mod HeldLaws
--- states that hold what the order of the walk says, by the lines from parent to child
+-- states that hold what the order of the walk says, by the extents from parent to child
 pub mod StateLaws
 -- # Rows of children
 -- the numbers of a row, and of a child in it

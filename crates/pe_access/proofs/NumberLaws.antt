@@ -7,55 +7,55 @@ use Rattle.pe_base.specs.Tree.Places.{bits}
 use Rattle.pe_base.proofs.Steps.RouteLaws.{Below}
 use Rattle.pe_access.specs.declared.numbers.Axis.{Axis}
 use Rattle.pe_access.specs.declared.route.Route.TheVariants.{Stream, Temp}
-use Rattle.pe_access.specs.Lines.{Relation, Earlier, Later, Face, Line, bit_of, is_relation, face_at}
+use Rattle.pe_access.specs.Extents.{Relation, Earlier, Later, Face, Extent, bit_of, is_relation, face_at}
 use Rattle.pe_access.specs.Numbers.{face_number, numbers_of, axis_of, axes_from, stack_of}
 use Rattle.pe_access.specs.States.{IsIdle, route_of, odd_count}
 use Rattle.pe_access.proofs.Choices.{Choice, fastest}
 
--- the numbers of some lines, line by line
-length-axes_from : (axis : ℕ) (lines : List Line) → length (axes_from axis lines) ≡ length lines
+-- the numbers of some extents, extent by extent
+length-axes_from : (axis : ℕ) (extents : List Extent) → length (axes_from axis extents) ≡ length extents
 length-axes_from axis [] = refl
-length-axes_from axis (line ∷ lines) = ap (λ (n : ℕ). suc n) (length-axes_from (axis + 1) lines)
+length-axes_from axis (extent ∷ extents) = ap (λ (n : ℕ). suc n) (length-axes_from (axis + 1) extents)
 
-pub get_or-axes_from : (axis : ℕ) (lines : List Line) (i : ℕ) (d : Axis) (e : Line) → i < length lines → get_or (axes_from axis lines) i d ≡ axis_of (axis + i) (get_or lines i e)
+pub get_or-axes_from : (axis : ℕ) (extents : List Extent) (i : ℕ) (d : Axis) (e : Extent) → i < length extents → get_or (axes_from axis extents) i d ≡ axis_of (axis + i) (get_or extents i e)
 get_or-axes_from axis [] i d e h = absurd (omega arith)
-get_or-axes_from axis (line ∷ lines) zero d e h = ap (λ (n : ℕ). axis_of n line) (omega arith)
-get_or-axes_from axis (line ∷ lines) (suc i) d e h = get_or-axes_from (axis + 1) lines i d e (omega arith) ∙ ap (λ (n : ℕ). axis_of n (get_or lines i e)) (omega arith)
+get_or-axes_from axis (extent ∷ extents) zero d e h = ap (λ (n : ℕ). axis_of n extent) (omega arith)
+get_or-axes_from axis (extent ∷ extents) (suc i) d e h = get_or-axes_from (axis + 1) extents i d e (omega arith) ∙ ap (λ (n : ℕ). axis_of n (get_or extents i e)) (omega arith)
 
-odds-axes_from : (axis : ℕ) (lines : List Line) → map (λ a. bit_of a.odd) (axes_from axis lines) ≡ map (λ line. bit_of line.odd) lines
+odds-axes_from : (axis : ℕ) (extents : List Extent) → map (λ a. bit_of a.odd) (axes_from axis extents) ≡ map (λ extent. bit_of extent.odd) extents
 odds-axes_from axis [] = refl
-odds-axes_from axis (line ∷ lines) = ap (λ bs. bit_of line.odd ∷ bs) (odds-axes_from (axis + 1) lines)
+odds-axes_from axis (extent ∷ extents) = ap (λ bs. bit_of extent.odd ∷ bs) (odds-axes_from (axis + 1) extents)
 
--- a state's axes have the numbers of some lines
-pub record AreNumbers (along : List Axis) (lines : List Line) : Type 0 where
-  pub four : length lines ≡ 4
-  pub each : (i : ℕ) (d : Axis) (e : Line) → i < 4 → get_or along i d ≡ axis_of i (get_or lines i e)
-  pub odds : map (λ a. bit_of a.odd) along ≡ map (λ line. bit_of line.odd) lines
-  pub odd_sum : odd_count along ≡ sum_by (λ line. bit_of line.odd) lines
+-- a state's axes have the numbers of some extents
+pub record AreNumbers (along : List Axis) (extents : List Extent) : Type 0 where
+  pub four : length extents ≡ 4
+  pub each : (i : ℕ) (d : Axis) (e : Extent) → i < 4 → get_or along i d ≡ axis_of i (get_or extents i e)
+  pub odds : map (λ a. bit_of a.odd) along ≡ map (λ extent. bit_of extent.odd) extents
+  pub odd_sum : odd_count along ≡ sum_by (λ extent. bit_of extent.odd) extents
 
-odd_sums : (lines : List Line) → length lines ≡ 4 → odd_count (axes_from 0 lines) ≡ sum_by (λ line. bit_of line.odd) lines
+odd_sums : (extents : List Extent) → length extents ≡ 4 → odd_count (axes_from 0 extents) ≡ sum_by (λ extent. bit_of extent.odd) extents
 odd_sums [] h = absurd (omega arith)
 odd_sums (a ∷ []) h = absurd (omega arith)
 odd_sums (a ∷ b ∷ []) h = absurd (omega arith)
 odd_sums (a ∷ b ∷ c ∷ []) h = absurd (omega arith)
 odd_sums (a ∷ b ∷ c ∷ d ∷ []) h = refl
-odd_sums (a ∷ b ∷ c ∷ d ∷ e ∷ lines) h = absurd (omega arith)
+odd_sums (a ∷ b ∷ c ∷ d ∷ e ∷ extents) h = absurd (omega arith)
 
-pub numbers_are : (along : List Axis) (lines : List Line) → length along ≡ 4 → along ≡ axes_from 0 lines → AreNumbers along lines
-numbers_are along lines long is =
-    let many : length lines ≡ 4 = sym (length-axes_from 0 lines) ∙ ap length (sym is) ∙ long in
+pub numbers_are : (along : List Axis) (extents : List Extent) → length along ≡ 4 → along ≡ axes_from 0 extents → AreNumbers along extents
+numbers_are along extents long is =
+    let many : length extents ≡ 4 = sym (length-axes_from 0 extents) ∙ ap length (sym is) ∙ long in
     record {
       four = many;
-      each = λ i d e h. ap (λ along'. get_or along' i d) is ∙ get_or-axes_from 0 lines i d e (omega arith) ∙ ap (λ (n : ℕ). axis_of n (get_or lines i e)) (omega arith);
-      odds = ap (λ along'. map (λ a. bit_of a.odd) along') is ∙ odds-axes_from 0 lines;
-      odd_sum = ap odd_count is ∙ odd_sums lines many;
+      each = λ i d e h. ap (λ along'. get_or along' i d) is ∙ get_or-axes_from 0 extents i d e (omega arith) ∙ ap (λ (n : ℕ). axis_of n (get_or extents i e)) (omega arith);
+      odds = ap (λ along'. map (λ a. bit_of a.odd) along') is ∙ odds-axes_from 0 extents;
+      odd_sum = ap odd_count is ∙ odd_sums extents many;
     }
 
 -- the greatest number at a corner, with a side for each axis
-abbrev pub greatest : Relation → ℕ → List ℕ → List Line → ℕ
-greatest relation axis [] lines = 0
+abbrev pub greatest : Relation → ℕ → List ℕ → List Extent → ℕ
+greatest relation axis [] extents = 0
 greatest relation axis (side ∷ sides) [] = 0
-greatest relation axis (side ∷ sides) (line ∷ lines) = max (face_number relation axis side line) (greatest relation (axis + 1) sides lines)
+greatest relation axis (side ∷ sides) (extent ∷ extents) = max (face_number relation axis side extent) (greatest relation (axis + 1) sides extents)
 
 -- a number tells the route and the level of a choice
 abbrev Told : ℕ → Choice → ℕ → Type 0
@@ -106,13 +106,13 @@ told_step axis true s level c m told least most small =
     ]
 
 -- the greatest number is that of the fastest face
-tell : (relation : Relation) (axis : ℕ) (sides : List ℕ) (lines : List Line) → axis + length lines ≤ 4 → Below 2 sides → Told axis (fastest relation axis sides lines) (greatest relation axis sides lines)
-tell relation axis [] lines few small = inl (refl, refl, refl)
+tell : (relation : Relation) (axis : ℕ) (sides : List ℕ) (extents : List Extent) → axis + length extents ≤ 4 → Below 2 sides → Told axis (fastest relation axis sides extents) (greatest relation axis sides extents)
+tell relation axis [] extents few small = inl (refl, refl, refl)
 tell relation axis (side ∷ sides) [] few small = inl (refl, refl, refl)
-tell relation axis (side ∷ sides) (line ∷ lines) few small =
-    let face = face_at line side in
-    told_step axis (is_relation face.relation relation) (2 * axis + (bit_of line.odd + side) % 2) face.level (fastest relation (axis + 1) sides lines) (greatest relation (axis + 1) sides lines)
-    (tell relation (axis + 1) sides lines (omega arith) small.1) (omega arith) (omega arith) (omega arith)
+tell relation axis (side ∷ sides) (extent ∷ extents) few small =
+    let face = face_at extent side in
+    told_step axis (is_relation face.relation relation) (2 * axis + (bit_of extent.odd + side) % 2) face.level (fastest relation (axis + 1) sides extents) (greatest relation (axis + 1) sides extents)
+    (tell relation (axis + 1) sides extents (omega arith) small.1) (omega arith) (omega arith) (omega arith)
 
 no_stack : (o : Option ℕ) → Stream ≡ route_of o → None ≡ o
 no_stack None e = refl
@@ -123,10 +123,10 @@ one_stack s None e = cc
 one_stack s (Some t) e = cc
 
 -- so the greatest number names the stack of the fastest face
-pub stack_of-greatest : (relation : Relation) (sides : List ℕ) (lines : List Line) (o : Option ℕ) → length lines ≡ 4 → Below 2 sides → (fastest relation 0 sides lines).route ≡ route_of o → stack_of (greatest relation 0 sides lines) ≡ o
-stack_of-greatest relation sides lines o long small route =
-    let m = greatest relation 0 sides lines in
-    elim (tell relation 0 sides lines (omega arith) small) [
+pub stack_of-greatest : (relation : Relation) (sides : List ℕ) (extents : List Extent) (o : Option ℕ) → length extents ≡ 4 → Below 2 sides → (fastest relation 0 sides extents).route ≡ route_of o → stack_of (greatest relation 0 sides extents) ≡ o
+stack_of-greatest relation sides extents o long small route =
+    let m = greatest relation 0 sides extents in
+    elim (tell relation 0 sides extents (omega arith) small) [
       | inl none ↦ ap (λ (n : ℕ). stack_of n) none.2 ∙ no_stack o (sym none.1 ∙ route)
       | inr t ↦ (
           let s = t.0 in
@@ -139,15 +139,15 @@ stack_of-greatest relation sides lines o long small route =
     ]
 
 -- the face at a side
-pub side_of : (axis side : ℕ) (along : Axis) (line : Line) → along ≡ axis_of axis line → side < 2 → (if side == 0 then along.near else along.far) ≡ numbers_of axis side line
-side_of axis zero along line e h = ap (λ (a : Axis). a.near) e
-side_of axis (suc zero) along line e h = ap (λ (a : Axis). a.far) e
-side_of axis (suc (suc side)) along line e h = absurd (omega arith)
+pub side_of : (axis side : ℕ) (along : Axis) (extent : Extent) → along ≡ axis_of axis extent → side < 2 → (if side == 0 then along.near else along.far) ≡ numbers_of axis side extent
+side_of axis zero along extent e h = ap (λ (a : Axis). a.near) e
+side_of axis (suc zero) along extent e h = ap (λ (a : Axis). a.far) e
+side_of axis (suc (suc side)) along extent e h = absurd (omega arith)
 
 -- the greatest of four
-greatest_at : (relation : Relation) (a b c d n₀ n₁ n₂ n₃ : ℕ) (lines : List Line) (e : Line) → length lines ≡ 4
-    → n₀ ≡ face_number relation 0 a (get_or lines 0 e) → n₁ ≡ face_number relation 1 b (get_or lines 1 e) → n₂ ≡ face_number relation 2 c (get_or lines 2 e) → n₃ ≡ face_number relation 3 d (get_or lines 3 e)
-    → max n₀ (max n₁ (max n₂ n₃)) ≡ greatest relation 0 (a ∷ b ∷ c ∷ d ∷ []) lines
+greatest_at : (relation : Relation) (a b c d n₀ n₁ n₂ n₃ : ℕ) (extents : List Extent) (e : Extent) → length extents ≡ 4
+    → n₀ ≡ face_number relation 0 a (get_or extents 0 e) → n₁ ≡ face_number relation 1 b (get_or extents 1 e) → n₂ ≡ face_number relation 2 c (get_or extents 2 e) → n₃ ≡ face_number relation 3 d (get_or extents 3 e)
+    → max n₀ (max n₁ (max n₂ n₃)) ≡ greatest relation 0 (a ∷ b ∷ c ∷ d ∷ []) extents
 greatest_at relation a b c d n₀ n₁ n₂ n₃ (l₀ ∷ l₁ ∷ l₂ ∷ l₃ ∷ []) e long is₀ is₁ is₂ is₃ =
     let last : n₃ ≡ max (face_number relation 3 d l₃) 0 = is₃ ∙ sym (max-eq_left (omega arith)) in
     ap₂ (λ (x y : ℕ). max x y) is₀ (ap₂ (λ (x y : ℕ). max x y) is₁ (ap₂ (λ (x y : ℕ). max x y) is₂ last))
@@ -155,27 +155,27 @@ greatest_at relation a b c d n₀ n₁ n₂ n₃ [] e long is₀ is₁ is₂ is�
 greatest_at relation a b c d n₀ n₁ n₂ n₃ (l₀ ∷ []) e long is₀ is₁ is₂ is₃ = absurd (omega arith)
 greatest_at relation a b c d n₀ n₁ n₂ n₃ (l₀ ∷ l₁ ∷ []) e long is₀ is₁ is₂ is₃ = absurd (omega arith)
 greatest_at relation a b c d n₀ n₁ n₂ n₃ (l₀ ∷ l₁ ∷ l₂ ∷ []) e long is₀ is₁ is₂ is₃ = absurd (omega arith)
-greatest_at relation a b c d n₀ n₁ n₂ n₃ (l₀ ∷ l₁ ∷ l₂ ∷ l₃ ∷ l₄ ∷ lines) e long is₀ is₁ is₂ is₃ = absurd (omega arith)
+greatest_at relation a b c d n₀ n₁ n₂ n₃ (l₀ ∷ l₁ ∷ l₂ ∷ l₃ ∷ l₄ ∷ extents) e long is₀ is₁ is₂ is₃ = absurd (omega arith)
 
-pub greatest_four : (relation : Relation) (k n₀ n₁ n₂ n₃ : ℕ) (lines : List Line) (e : Line) → length lines ≡ 4
-    → n₀ ≡ face_number relation 0 (k % 2) (get_or lines 0 e) → n₁ ≡ face_number relation 1 (k / 2 % 2) (get_or lines 1 e) → n₂ ≡ face_number relation 2 (k / 4 % 2) (get_or lines 2 e) → n₃ ≡ face_number relation 3 (k / 8 % 2) (get_or lines 3 e)
-    → max n₀ (max n₁ (max n₂ n₃)) ≡ greatest relation 0 (bits 4 k) lines
-greatest_four relation k n₀ n₁ n₂ n₃ lines e long is₀ is₁ is₂ is₃ =
+pub greatest_four : (relation : Relation) (k n₀ n₁ n₂ n₃ : ℕ) (extents : List Extent) (e : Extent) → length extents ≡ 4
+    → n₀ ≡ face_number relation 0 (k % 2) (get_or extents 0 e) → n₁ ≡ face_number relation 1 (k / 2 % 2) (get_or extents 1 e) → n₂ ≡ face_number relation 2 (k / 4 % 2) (get_or extents 2 e) → n₃ ≡ face_number relation 3 (k / 8 % 2) (get_or extents 3 e)
+    → max n₀ (max n₁ (max n₂ n₃)) ≡ greatest relation 0 (bits 4 k) extents
+greatest_four relation k n₀ n₁ n₂ n₃ extents e long is₀ is₁ is₂ is₃ =
     let lowest : k % 2 ≡ k / 1 % 2 = omega arith in
-    greatest_at relation (k % 2) (k / 2 % 2) (k / 4 % 2) (k / 8 % 2) n₀ n₁ n₂ n₃ lines e long is₀ is₁ is₂ is₃
-    ∙ ap (λ (b : ℕ). greatest relation 0 (b ∷ (k / 2 % 2) ∷ (k / 4 % 2) ∷ (k / 8 % 2) ∷ []) lines) lowest
+    greatest_at relation (k % 2) (k / 2 % 2) (k / 4 % 2) (k / 8 % 2) n₀ n₁ n₂ n₃ extents e long is₀ is₁ is₂ is₃
+    ∙ ap (λ (b : ℕ). greatest relation 0 (b ∷ (k / 2 % 2) ∷ (k / 4 % 2) ∷ (k / 8 % 2) ∷ []) extents) lowest
 
 -- an axis that the grid does not have has no face at its near end
-idle_line : (lines : List Line) (i : ℕ) (e : Line) → i < length lines → IfSome (slice_get lines i) IsIdle → IsIdle (get_or lines i e)
-idle_line [] i e h idle = absurd (omega arith)
-idle_line (line ∷ lines) zero e h idle = idle
-idle_line (line ∷ lines) (suc i) e h idle = idle_line lines i e (omega arith) idle
+idle_extent : (extents : List Extent) (i : ℕ) (e : Extent) → i < length extents → IfSome (slice_get extents i) IsIdle → IsIdle (get_or extents i e)
+idle_extent [] i e h idle = absurd (omega arith)
+idle_extent (extent ∷ extents) zero e h idle = idle
+idle_extent (extent ∷ extents) (suc i) e h idle = idle_extent extents i e (omega arith) idle
 
-pub idle_coming : (axis : ℕ) (line : Line) → IsIdle line → face_number Earlier axis 0 line ≡ 0
-idle_coming axis line idle = ap (λ (f : Face). if is_relation f.relation Earlier && nat_lt 0 f.level then 8 * f.level + (2 * axis + (bit_of line.odd + 0) % 2) else 0) idle.closed
+pub idle_coming : (axis : ℕ) (extent : Extent) → IsIdle extent → face_number Earlier axis 0 extent ≡ 0
+idle_coming axis extent idle = ap (λ (f : Face). if is_relation f.relation Earlier && nat_lt 0 f.level then 8 * f.level + (2 * axis + (bit_of extent.odd + 0) % 2) else 0) idle.closed
 
-pub idle_going : (axis : ℕ) (line : Line) → IsIdle line → face_number Later axis 0 line ≡ 0
-idle_going axis line idle = ap (λ (f : Face). if is_relation f.relation Later && nat_lt 0 f.level then 8 * f.level + (2 * axis + (bit_of line.odd + 0) % 2) else 0) idle.closed
+pub idle_going : (axis : ℕ) (extent : Extent) → IsIdle extent → face_number Later axis 0 extent ≡ 0
+idle_going axis extent idle = ap (λ (f : Face). if is_relation f.relation Later && nat_lt 0 f.level then 8 * f.level + (2 * axis + (bit_of extent.odd + 0) % 2) else 0) idle.closed
 
-pub idle_at : (lines : List Line) (i : ℕ) (e : Line) → length lines ≡ 4 → i < 4 → IfSome (slice_get lines i) IsIdle → IsIdle (get_or lines i e)
-idle_at lines i e long h idle = idle_line lines i e (omega arith) idle
+pub idle_at : (extents : List Extent) (i : ℕ) (e : Extent) → length extents ≡ 4 → i < 4 → IfSome (slice_get extents i) IsIdle → IsIdle (get_or extents i e)
+idle_at extents i e long h idle = idle_extent extents i e (omega arith) idle

@@ -16,11 +16,11 @@ use Rattle.pe_base.proofs.Steps.Spans.{is_even, parents}
 use Rattle.pe_base.proofs.Steps.Levels.{kids, cells}
 use Rattle.pe_base.proofs.Lists.{In}
 use Rattle.pe_base.proofs.Tree.Ranks.{same_list}
-use Rattle.pe_base.proofs.Steps.Counts.{pos_itself}
+use Rattle.pe_base.proofs.Steps.VertexTouches.{pos_itself}
 use Rattle.pe_base.proofs.Steps.StackLaws.{In-cells, Below-parents, length-parents}
-use Rattle.pe_access.specs.Lines.{Face, Earlier, Later, Line, root_face, near_face, far_face}
-use Rattle.pe_access.proofs.ChildLines.{child_lines, lines_of}
-use Rattle.pe_access.proofs.LineLaws.{length-lines_of}
+use Rattle.pe_access.specs.Extents.{Face, Earlier, Later, Extent, root_face, near_face, far_face}
+use Rattle.pe_access.proofs.ChildExtents.{child_extents, extents_of}
+use Rattle.pe_access.proofs.ExtentLaws.{length-extents_of}
 
 -- two positions that differ by one on an axis
 abbrev pub Beside : ℕ → List ℕ → List ℕ → Type 0
@@ -33,15 +33,15 @@ abbrev pub is_either : List ℕ → List ℕ → List ℕ → Bool
 is_either us vs cs = is_same_pos cs us || is_same_pos cs vs
 
 -- the faces of an axis
-abbrev pub near_at : ℕ → List Line → Face
+abbrev pub near_at : ℕ → List Extent → Face
 near_at i [] = root_face
-near_at zero (line ∷ lines) = line.near
-near_at (suc i) (line ∷ lines) = near_at i lines
+near_at zero (extent ∷ extents) = extent.near
+near_at (suc i) (extent ∷ extents) = near_at i extents
 
-abbrev pub far_at : ℕ → List Line → Face
+abbrev pub far_at : ℕ → List Extent → Face
 far_at i [] = root_face
-far_at zero (line ∷ lines) = line.far
-far_at (suc i) (line ∷ lines) = far_at i lines
+far_at zero (extent ∷ extents) = extent.far
+far_at (suc i) (extent ∷ extents) = far_at i extents
 
 -- how often an axis is turned among a cell's children, by the digits before it
 abbrev turns_at : ℕ → List ℕ → ℕ → ℕ
@@ -212,58 +212,58 @@ siblings (suc i) (u ∷ us) (v ∷ vs) h =
     let head : u / 3 ≡ v / 3 = ap (λ (x : ℕ). x / 3) h.0 in
     elim (siblings i us vs h.1) [ inl e ↦ inl (cc) | inr e ↦ inr (head, e) ]
 
-far-inner : (i level b : ℕ) (us vs : List ℕ) (lines : List Line) → Beside i us vs → parents us ≡ parents vs → length lines ≡ length us → far_at i (child_lines level b (parents us) us lines) ≡ far_face level (turns_at b us i)
-far-inner zero level b [] vs lines h e len = absurd h
-far-inner (suc i) level b [] vs lines h e len = absurd h
-far-inner zero level b (u ∷ us) [] lines h e len = absurd h
-far-inner (suc i) level b (u ∷ us) [] lines h e len = absurd h
+far-inner : (i level b : ℕ) (us vs : List ℕ) (extents : List Extent) → Beside i us vs → parents us ≡ parents vs → length extents ≡ length us → far_at i (child_extents level b (parents us) us extents) ≡ far_face level (turns_at b us i)
+far-inner zero level b [] vs extents h e len = absurd h
+far-inner (suc i) level b [] vs extents h e len = absurd h
+far-inner zero level b (u ∷ us) [] extents h e len = absurd h
+far-inner (suc i) level b (u ∷ us) [] extents h e len = absurd h
 far-inner i level b (u ∷ us) (v ∷ vs) [] h e len = absurd (omega arith)
-far-inner zero level b (u ∷ us) (v ∷ vs) (line ∷ lines) h e len =
+far-inner zero level b (u ∷ us) (v ∷ vs) (extent ∷ extents) h e len =
     let up : v ≡ u + 1 = h.0 in
     let same : u / 3 ≡ v / 3 = cc in
-    ap (λ w. if w then line.far else far_face level (b + u / 3)) (ne_eqb (u % 3) 2 (λ q. omega arith))
-far-inner (suc i) level b (u ∷ us) (v ∷ vs) (line ∷ lines) h e len =
+    ap (λ w. if w then extent.far else far_face level (b + u / 3)) (ne_eqb (u % 3) 2 (λ q. omega arith))
+far-inner (suc i) level b (u ∷ us) (v ∷ vs) (extent ∷ extents) h e len =
     let rest : parents us ≡ parents vs = cc in
-    far-inner i level (b + u % 3) us vs lines h.1 rest (omega arith)
+    far-inner i level (b + u % 3) us vs extents h.1 rest (omega arith)
 
-near-inner : (i level b : ℕ) (us vs : List ℕ) (lines : List Line) → Beside i us vs → parents us ≡ parents vs → length lines ≡ length us → near_at i (child_lines level b (parents us) vs lines) ≡ near_face level (turns_at b us i)
-near-inner zero level b [] vs lines h e len = absurd h
-near-inner (suc i) level b [] vs lines h e len = absurd h
-near-inner zero level b (u ∷ us) [] lines h e len = absurd h
-near-inner (suc i) level b (u ∷ us) [] lines h e len = absurd h
+near-inner : (i level b : ℕ) (us vs : List ℕ) (extents : List Extent) → Beside i us vs → parents us ≡ parents vs → length extents ≡ length us → near_at i (child_extents level b (parents us) vs extents) ≡ near_face level (turns_at b us i)
+near-inner zero level b [] vs extents h e len = absurd h
+near-inner (suc i) level b [] vs extents h e len = absurd h
+near-inner zero level b (u ∷ us) [] extents h e len = absurd h
+near-inner (suc i) level b (u ∷ us) [] extents h e len = absurd h
 near-inner i level b (u ∷ us) (v ∷ vs) [] h e len = absurd (omega arith)
-near-inner zero level b (u ∷ us) (v ∷ vs) (line ∷ lines) h e len =
+near-inner zero level b (u ∷ us) (v ∷ vs) (extent ∷ extents) h e len =
     let up : v ≡ u + 1 = h.0 in
     let same : u / 3 ≡ v / 3 = cc in
-    ap (λ w. if w then line.near else near_face level (b + u / 3)) (ne_eqb (v % 3) 0 (λ q. omega arith))
-near-inner (suc i) level b (u ∷ us) (v ∷ vs) (line ∷ lines) h e len =
+    ap (λ w. if w then extent.near else near_face level (b + u / 3)) (ne_eqb (v % 3) 0 (λ q. omega arith))
+near-inner (suc i) level b (u ∷ us) (v ∷ vs) (extent ∷ extents) h e len =
     let rest : parents us ≡ parents vs = cc in
-    ap (λ (d : ℕ). near_at i (child_lines level (b + d % 3) (parents us) vs lines)) (sym h.0)
-    ∙ near-inner i level (b + u % 3) us vs lines h.1 rest (omega arith)
+    ap (λ (d : ℕ). near_at i (child_extents level (b + d % 3) (parents us) vs extents)) (sym h.0)
+    ∙ near-inner i level (b + u % 3) us vs extents h.1 rest (omega arith)
 
-far-edge : (i level b : ℕ) (us vs : List ℕ) (lines : List Line) → Beside i us vs → Beside i (parents us) (parents vs) → length lines ≡ length us → far_at i (child_lines level b (parents us) us lines) ≡ far_at i lines
-far-edge zero level b [] vs lines h e len = absurd h
-far-edge (suc i) level b [] vs lines h e len = absurd h
-far-edge zero level b (u ∷ us) [] lines h e len = absurd h
-far-edge (suc i) level b (u ∷ us) [] lines h e len = absurd h
+far-edge : (i level b : ℕ) (us vs : List ℕ) (extents : List Extent) → Beside i us vs → Beside i (parents us) (parents vs) → length extents ≡ length us → far_at i (child_extents level b (parents us) us extents) ≡ far_at i extents
+far-edge zero level b [] vs extents h e len = absurd h
+far-edge (suc i) level b [] vs extents h e len = absurd h
+far-edge zero level b (u ∷ us) [] extents h e len = absurd h
+far-edge (suc i) level b (u ∷ us) [] extents h e len = absurd h
 far-edge i level b (u ∷ us) (v ∷ vs) [] h e len = absurd (omega arith)
-far-edge zero level b (u ∷ us) (v ∷ vs) (line ∷ lines) h e len =
+far-edge zero level b (u ∷ us) (v ∷ vs) (extent ∷ extents) h e len =
     let up : v ≡ u + 1 = h.0 in
     let next : v / 3 ≡ u / 3 + 1 = e.0 in
-    ap (λ w. if w then line.far else far_face level (b + u / 3)) (eq-eqb (u % 3) 2 (omega arith))
-far-edge (suc i) level b (u ∷ us) (v ∷ vs) (line ∷ lines) h e len = far-edge i level (b + u % 3) us vs lines h.1 e.1 (omega arith)
+    ap (λ w. if w then extent.far else far_face level (b + u / 3)) (eq-eqb (u % 3) 2 (omega arith))
+far-edge (suc i) level b (u ∷ us) (v ∷ vs) (extent ∷ extents) h e len = far-edge i level (b + u % 3) us vs extents h.1 e.1 (omega arith)
 
-near-edge : (i level b : ℕ) (us vs : List ℕ) (lines : List Line) → Beside i us vs → Beside i (parents us) (parents vs) → length lines ≡ length vs → near_at i (child_lines level b (parents vs) vs lines) ≡ near_at i lines
-near-edge zero level b [] vs lines h e len = absurd h
-near-edge (suc i) level b [] vs lines h e len = absurd h
-near-edge zero level b (u ∷ us) [] lines h e len = absurd h
-near-edge (suc i) level b (u ∷ us) [] lines h e len = absurd h
+near-edge : (i level b : ℕ) (us vs : List ℕ) (extents : List Extent) → Beside i us vs → Beside i (parents us) (parents vs) → length extents ≡ length vs → near_at i (child_extents level b (parents vs) vs extents) ≡ near_at i extents
+near-edge zero level b [] vs extents h e len = absurd h
+near-edge (suc i) level b [] vs extents h e len = absurd h
+near-edge zero level b (u ∷ us) [] extents h e len = absurd h
+near-edge (suc i) level b (u ∷ us) [] extents h e len = absurd h
 near-edge i level b (u ∷ us) (v ∷ vs) [] h e len = absurd (omega arith)
-near-edge zero level b (u ∷ us) (v ∷ vs) (line ∷ lines) h e len =
+near-edge zero level b (u ∷ us) (v ∷ vs) (extent ∷ extents) h e len =
     let up : v ≡ u + 1 = h.0 in
     let next : v / 3 ≡ u / 3 + 1 = e.0 in
-    ap (λ w. if w then line.near else near_face level (b + v / 3)) (eq-eqb (v % 3) 0 (omega arith))
-near-edge (suc i) level b (u ∷ us) (v ∷ vs) (line ∷ lines) h e len = near-edge i level (b + v % 3) us vs lines h.1 e.1 (omega arith)
+    ap (λ w. if w then extent.near else near_face level (b + v / 3)) (eq-eqb (v % 3) 0 (omega arith))
+near-edge (suc i) level b (u ∷ us) (v ∷ vs) (extent ∷ extents) h e len = near-edge i level (b + v % 3) us vs extents h.1 e.1 (omega arith)
 
 child-third : (p t : ℕ) (even : Bool) → t < 3 → (3 * p + (if even then t else (2 - t))) / 3 ≡ p
 child-third p t true h = omega arith
@@ -341,8 +341,8 @@ find-member us (x ∷ xs) m =
 -- of two cells side by side, the one that comes first, as their faces have it
 pub record First (axes : ℕ) (way : Way) (level i : ℕ) (us vs : List ℕ) : Type 0 where
   pub lower : Bool
-  pub far : (far_at i (lines_of way level us)).relation ≡ (if lower then Later else Earlier)
-  pub near : (near_at i (lines_of way level vs)).relation ≡ (if lower then Earlier else Later)
+  pub far : (far_at i (extents_of way level us)).relation ≡ (if lower then Later else Earlier)
+  pub near : (near_at i (extents_of way level vs)).relation ≡ (if lower then Earlier else Later)
   pub found : find (is_either us vs) (cells axes (way_turns way) level) ≡ Some (first_of lower us vs)
 
 beside-length : (i : ℕ) (us vs : List ℕ) → Beside i us vs → length us ≡ length vs
@@ -371,8 +371,8 @@ first-is axes way (suc level) i us vs len below h =
     let P : ℕ → Type 0 = λ b. Below b vs in
     let small : Below (3 ^ level) qs = Below-parents (3 ^ level) vs (subst P bound below) in
     let long : length us ≡ length vs = beside-length i us vs h in
-    let lines : length (lines_of way level ps) ≡ length us = length-lines_of way level ps ∙ length-parents us in
-    let lines' : length (lines_of way level qs) ≡ length vs = length-lines_of way level qs ∙ length-parents vs in
+    let extents : length (extents_of way level ps) ≡ length us = length-extents_of way level ps ∙ length-parents us in
+    let extents' : length (extents_of way level qs) ≡ length vs = length-extents_of way level qs ∙ length-parents vs in
     elim (siblings i us vs h) [
       | inl same ↦
           let b = w + sum ps in
@@ -381,10 +381,10 @@ first-is axes way (suc level) i us vs len below h =
           let up : find (λ x. is_same_pos x ps) (cells axes w level) ≡ Some ps = find-member ps (cells axes w level) (In-cells axes w level ps (length-parents us ∙ long ∙ len) (subst Q (sym same) small)) in
           record {
             lower = e;
-            far = ap (λ f. f.relation) (far-inner i (suc level) b us vs (lines_of way level ps) h same lines);
+            far = ap (λ f. f.relation) (far-inner i (suc level) b us vs (extents_of way level ps) h same extents);
             near =
-                ap (λ xs. (near_at i (child_lines (suc level) (w + sum xs) xs vs (lines_of way level xs))).relation) (sym same)
-                ∙ ap (λ f. f.relation) (near-inner i (suc level) b us vs (lines_of way level ps) h same lines);
+                ap (λ xs. (near_at i (child_extents (suc level) (w + sum xs) xs vs (extents_of way level xs))).relation) (sym same)
+                ∙ ap (λ f. f.relation) (near-inner i (suc level) b us vs (extents_of way level ps) h same extents);
             found = find-flat_map (is_either us vs) (λ x. is_same_pos x ps) (λ xs. kids (w + sum xs) xs) (cells axes w level) ps (first_of e us vs)
                 (λ z out. kids-out (w + sum z) z us vs out (ap (λ xs. is_same_pos z xs) (sym same) ∙ out))
                 up (first-kids i b us vs ps h refl same);
@@ -395,8 +395,8 @@ first-is axes way (suc level) i us vs len below h =
           let root = first_of v ps qs in
           record {
             lower = v;
-            far = ap (λ f. f.relation) (far-edge i (suc level) (w + sum ps) us vs (lines_of way level ps) h side lines) ∙ above.far;
-            near = ap (λ f. f.relation) (near-edge i (suc level) (w + sum qs) us vs (lines_of way level qs) h side lines') ∙ above.near;
+            far = ap (λ f. f.relation) (far-edge i (suc level) (w + sum ps) us vs (extents_of way level ps) h side extents) ∙ above.far;
+            near = ap (λ f. f.relation) (near-edge i (suc level) (w + sum qs) us vs (extents_of way level qs) h side extents') ∙ above.near;
             found = find-flat_map (is_either us vs) (is_either ps qs) (λ xs. kids (w + sum xs) xs) (cells axes w level) root (first_of v us vs)
                 (λ z out. let parts = or_parts (is_same_pos z ps) (is_same_pos z qs) out in kids-out (w + sum z) z us vs parts.0 parts.1)
                 above.found (first-edge (w + sum root) us vs v (beside-apart i ps qs side));

@@ -19,53 +19,53 @@ use Rattle.pe_base.proofs.Steps.Levels.{entry}
 use Rattle.pe_base.proofs.Steps.Rounds.{spots}
 use Rattle.pe_base.proofs.Steps.StackLaws.{Touches, stack_in-entry, stack_out-entry, length-parents}
 use Rattle.pe_access.specs.declared.route.Route.TheVariants.{Stream, Temp}
-use Rattle.pe_access.specs.Lines.{Relation, Earlier, Later, Outside, Line, bit_of, is_relation, root_line, root_face, child_line}
+use Rattle.pe_access.specs.Extents.{Relation, Earlier, Later, Outside, Extent, bit_of, is_relation, root_extent, root_face, child_extent}
 use Rattle.pe_access.specs.States.{route_of}
 use Rattle.pe_access.proofs.Choices.{Choice, faster, fastest}
-use Rattle.pe_access.proofs.ChildLines.{child_lines, lines_of}
-use Rattle.pe_access.proofs.LineLaws.{length-lines_of, lines_of-odd}
+use Rattle.pe_access.proofs.ChildExtents.{child_extents, extents_of}
+use Rattle.pe_access.proofs.ExtentLaws.{length-extents_of, extents_of-odd}
 use Rattle.pe_access.proofs.FaceLaws.{Sees, pick, marks, choice_of, fastest-pick, pick-entry}
 
 -- axes that the grid does not have: no neighbour at the near end
-abbrev pub Idle : List Line → Type 0
+abbrev pub Idle : List Extent → Type 0
 Idle [] = Unit
-Idle (line ∷ lines) = (line.near ≡ root_face) × Idle lines
+Idle (extent ∷ extents) = (extent.near ≡ root_face) × Idle extents
 
 pub record Split (way : Way) (level n : ℕ) (cs : List ℕ) : Type 0 where
-  pub tail : List Line
+  pub tail : List Extent
   pub idle : Idle tail
-  pub is : lines_of way level (cs ++ replicate n 0) ≡ lines_of way level cs ++ tail
+  pub is : extents_of way level (cs ++ replicate n 0) ≡ extents_of way level cs ++ tail
 
-root-idle : (n : ℕ) → Idle (map {A = ℕ} (λ x. root_line) (replicate n 0))
+root-idle : (n : ℕ) → Idle (map {A = ℕ} (λ x. root_extent) (replicate n 0))
 root-idle zero = tt
 root-idle (suc n) = (refl, root-idle n)
 
-child-idle : (level turns n m : ℕ) (lines : List Line) → Idle lines → Idle (child_lines level turns (replicate n 0) (replicate m 0) lines)
-child-idle level turns zero m lines h = tt
-child-idle level turns (suc n) zero lines h = tt
+child-idle : (level turns n m : ℕ) (extents : List Extent) → Idle extents → Idle (child_extents level turns (replicate n 0) (replicate m 0) extents)
+child-idle level turns zero m extents h = tt
+child-idle level turns (suc n) zero extents h = tt
 child-idle level turns (suc n) (suc m) [] h = tt
-child-idle level turns (suc n) (suc m) (line ∷ lines) h = (h.0, child-idle level (turns + 0 % 3) n m lines h.1)
+child-idle level turns (suc n) (suc m) (extent ∷ extents) h = (h.0, child-idle level (turns + 0 % 3) n m extents h.1)
 
 parents-zeros : (n : ℕ) → parents (replicate n 0) ≡ replicate n 0
 parents-zeros zero = refl
 parents-zeros (suc n) = ap (λ xs. 0 ∷ xs) (parents-zeros n)
 
-record Cut (level turns : ℕ) (ps xs us vs : List ℕ) (lines more : List Line) : Type 0 where
+record Cut (level turns : ℕ) (ps xs us vs : List ℕ) (extents more : List Extent) : Type 0 where
   pub after : ℕ
-  pub is : child_lines level turns (ps ++ us) (xs ++ vs) (lines ++ more) ≡ child_lines level turns ps xs lines ++ child_lines level after us vs more
+  pub is : child_extents level turns (ps ++ us) (xs ++ vs) (extents ++ more) ≡ child_extents level turns ps xs extents ++ child_extents level after us vs more
 
-cut : (level turns : ℕ) (ps xs us vs : List ℕ) (lines more : List Line) → length xs ≡ length ps → length lines ≡ length ps → Cut level turns ps xs us vs lines more
+cut : (level turns : ℕ) (ps xs us vs : List ℕ) (extents more : List Extent) → length xs ≡ length ps → length extents ≡ length ps → Cut level turns ps xs us vs extents more
 cut level turns [] [] us vs [] more e f = record { after = turns; is = refl }
-cut level turns [] (x ∷ xs) us vs lines more e f = absurd (omega arith)
-cut level turns [] [] us vs (line ∷ lines) more e f = absurd (omega arith)
-cut level turns (p ∷ ps) [] us vs lines more e f = absurd (omega arith)
+cut level turns [] (x ∷ xs) us vs extents more e f = absurd (omega arith)
+cut level turns [] [] us vs (extent ∷ extents) more e f = absurd (omega arith)
+cut level turns (p ∷ ps) [] us vs extents more e f = absurd (omega arith)
 cut level turns (p ∷ ps) (x ∷ xs) us vs [] more e f = absurd (omega arith)
-cut level turns (p ∷ ps) (x ∷ xs) us vs (line ∷ lines) more e f =
-    let rest = cut level (turns + x % 3) ps xs us vs lines more (omega arith) (omega arith) in
-    record { after = rest.after; is = ap (λ ls. child_line level (turns + p) (x % 3) line ∷ ls) rest.is }
+cut level turns (p ∷ ps) (x ∷ xs) us vs (extent ∷ extents) more e f =
+    let rest = cut level (turns + x % 3) ps xs us vs extents more (omega arith) (omega arith) in
+    record { after = rest.after; is = ap (λ ls. child_extent level (turns + p) (x % 3) extent ∷ ls) rest.is }
 
 pub split : (way : Way) (level n : ℕ) (cs : List ℕ) → Split way level n cs
-split way zero n cs = record { tail = map {A = ℕ} (λ x. root_line) (replicate n 0); idle = root-idle n; is = map-append (λ x. root_line) cs (replicate n 0) }
+split way zero n cs = record { tail = map {A = ℕ} (λ x. root_extent) (replicate n 0); idle = root-idle n; is = map-append (λ x. root_extent) cs (replicate n 0) }
 split way (suc level) n cs =
     let ps = parents cs in
     let zs = replicate n 0 in
@@ -73,13 +73,13 @@ split way (suc level) n cs =
     let a = way_turns way in
     let front : parents (cs ++ zs) ≡ ps ++ zs = map-append (λ c. c / 3) cs zs ∙ ap (λ xs. ps ++ xs) (parents-zeros n) in
     let total : sum (ps ++ zs) ≡ sum ps = sum_by-append (λ x. x) ps zs ∙ omega (arith, sum_by-replicate (λ x. x) n 0) in
-    let parts = cut (suc level) (a + sum ps) ps cs zs zs (lines_of way level ps) above.tail (sym (length-parents cs)) (length-lines_of way level ps) in
+    let parts = cut (suc level) (a + sum ps) ps cs zs zs (extents_of way level ps) above.tail (sym (length-parents cs)) (length-extents_of way level ps) in
     record {
-      tail = child_lines (suc level) parts.after zs zs above.tail;
+      tail = child_extents (suc level) parts.after zs zs above.tail;
       idle = child-idle (suc level) parts.after n n above.tail above.idle;
-      is = ap (λ xs. child_lines (suc level) (a + sum xs) xs (cs ++ zs) (lines_of way level xs)) front
-          ∙ ap (λ (t : ℕ). child_lines (suc level) (a + t) (ps ++ zs) (cs ++ zs) (lines_of way level (ps ++ zs))) total
-          ∙ ap (child_lines (suc level) (a + sum ps) (ps ++ zs) (cs ++ zs)) above.is
+      is = ap (λ xs. child_extents (suc level) (a + sum xs) xs (cs ++ zs) (extents_of way level xs)) front
+          ∙ ap (λ (t : ℕ). child_extents (suc level) (a + t) (ps ++ zs) (cs ++ zs) (extents_of way level (ps ++ zs))) total
+          ∙ ap (child_extents (suc level) (a + sum ps) (ps ++ zs) (cs ++ zs)) above.is
           ∙ parts.is;
     }
 
@@ -90,19 +90,19 @@ never : (v : Bool) (a b : Choice) → (if v && nat_lt 0 0 then a else b) ≡ b
 never true a b = refl
 never false a b = refl
 
-idle-fastest : (relation : Relation) (axis n : ℕ) (lines : List Line) → Idle lines → fastest relation axis (replicate n 0) lines ≡ none
-idle-fastest relation axis zero lines h = refl
+idle-fastest : (relation : Relation) (axis n : ℕ) (extents : List Extent) → Idle extents → fastest relation axis (replicate n 0) extents ≡ none
+idle-fastest relation axis zero extents h = refl
 idle-fastest relation axis (suc n) [] h = refl
-idle-fastest relation axis (suc n) (line ∷ lines) h =
-    ap (faster relation axis 0 line) (idle-fastest relation (axis + 1) n lines h.1)
-    ∙ ap (λ face. if is_relation face.relation relation && nat_lt 0 face.level then (let a : Choice = record { route = Temp (2 * axis + (bit_of line.odd + 0) % 2); level = face.level } in a) else none) h.0
+idle-fastest relation axis (suc n) (extent ∷ extents) h =
+    ap (faster relation axis 0 extent) (idle-fastest relation (axis + 1) n extents h.1)
+    ∙ ap (λ face. if is_relation face.relation relation && nat_lt 0 face.level then (let a : Choice = record { route = Temp (2 * axis + (bit_of extent.odd + 0) % 2); level = face.level } in a) else none) h.0
     ∙ never (is_relation Outside relation) _ none
 
-fastest-append : (relation : Relation) (axis n : ℕ) (bs : List ℕ) (lines more : List Line) → length bs ≡ length lines → Idle more → fastest relation axis (bs ++ replicate n 0) (lines ++ more) ≡ fastest relation axis bs lines
+fastest-append : (relation : Relation) (axis n : ℕ) (bs : List ℕ) (extents more : List Extent) → length bs ≡ length extents → Idle more → fastest relation axis (bs ++ replicate n 0) (extents ++ more) ≡ fastest relation axis bs extents
 fastest-append relation axis n [] [] more e h = idle-fastest relation axis n more h
-fastest-append relation axis n [] (line ∷ lines) more e h = absurd (omega arith)
+fastest-append relation axis n [] (extent ∷ extents) more e h = absurd (omega arith)
 fastest-append relation axis n (b ∷ bs) [] more e h = absurd (omega arith)
-fastest-append relation axis n (b ∷ bs) (line ∷ lines) more e h = ap (faster relation axis b line) (fastest-append relation (axis + 1) n bs lines more (omega arith) h)
+fastest-append relation axis n (b ∷ bs) (extent ∷ extents) more e h = ap (faster relation axis b extent) (fastest-append relation (axis + 1) n bs extents more (omega arith) h)
 
 -- the bits from the dimension on are 0
 bits-zero : (n : ℕ) → bits n 0 ≡ replicate n 0
@@ -191,7 +191,7 @@ stacks-same vertex level qs (Some i) e =
     ap Temp (omega arith)
 
 -- the choice among the faces at a corner, by how the cell is entered or left around the vertex
-route-fastest : (relation : Relation) (way : Way) (b axes k : ℕ) (cell : Place) (all rest : List Line) → Sees relation (way_turns way) b → axes ≤ 4 → IsCellPlace axes cell → k < 2 ^ axes → all ≡ lines_of way cell.level (take axes cell.pos) ++ rest → Idle rest → (fastest relation 0 (bits 4 k) all).route ≡ route_of (option_map (waiting_stack (corner axes cell k)) (entry b cell.level (spots (moved (take axes cell.pos) (bits axes k))) (take axes cell.pos)))
+route-fastest : (relation : Relation) (way : Way) (b axes k : ℕ) (cell : Place) (all rest : List Extent) → Sees relation (way_turns way) b → axes ≤ 4 → IsCellPlace axes cell → k < 2 ^ axes → all ≡ extents_of way cell.level (take axes cell.pos) ++ rest → Idle rest → (fastest relation 0 (bits 4 k) all).route ≡ route_of (option_map (waiting_stack (corner axes cell k)) (entry b cell.level (spots (moved (take axes cell.pos) (bits axes k))) (take axes cell.pos)))
 route-fastest relation way b axes k cell all rest sees few place small is idle =
     let level = cell.level in
     let cs = take axes cell.pos in
@@ -199,23 +199,23 @@ route-fastest relation way b axes k cell all rest sees few place small is idle =
     let qs = moved cs bs in
     let long : length cs ≡ axes = length-front axes (3 ^ level) cell.pos few place.pos in
     let same : length bs ≡ length cs = length-bits axes k ∙ sym long in
-    let lines = lines_of way level cs in
-    let len : length lines ≡ length cs = length-lines_of way level cs in
+    let extents = extents_of way level cs in
+    let len : length extents ≡ length cs = length-extents_of way level cs in
     let n = 4 - axes in
     let count : axes + n ≡ 4 = omega arith in
     let sides : bits 4 k ≡ bs ++ replicate n 0 = ap (λ (m : ℕ). bits m k) (sym count) ∙ bits-more axes n k small in
-    let odd = lines_of-odd way level cs (Below-front axes (3 ^ level) cell.pos place.pos.inside) in
-    let p = pick (marks relation (spots qs) cs lines) in
+    let odd = extents_of-odd way level cs (Below-front axes (3 ^ level) cell.pos place.pos.inside) in
+    let p = pick (marks relation (spots qs) cs extents) in
     let chosen : fastest relation 0 (bits 4 k) all ≡ choice_of (λ i. 2 * (0 + i) + slice_index qs i % 2) p =
     ap (λ xs. fastest relation 0 xs all) sides
     ∙ ap (fastest relation 0 (bs ++ replicate n 0)) is
-    ∙ fastest-append relation 0 n bs lines rest (same ∙ sym len) idle
-    ∙ fastest-pick relation 0 bs cs lines same len odd in
+    ∙ fastest-append relation 0 n bs extents rest (same ∙ sym len) idle
+    ∙ fastest-pick relation 0 bs cs extents same len odd in
     ap (λ c. c.route) chosen
     ∙ ap (λ o. route_of (option_map (λ i. 2 * (0 + i) + slice_index qs i % 2) o)) (pick-entry relation way b level sees (spots qs) cs (moved-fits cs bs same (bits-small axes k)))
     ∙ stacks-same (corner axes cell k) level qs (entry b level (spots qs) cs) (vertex-at axes k cell few place)
 
-pub route_in-is : (way : Way) (axes k : ℕ) (cell : Place) (all rest : List Line) → axes ≤ 4 → IsCellPlace axes cell → k < 2 ^ axes → all ≡ lines_of way cell.level (take axes cell.pos) ++ rest → Idle rest → IsInside axes (corner axes cell k) → (fastest Earlier 0 (bits 4 k) all).route ≡ route_of (stack_in axes way (corner axes cell k) cell)
+pub route_in-is : (way : Way) (axes k : ℕ) (cell : Place) (all rest : List Extent) → axes ≤ 4 → IsCellPlace axes cell → k < 2 ^ axes → all ≡ extents_of way cell.level (take axes cell.pos) ++ rest → Idle rest → IsInside axes (corner axes cell k) → (fastest Earlier 0 (bits 4 k) all).route ≡ route_of (stack_in axes way (corner axes cell k) cell)
 route_in-is way axes k cell all rest few place small is idle inside =
     let cs = take axes cell.pos in
     let qs = moved cs (bits axes k) in
@@ -225,7 +225,7 @@ route_in-is way axes k cell all rest few place small is idle inside =
     route-fastest Earlier way (way_turns way) axes k cell all rest refl few place small is idle
     ∙ ap route_of (sym (subst Q (sym (vertex-at axes k cell few place)) (subst P (sym (at-front axes (3 ^ cell.level) cell few place.pos)) (stack_in-entry axes cell.level way qs cs (touches axes k cell few place inside)))))
 
-pub route_out-is : (way : Way) (axes k : ℕ) (cell : Place) (all rest : List Line) → axes ≤ 4 → IsCellPlace axes cell → k < 2 ^ axes → all ≡ lines_of way cell.level (take axes cell.pos) ++ rest → Idle rest → IsInside axes (corner axes cell k) → (fastest Later 0 (bits 4 k) all).route ≡ route_of (stack_out axes way (corner axes cell k) cell)
+pub route_out-is : (way : Way) (axes k : ℕ) (cell : Place) (all rest : List Extent) → axes ≤ 4 → IsCellPlace axes cell → k < 2 ^ axes → all ≡ extents_of way cell.level (take axes cell.pos) ++ rest → Idle rest → IsInside axes (corner axes cell k) → (fastest Later 0 (bits 4 k) all).route ≡ route_of (stack_out axes way (corner axes cell k) cell)
 route_out-is way axes k cell all rest few place small is idle inside =
     let cs = take axes cell.pos in
     let qs = moved cs (bits axes k) in

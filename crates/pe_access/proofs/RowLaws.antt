@@ -8,11 +8,11 @@ use Rattle.pe_base.specs.Tree.Places.{IsCellPlace, IsDigits, bits, child_at}
 use Rattle.pe_access.specs.declared.numbers.Numbers.{Numbers}
 use Rattle.pe_access.specs.declared.numbers.Axis.{Axis}
 use Rattle.pe_access.specs.declared.state.CellState.{CellState}
-use Rattle.pe_access.specs.Lines.{Line}
-use Rattle.pe_access.specs.Faces.{line_of}
+use Rattle.pe_access.specs.Extents.{Extent}
+use Rattle.pe_access.specs.Faces.{extent_of}
 use Rattle.pe_access.specs.Numbers.{axis_of, axes_from}
 use Rattle.pe_access.specs.States.{StandsFor}
-use Rattle.pe_access.proofs.StateLaws.{line_of-alike}
+use Rattle.pe_access.proofs.StateLaws.{extent_of-alike}
 use Rattle.pe_access.specs.Rows.{front_of, greatest_along, side_of}
 
 -- the number of the face at a side
@@ -109,17 +109,17 @@ take-alike (suc n) (x ∷ xs) (y ∷ ys) same =
     let tail = take-alike n xs ys (λ i h. same (suc i) (omega arith)) in
     cc
 
-slice_get-axes_from : (axis : ℕ) (lines : List Line) (i : ℕ) (line : Line) → slice_get lines i ≡ Some line → slice_get (axes_from axis lines) i ≡ Some (axis_of (axis + i) line)
-slice_get-axes_from axis [] i line e = cc
-slice_get-axes_from axis (l ∷ lines) zero line e =
-    let head : l ≡ line = cc in
-    ap (λ (m : Line). Some (axis_of axis m)) head ∙ ap (λ (n : ℕ). Some (axis_of n line)) (omega arith)
-slice_get-axes_from axis (l ∷ lines) (suc i) line e = slice_get-axes_from (axis + 1) lines i line e ∙ ap (λ (n : ℕ). Some (axis_of n line)) (omega arith)
+slice_get-axes_from : (axis : ℕ) (extents : List Extent) (i : ℕ) (extent : Extent) → slice_get extents i ≡ Some extent → slice_get (axes_from axis extents) i ≡ Some (axis_of (axis + i) extent)
+slice_get-axes_from axis [] i extent e = cc
+slice_get-axes_from axis (l ∷ extents) zero extent e =
+    let head : l ≡ extent = cc in
+    ap (λ (m : Extent). Some (axis_of axis m)) head ∙ ap (λ (n : ℕ). Some (axis_of n extent)) (omega arith)
+slice_get-axes_from axis (l ∷ extents) (suc i) extent e = slice_get-axes_from (axis + 1) extents i extent e ∙ ap (λ (n : ℕ). Some (axis_of n extent)) (omega arith)
 
 -- what a state is along an axis of the grid
-along_is : (axes : ℕ) (way : Way) (cell : Place) (state : CellState) (i : ℕ) → StandsFor axes way cell state → i < axes → slice_get state.along i ≡ Some (axis_of i (line_of axes way cell i))
+along_is : (axes : ℕ) (way : Way) (cell : Place) (state : CellState) (i : ℕ) → StandsFor axes way cell state → i < axes → slice_get state.along i ≡ Some (axis_of i (extent_of axes way cell i))
 along_is axes way cell state i h within =
-    ap (λ xs. slice_get xs i) h.numbers ∙ slice_get-axes_from 0 h.lines i (line_of axes way cell i) (h.held.grid_axes i within) ∙ ap (λ (n : ℕ). Some (axis_of n (line_of axes way cell i))) (omega arith)
+    ap (λ xs. slice_get xs i) h.numbers ∙ slice_get-axes_from 0 h.extents i (extent_of axes way cell i) (h.held.grid_axes i within) ∙ ap (λ (n : ℕ). Some (axis_of n (extent_of axes way cell i))) (omega arith)
 
 -- children of a row have one front
 pub one_front : (axes : ℕ) (way : Way) (cell : Place) (digits digits' : Digits) (state state' : CellState) → IsCellPlace axes cell → cell.level < 20 → IsDigits axes digits → IsDigits axes digits'
@@ -129,6 +129,6 @@ one_front axes way cell digits digits' state state' place level-below d d' same 
     ap (λ (n : ℕ). take (n - 1) state.along) h.same_axes
     ∙ take-alike (axes - 1) state.along state'.along (λ i within.
     along_is axes way (child_at cell digits) state i h (omega arith)
-    ∙ ap (λ (l : Line). Some (axis_of i l)) (line_of-alike axes way cell digits digits' i h.grid.1 place level-below d d' (omega arith) (λ j below. same j (omega arith)))
+    ∙ ap (λ (l : Extent). Some (axis_of i l)) (extent_of-alike axes way cell digits digits' i h.grid.1 place level-below d d' (omega arith) (λ j below. same j (omega arith)))
     ∙ sym (along_is axes way (child_at cell digits') state' i h' (omega arith)))
     ∙ ap (λ (n : ℕ). take (n - 1) state'.along) (sym h'.same_axes)

@@ -2,7 +2,7 @@
 use Rattle.std.specs.Prelude.{ℕ, ◌%◌, ◌==◌, if◌then◌else◌, Option, Some, None, slice_index}
 use Rattle.pe_base.specs.declared.place.Place.{Place}
 use Rattle.pe_base.specs.declared.way.Way.{Way}
-use Rattle.pe_access.specs.Lines.{Face, Relation, Earlier, Later, Outside, Line}
+use Rattle.pe_access.specs.Extents.{Face, Relation, Earlier, Later, Outside, Extent}
 use Rattle.pe_base.specs.Steps.Neighbours.{neighbour, comes_first, face_level}
 
 -- when a neighbour comes
@@ -15,8 +15,8 @@ abbrev pub face_of : ℕ → Way → Place → ℕ → ℕ → Face
 face_of axes way cell axis side = record { relation = relation_to axes way cell (neighbour cell axis side); level = face_level cell axis side }
 
 -- a cell along an axis
-abbrev pub line_of : ℕ → Way → Place → ℕ → Line
-line_of axes way cell axis = record {
+abbrev pub extent_of : ℕ → Way → Place → ℕ → Extent
+extent_of axes way cell axis = record {
   odd = slice_index cell.pos axis % 2 == 1;
   near = face_of axes way cell axis 0;
   far = face_of axes way cell axis 1;

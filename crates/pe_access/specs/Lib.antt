@@ -1,7 +1,7 @@
 -- The definitions of cell states, in reading order.
 
 -- cells along one axis: their parities and their faces, from parent to child
-pub mod Lines
+pub mod Extents
 -- the numbers of faces
 pub mod Numbers
 -- what a state holds of each face, by the order of the walk

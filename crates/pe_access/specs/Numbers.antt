@@ -7,26 +7,26 @@
 use Rattle.std.specs.Prelude.{ℕ, ◌+◌, ◌*◌, ◌%◌, ◌&&◌, false, ◌==◌, nat_lt, if◌then◌else◌, List, [], ◌∷◌, Option, Some, None}
 use Rattle.pe_access.specs.declared.numbers.Numbers.{Numbers}
 use Rattle.pe_access.specs.declared.numbers.Axis.{Axis}
-use Rattle.pe_access.specs.Lines.{Relation, Earlier, Later, Line, bit_of, is_relation, face_at}
+use Rattle.pe_access.specs.Extents.{Relation, Earlier, Later, Extent, bit_of, is_relation, face_at}
 
 -- the number of the face at a side, for neighbours of a relation
-abbrev pub face_number : Relation → ℕ → ℕ → Line → ℕ
-face_number relation axis side line =
-    let face = face_at line side in
+abbrev pub face_number : Relation → ℕ → ℕ → Extent → ℕ
+face_number relation axis side extent =
+    let face = face_at extent side in
     if is_relation face.relation relation && nat_lt 0 face.level
-    then 8 * face.level + (2 * axis + (bit_of line.odd + side) % 2)
+    then 8 * face.level + (2 * axis + (bit_of extent.odd + side) % 2)
     else 0
 
-abbrev pub numbers_of : ℕ → ℕ → Line → Numbers
-numbers_of axis side line = record { coming = face_number Earlier axis side line; going = face_number Later axis side line }
+abbrev pub numbers_of : ℕ → ℕ → Extent → Numbers
+numbers_of axis side extent = record { coming = face_number Earlier axis side extent; going = face_number Later axis side extent }
 
-abbrev pub axis_of : ℕ → Line → Axis
-axis_of axis line = record { odd = line.odd; near = numbers_of axis 0 line; far = numbers_of axis 1 line }
+abbrev pub axis_of : ℕ → Extent → Axis
+axis_of axis extent = record { odd = extent.odd; near = numbers_of axis 0 extent; far = numbers_of axis 1 extent }
 
 -- the axes from one on
-abbrev pub axes_from : ℕ → List Line → List Axis
+abbrev pub axes_from : ℕ → List Extent → List Axis
 axes_from axis [] = []
-axes_from axis (line ∷ lines) = axis_of axis line ∷ axes_from (axis + 1) lines
+axes_from axis (extent ∷ extents) = axis_of axis extent ∷ axes_from (axis + 1) extents
 
 abbrev pub root_axis : Axis
 root_axis = record { odd = false; near = record { coming = 0; going = 0 }; far = record { coming = 0; going = 0 } }

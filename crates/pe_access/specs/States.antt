@@ -7,8 +7,8 @@ use Rattle.pe_access.specs.declared.numbers.Axis.{Axis}
 use Rattle.pe_access.specs.declared.state.CellState.{CellState}
 use Rattle.pe_access.specs.declared.route.Route.{Route}
 use Rattle.pe_access.specs.declared.route.Route.TheVariants.{Stream, Temp}
-use Rattle.pe_access.specs.Lines.{Line, bit_of, root_face}
-use Rattle.pe_access.specs.Faces.{line_of}
+use Rattle.pe_access.specs.Extents.{Extent, bit_of, root_face}
+use Rattle.pe_access.specs.Faces.{extent_of}
 use Rattle.pe_access.specs.Numbers.{axes_from}
 
 -- the number of axes of the grid of a state
@@ -20,24 +20,24 @@ abbrev pub level_of : CellState → ℕ
 level_of state = state.level
 
 -- an axis that the grid does not have: the position is 0, and the near face is on the root's boundary
-pub record IsIdle (line : Line) : Type 0 where
-  pub even : line.odd ≡ false
-  pub closed : line.near ≡ root_face
+pub record IsIdle (extent : Extent) : Type 0 where
+  pub even : extent.odd ≡ false
+  pub closed : extent.near ≡ root_face
 
--- four lines hold of a cell what the order of the walk says of it
-pub record HoldsCell (axes : ℕ) (way : Way) (cell : Place) (lines : List Line) : Type 0 where
-  pub grid_axes : (axis : ℕ) → axis < axes → slice_get lines axis ≡ Some (line_of axes way cell axis)
-  pub others : (axis : ℕ) → axes ≤ axis → IfSome (slice_get lines axis) IsIdle
+-- four extents hold of a cell what the order of the walk says of it
+pub record HoldsCell (axes : ℕ) (way : Way) (cell : Place) (extents : List Extent) : Type 0 where
+  pub grid_axes : (axis : ℕ) → axis < axes → slice_get extents axis ≡ Some (extent_of axes way cell axis)
+  pub others : (axis : ℕ) → axes ≤ axis → IfSome (slice_get extents axis) IsIdle
 
--- the state stands for a cell of a grid in a way: its numbers are those of lines that hold the cell
+-- the state stands for a cell of a grid in a way: its numbers are those of extents that hold the cell
 pub record StandsFor (axes : ℕ) (way : Way) (cell : Place) (state : CellState) : Type 0 where
   pub grid : IsDim axes
   pub same_axes : state.axes ≡ axes
   pub same_way : state.way ≡ way
   pub same_level : state.level ≡ cell.level
-  pub lines : List Line
-  pub held : HoldsCell axes way cell lines
-  pub numbers : state.along ≡ axes_from 0 lines
+  pub extents : List Extent
+  pub held : HoldsCell axes way cell extents
+  pub numbers : state.along ≡ axes_from 0 extents
 
 -- along how many axes the position is odd
 abbrev pub odd_count : List Axis → ℕ

@@ -1,5 +1,5 @@
 ghost use Rattle.std.specs.Prelude.{◌≡◌, ◌<◌, ◌≤◌, ◌==◌, if◌then◌else◌};
-ghost use Rattle.pe_access.specs.Lines.{Line, bit_of, child_line};
+ghost use Rattle.pe_access.specs.Extents.{Extent, bit_of, child_extent};
 ghost use Rattle.pe_access.specs.Numbers.{axis_of, root_axis};
 
 /// A face of a cell, in two numbers.
@@ -47,7 +47,7 @@ impl Axis {
         requires level { 0 < level }
         requires few { level ≤ 20 }
         requires digit { k < 3 }
-        ensures { (line : Line) → self ≡ axis_of axis line → result ≡ axis_of axis (child_line level turns k line) }
+        ensures { (extent : Extent) → self ≡ axis_of axis extent → result ≡ axis_of axis (child_extent level turns k extent) }
     {
         let odd = (bit(self.odd) + k) % 2 == 1;
         let plane = 8 * u32::from(level) + 2 * u32::from(axis);

@@ -1,7 +1,7 @@
 -- Vertices inside the root, and their carriers.
 use Rattle.std.proofs.Common.{◌≡◌, ℕ, zero, suc, ◌+◌, ◌-◌, ◌*◌, ◌/◌, ◌%◌, ◌^◌, ◌<◌, ◌≤◌, Bool, true, false, ◌&&◌, List, [], ◌∷◌, length, map, take, drop, refl, sym, ap, subst, ◌∙◌, arith}
 use Rattle.std.specs.Prelude.{slice_index, slice_get, nat_lt, ◌==◌, ◌||◌, not, if◌then◌else◌}
-use Rattle.std.specs.List.{list_all, list_any}
+use Rattle.std.specs.List.{list_all, list_any, AllByRecursion as Each}
 use Rattle.std.specs.Option.{option_map}
 use Rattle.std.proofs.lemmas.Bool.{ltb-true, eqb-true, eqb-false, and_parts}
 use Rattle.pe_base.specs.declared.place.Place.{Place}
@@ -14,7 +14,7 @@ use Rattle.pe_base.specs.Life.States.{is_old, is_new}
 use Rattle.pe_base.specs.Life.Kinds.{is_inside, kind_from, level_one_kind}
 use Rattle.pe_base.specs.Life.Carriers.{thirds, carriers, carrier_positions, passes, is_carried, kind_by}
 use Rattle.pe_base.specs.Acts.Effects.{VertexRecord}
-use Rattle.pe_base.proofs.Lists.{Each, Each-weaker, Each-map, Each-flat_map}
+use Rattle.pe_base.proofs.Lists.{Each-weaker, Each-map, Each-flat_map}
 use Rattle.pe_base.proofs.Tree.PlaceLaws.{length-bits}
 use Rattle.pe_base.proofs.Steps.CornerPlaces.{length-moved}
 use Rattle.pe_states.specs.Carriers.{carrier_numbers}

@@ -17,7 +17,7 @@ pub mod CrossingLaws
 -- the slower planes are those of the slower axes
 pub mod SlowerLaws
 -- the loads and stores of one vertex, and its steps
-pub mod Counts
+pub mod VertexTouches
 -- the corners of a cell are places of the grid
 pub mod CornerPlaces
 -- the cells around a vertex, turned round

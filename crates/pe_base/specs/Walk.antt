@@ -1,6 +1,6 @@
 -- The walk by address, at every depth and with every kind of vertex.
 
--- steps one after another, and how they end
+-- moves one after another, and how they end
 pub mod Course
 -- finite maps from places
 pub mod Maps
@@ -10,7 +10,7 @@ pub mod Core
 pub mod Grids
 -- the working state of a traversal
 pub mod Working
--- the steps by address
+-- the moves by address
 pub mod Touches
 -- the walk of a cell, and a traversal
 pub mod Walk

@@ -5,13 +5,13 @@ use Rattle.pe_base.specs.declared.stop.Stop.{Stop}
 use Rattle.pe_base.specs.declared.stop.Stop.TheVariants.{Overflow, Division, Sink, Memory}
 use Rattle.pe_base.specs.Acts.Effects.{Seen, Outcome, MayLeave}
 use Rattle.pe_base.specs.Acts.Effects as effects
-use Rattle.pe_io.specs.Counts.{Rises}
+use Rattle.pe_io.specs.Counters.{Rises}
 use Rattle.pe_io.specs.Sink.{Appends, AppendsPrefix}
 use Rattle.pe_check.specs.declared.checked.Stmt.{Stmt, If, IfElse}
 use Rattle.pe_eval.specs.declared.view.View.{View}
 use Rattle.pe_check.specs.declared.checked.Expr.{Expr}
 use Rattle.pe_eval.specs.declared.fault.Fault.{Fault}
-use Rattle.pe_eval.specs.Names.{Scene}
+use Rattle.pe_eval.specs.Names.{Situation}
 use Rattle.pe_eval.specs.Values.{values_of, with_values}
 use Rattle.pe_eval.specs.Meaning.{fine, with_value, printed, print_start, print_line, act_of, meaning, behind, and_then, unless_stopped}
 use Rattle.pe_eval.specs.Sights.{Frame, sight, globals_of, frame}
@@ -169,11 +169,11 @@ went-through body begun old view now i went all =
     })
 
 -- a print at which the sink fails
-cut_at : (scene : Scene) (values : Result (List ℤ) Fault) (line : List ℕ) (old new : Told) → Ok line ≡ with_values print_start values
+cut_at : (situation : Situation) (values : Result (List ℤ) Fault) (line : List ℕ) (old new : Told) → Ok line ≡ with_values print_start values
     → AppendsPrefix old.text (line ++ 10 ∷ []) new.text → old.faults ≤ new.faults → Rises old.faults new.faults
-    → IsSinkFault (with_value scene.seen scene.list values (λ numbers. behind (print_line numbers) (fine scene.seen scene.list))) old new
-cut_at scene (Err fault) line old new is told faults rises = absurd (cc is)
-cut_at scene (Ok numbers) line old new is told faults rises =
+    → IsSinkFault (with_value situation.seen situation.list values (λ numbers. behind (print_line numbers) (fine situation.seen situation.list))) old new
+cut_at situation (Err fault) line old new is told faults rises = absurd (cc is)
+cut_at situation (Ok numbers) line old new is told faults rises =
     let cut = part_of_prefix (line ++ 10 ∷ []) old.text new.text told in
     let same : line ≡ print_start numbers = cc is in
     record {
@@ -185,9 +185,9 @@ cut_at scene (Ok numbers) line old new is told faults rises =
       rises = rises;
     }
 
-pub printed-cut : (scene : Scene) (values : List Expr) (line : List ℕ) (old new : Told) → Ok line ≡ with_values print_start (values_of values scene)
-    → AppendsPrefix old.text (line ++ 10 ∷ []) new.text → old.faults ≤ new.faults → Rises old.faults new.faults → IsSinkFault (printed values scene) old new
-printed-cut scene values line old new is told faults rises = cut_at scene (values_of values scene) line old new is told faults rises
+pub printed-cut : (situation : Situation) (values : List Expr) (line : List ℕ) (old new : Told) → Ok line ≡ with_values print_start (values_of values situation)
+    → AppendsPrefix old.text (line ++ 10 ∷ []) new.text → old.faults ≤ new.faults → Rises old.faults new.faults → IsSinkFault (printed values situation) old new
+printed-cut situation values line old new is told faults rises = cut_at situation (values_of values situation) line old new is told faults rises
 
 -- a statement of a body fits where the body does
 pub stmt_fits-at : (begun view : View) (body : List Stmt) (i : ℕ) (stmt : Stmt) → IsTrue (fits (reach_of begun) body) → frame view ≡ frame begun → i < length body → stmt ≡ slice_index_or body i stmt

@@ -4,7 +4,7 @@ use Rattle.pe_base.specs.declared.stop.Stop.{Stop}
 use Rattle.pe_base.specs.declared.stop.Stop.TheVariants.{Overflow, Division, Sink, Memory}
 use Rattle.pe_base.specs.Acts.Effects.{Outcome}
 use Rattle.pe_base.specs.Acts.Effects as effects
-use Rattle.pe_io.specs.Counts.{Rises}
+use Rattle.pe_io.specs.Counters.{Rises}
 use Rattle.pe_io.specs.Sink.{Appends}
 use Rattle.pe_eval.specs.declared.view.View.{View}
 use Rattle.pe_eval.specs.Sights.{sight, globals_of}

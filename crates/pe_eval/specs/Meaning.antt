@@ -21,7 +21,7 @@ use Rattle.pe_check.specs.declared.checked.Stmt.TheOpen.{Stmt-F}
 use Rattle.pe_check.specs.declared.checked.Stmt.TheFolds.{fold-Stmt}
 use Rattle.pe_eval.specs.declared.fault.Fault.{Fault}
 use Rattle.pe_eval.specs.Arithmetic.{is_zero}
-use Rattle.pe_eval.specs.Names.{Scene}
+use Rattle.pe_eval.specs.Names.{Situation}
 use Rattle.pe_eval.specs.Values.{value_of, values_of}
 use Rattle.pe_eval.specs.Stops.{fault_of}
 
@@ -34,7 +34,7 @@ pub record Setting : Type 0 where
 abbrev pub Act : Type 0
 Act = Setting → Seen → List ℤ → Outcome
 
-abbrev pub scene_of : Setting → Seen → List ℤ → Scene
+abbrev pub scene_of : Setting → Seen → List ℤ → Situation
 scene_of setting seen list = record { traversal = setting.traversal; list = list; seen = seen }
 
 -- all is as given, and nothing is wrong
@@ -126,8 +126,8 @@ abbrev pub print_line : List ℤ → List ℕ
 print_line numbers = line (codes "print") (map signed_decimal numbers)
 
 -- a print at an event
-abbrev pub printed : List Expr → Scene → Outcome
-printed values scene = with_value scene.seen scene.list (values_of values scene) (λ numbers. behind (print_line numbers) (fine scene.seen scene.list))
+abbrev pub printed : List Expr → Situation → Outcome
+printed values situation = with_value situation.seen situation.list (values_of values situation) (λ numbers. behind (print_line numbers) (fine situation.seen situation.list))
 
 -- a statement whose bodies do this
 abbrev pub stmt_step : Stmt-F Act → Act

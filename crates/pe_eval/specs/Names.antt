@@ -14,7 +14,7 @@ use Rattle.pe_check.specs.declared.checked.Name.{Name}
 use Rattle.pe_check.specs.declared.checked.Name.TheVariants as name
 
 -- what names are read in: the number of the traversal, the numbers of the whole grid, and what the event sees
-pub record Scene : Type 0 where
+pub record Situation : Type 0 where
   pub traversal : ℕ
   pub list : List ℤ
   pub seen : Seen
@@ -46,16 +46,16 @@ of_vertex ask vertex seen = option_map_or ask (vertex_named vertex seen) (pos 0)
 abbrev pub number_at : List ℤ → ℕ → ℤ
 number_at numbers field = slice_index_or numbers field (pos 0)
 
-abbrev pub slot_value : Slot → Scene → ℤ
-slot_value (slot.Global field) scene = number_at scene.list field
-slot_value (slot.Vertex vertex field) scene = of_vertex (λ it. number_at it.numbers field) vertex scene.seen
-slot_value (slot.Cell field) scene = option_map_or (λ numbers. number_at numbers field) scene.seen.cell (pos 0)
-slot_value (slot.Parent field) scene = number_at scene.seen.parent field
+abbrev pub slot_value : Slot → Situation → ℤ
+slot_value (slot.Global field) situation = number_at situation.list field
+slot_value (slot.Vertex vertex field) situation = of_vertex (λ it. number_at it.numbers field) vertex situation.seen
+slot_value (slot.Cell field) situation = option_map_or (λ numbers. number_at numbers field) situation.seen.cell (pos 0)
+slot_value (slot.Parent field) situation = number_at situation.seen.parent field
 
-abbrev pub name_value : Name → Scene → ℤ
-name_value name.Traversal scene = pos scene.traversal
-name_value name.Level scene = pos scene.seen.place.level
-name_value (name.Axis axis) scene = pos (slice_index scene.seen.place.pos axis)
-name_value (name.State vertex) scene = of_vertex (λ it. pos (state_number it.state)) vertex scene.seen
-name_value (name.Kind vertex) scene = of_vertex (λ it. pos (kind_number it.kind)) vertex scene.seen
-name_value (name.Slot slot) scene = slot_value slot scene
+abbrev pub name_value : Name → Situation → ℤ
+name_value name.Traversal situation = pos situation.traversal
+name_value name.Level situation = pos situation.seen.place.level
+name_value (name.Axis axis) situation = pos (slice_index situation.seen.place.pos axis)
+name_value (name.State vertex) situation = of_vertex (λ it. pos (state_number it.state)) vertex situation.seen
+name_value (name.Kind vertex) situation = of_vertex (λ it. pos (kind_number it.kind)) vertex situation.seen
+name_value (name.Slot slot) situation = slot_value slot situation

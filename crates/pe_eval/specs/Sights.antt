@@ -12,7 +12,7 @@ use Rattle.pe_check.specs.Fits.{Reach}
 use Rattle.std.specs.Borrow.{GName}
 use Rattle.pe_eval.specs.declared.view.View.{View}
 use Rattle.pe_eval.specs.declared.view.View.TheVariants.{Plain, Vertex, Cell}
-use Rattle.pe_eval.specs.Names.{Scene}
+use Rattle.pe_eval.specs.Names.{Situation}
 use Rattle.pe_eval.specs.Meaning.{Setting, scene_of}
 
 -- a vertex
@@ -78,8 +78,8 @@ frame (Cell t max_level at globals cell corners parents parent) = record {
 }
 
 -- what names are read in
-abbrev pub scene : View → Scene
-scene view = scene_of (frame view).setting (sight view) (globals_of view)
+abbrev pub situation : View → Situation
+situation view = scene_of (frame view).setting (sight view) (globals_of view)
 
 -- a body may speak of all that the view lends: eight numbers of each kind
 abbrev pub reach_of : View → Reach

@@ -7,21 +7,21 @@ use Rattle.pe_check.specs.declared.checked.Expr.TheOpen.{Expr-F}
 use Rattle.pe_check.specs.declared.checked.Expr.TheFolds.{fold-Expr}
 use Rattle.pe_eval.specs.declared.fault.Fault.{Fault}
 use Rattle.pe_eval.specs.Arithmetic.{Value, ◌>>=◌, linked, prefixed, extreme, absolute}
-use Rattle.pe_eval.specs.Names.{Scene, name_value}
+use Rattle.pe_eval.specs.Names.{Situation, name_value}
 
 -- a chain from left to right: its value so far, and then each further sign with what is behind it
-abbrev pub chain_value : Scene → Value → List (Sign × (Scene → Value)) → Value
-chain_value scene so_far [] = so_far
-chain_value scene so_far (link ∷ links) = chain_value scene (so_far >>= λ a. linked link.0 a (link.1 scene)) links
+abbrev pub chain_value : Situation → Value → List (Sign × (Situation → Value)) → Value
+chain_value situation so_far [] = so_far
+chain_value situation so_far (link ∷ links) = chain_value situation (so_far >>= λ a. linked link.0 a (link.1 situation)) links
 
 -- an expression whose parts have these values
-abbrev pub expr_step : Expr-F (Scene → Value) → Scene → Value
-expr_step (Expr-F.Number n) scene = Ok n
-expr_step (Expr-F.Name name) scene = Ok (name_value name scene)
-expr_step (Expr-F.Unary prefix operand) scene = operand scene >>= λ a. prefixed prefix a
-expr_step (Expr-F.Chain first links) scene = chain_value scene (first scene) links
-expr_step (Expr-F.Extreme choice left right) scene = left scene >>= λ a. right scene >>= λ b. Ok (extreme choice a b)
-expr_step (Expr-F.Abs operand) scene = operand scene >>= λ a. absolute a
+abbrev pub expr_step : Expr-F (Situation → Value) → Situation → Value
+expr_step (Expr-F.Number n) situation = Ok n
+expr_step (Expr-F.Name name) situation = Ok (name_value name situation)
+expr_step (Expr-F.Unary prefix operand) situation = operand situation >>= λ a. prefixed prefix a
+expr_step (Expr-F.Chain first links) situation = chain_value situation (first situation) links
+expr_step (Expr-F.Extreme choice left right) situation = left situation >>= λ a. right situation >>= λ b. Ok (extreme choice a b)
+expr_step (Expr-F.Abs operand) situation = operand situation >>= λ a. absolute a
 
 -- an expression without parts
 abbrev pub is_simple : Expr → Bool
@@ -29,12 +29,12 @@ is_simple (expr.Number n) = true
 is_simple (expr.Name name) = true
 is_simple _ = false
 
-abbrev pub value_of : Expr → Scene → Value
-value_of = fold-Expr (Scene → Value) expr_step
+abbrev pub value_of : Expr → Situation → Value
+value_of = fold-Expr (Situation → Value) expr_step
 
 -- a chain whose value so far is known
-abbrev pub value_behind : Value → List (Sign × Expr) → Scene → Value
-value_behind so_far links scene = chain_value scene so_far (map (λ link. (link.0, value_of link.1)) links)
+abbrev pub value_behind : Value → List (Sign × Expr) → Situation → Value
+value_behind so_far links situation = chain_value situation so_far (map (λ link. (link.0, value_of link.1)) links)
 
 -- one value and then more
 abbrev pub values_from : Value → Result (List ℤ) Fault → Result (List ℤ) Fault
@@ -43,9 +43,9 @@ values_from (Ok n) (Err fault) = Err fault
 values_from (Ok n) (Ok ns) = Ok (n ∷ ns)
 
 -- the values of a print, from left to right
-abbrev pub values_of : List Expr → Scene → Result (List ℤ) Fault
-values_of [] scene = Ok []
-values_of (expr ∷ exprs) scene = values_from (value_of expr scene) (values_of exprs scene)
+abbrev pub values_of : List Expr → Situation → Result (List ℤ) Fault
+values_of [] situation = Ok []
+values_of (expr ∷ exprs) situation = values_from (value_of expr situation) (values_of exprs situation)
 
 -- what is made of values, if there are any
 abbrev pub with_values : {X Y : Type 0} → (X → Y) → Result X Fault → Result Y Fault

@@ -1,7 +1,7 @@
 ghost use Rattle.std.specs.Prelude.{◌≡◌, ◌≤◌, ◌^◌, Some, IsTrue, slice_index, pos};
 ghost use Rattle.pe_check.specs.Fits.{name_fits, slot_fits, vertex_fits, has_place, is_cell};
 ghost use Rattle.pe_eval.specs.Names.{name_value, slot_value, vertex_named, state_number as number_of_state, kind_number as number_of_kind};
-ghost use Rattle.pe_eval.specs.Sights.{sight, globals_of, frame, reach_of, IsBelowRoot, IsReady, seen_vertex, scene};
+ghost use Rattle.pe_eval.specs.Sights.{sight, globals_of, frame, reach_of, IsBelowRoot, IsReady, seen_vertex, situation};
 
 use crate::view::View;
 use pe_base::{Fields, Kind, Place, State};
@@ -14,7 +14,7 @@ impl View<'_> {
     pub(crate) fn named(&self, name: Name) -> i64
         requires fits { IsTrue (name_fits (reach_of self.now) name) }
         requires ready { IsReady self.now }
-        ensures { result ≡ name_value name (scene self.now) }
+        ensures { result ≡ name_value name (situation self.now) }
     {
         match name {
             Name::Traversal => self.traversal(),
@@ -30,7 +30,7 @@ impl View<'_> {
     fn slot(&self, slot: Slot) -> i64
         requires fits { IsTrue (slot_fits (reach_of self.now) slot) }
         requires ready { IsReady self.now }
-        ensures { result ≡ slot_value slot (scene self.now) }
+        ensures { result ≡ slot_value slot (situation self.now) }
     {
         match slot {
             Slot::Global(field) => self.globals().get(field),

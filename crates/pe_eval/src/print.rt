@@ -4,7 +4,7 @@ ghost use Rattle.pe_io.specs.Line.{HasRoom};
 ghost use Rattle.pe_check.specs.Fits.{expr_fits};
 ghost use Rattle.pe_eval.specs.Values.{values_of, with_values};
 ghost use Rattle.pe_eval.specs.Meaning.{print_start};
-ghost use Rattle.pe_eval.specs.Sights.{reach_of, IsReady, scene};
+ghost use Rattle.pe_eval.specs.Sights.{reach_of, IsReady, situation};
 
 use crate::fault::Fault;
 use crate::value::value;
@@ -17,7 +17,7 @@ pub(crate) fn print_line(values: &[Expr], view: &View) -> Result<Line, Fault>
     requires few { length values.now ≤ 8 }
     requires fits { IsTrue (list_all (expr_fits (reach_of view.now)) values.now) }
     requires ready { IsReady view.now }
-    ensures { result ≡ with_values print_start (values_of values.now (scene view.now)) }
+    ensures { result ≡ with_values print_start (values_of values.now (situation view.now)) }
 {
     let mut line = Line::of("print");
     for expr in values {

@@ -3,7 +3,7 @@ ghost use Rattle.std.specs.List.{list_all};
 ghost use Rattle.pe_base.specs.Acts.Effects.{MayLeave};
 ghost use Rattle.pe_check.specs.Fits.{fits, stmt_fits, expr_fits};
 ghost use Rattle.pe_eval.specs.Meaning.{meaning, act_of, printed};
-ghost use Rattle.pe_eval.specs.Sights.{sight, globals_of, frame, reach_of, scene, IsReady};
+ghost use Rattle.pe_eval.specs.Sights.{sight, globals_of, frame, reach_of, situation, IsReady};
 ghost use Rattle.pe_eval.specs.Answers.{Answers};
 
 use crate::print::print_line;
@@ -93,7 +93,7 @@ fn step<K: Sink>(stmt: &Stmt, view: &mut View, sink: &mut K) -> Result<(), Stop>
 fn print<K: Sink>(values: &Values, view: &View, sink: &mut K) -> Result<(), Stop>
     requires fits { IsTrue (list_all (expr_fits (reach_of view.now)) values.now) }
     requires ready { IsReady view.now }
-    ensures { Answers (printed values.now (scene view.now))
+    ensures { Answers (printed values.now (situation view.now))
         (record { text = K.text sink.old; faults = K.faults sink.old })
         (record { text = K.text sink.new; faults = K.faults sink.new }) view.now result }
 {

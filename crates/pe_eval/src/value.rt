@@ -2,7 +2,7 @@ ghost use Rattle.std.specs.Prelude.{◌≡◌, IsTrue, false, Ok};
 ghost use Rattle.std.specs.List.{list_all};
 ghost use Rattle.pe_check.specs.Fits.{expr_fits};
 ghost use Rattle.pe_eval.specs.Values.{is_simple, value_of, value_behind};
-ghost use Rattle.pe_eval.specs.Sights.{reach_of, IsReady, scene};
+ghost use Rattle.pe_eval.specs.Sights.{reach_of, IsReady, situation};
 
 use crate::arithmetic::{absolute, combined, extreme, is_decided, prefixed, truth};
 use crate::fault::Fault;
@@ -15,7 +15,7 @@ use pe_check::Expr;
 pub(crate) fn value(expr: &Expr, view: &View) -> Result<i64, Fault>
     requires fits { IsTrue (expr_fits (reach_of view.now) expr.now) }
     requires ready { IsReady view.now }
-    ensures { result ≡ value_of expr.now (scene view.now) }
+    ensures { result ≡ value_of expr.now (situation view.now) }
 {
     match expr {
         Expr::Number(n) => Ok(*n),
@@ -32,7 +32,7 @@ fn compound(expr: &Expr, view: &View) -> Result<i64, Fault>
     requires compound { is_simple expr.now ≡ false }
     requires fits { IsTrue (expr_fits (reach_of view.now) expr.now) }
     requires ready { IsReady view.now }
-    ensures { result ≡ value_of expr.now (scene view.now) }
+    ensures { result ≡ value_of expr.now (situation view.now) }
 {
     match expr {
         Expr::Number(_) | Expr::Name(_) => unreachable!(),

@@ -1,4 +1,4 @@
--- How the answer of a call follows a course of steps.
+-- How the answer of a call follows a course of moves.
 --
 --     Ok           the course is done with what the call leaves, and all its text was added
 --     halted       it halts by this very cause, and all its text was added

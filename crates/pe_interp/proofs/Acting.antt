@@ -7,7 +7,7 @@ use Rattle.pe_base.specs.Acts.Events.{sort_of}
 use Rattle.pe_base.specs.declared.stop.Stop.{Stop}
 use Rattle.pe_base.specs.declared.stop.Stop.TheVariants.{Overflow, Division, Sink, Memory}
 use Rattle.pe_base.specs.Acts.Effects.{Seen, Outcome}
-use Rattle.pe_io.specs.Counts.{Rises}
+use Rattle.pe_io.specs.Counters.{Rises}
 use Rattle.pe_io.specs.Sink.{Appends, AppendsPrefix}
 use Rattle.pe_mapping.specs.Held.{Told, Held, IsLonger, Adds, AddsPart}
 use Rattle.pe_mapping.specs.Answers.{IsSinkFault, Answers}

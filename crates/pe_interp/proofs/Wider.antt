@@ -11,14 +11,14 @@ use Rattle.pe_scene.specs.Bodies.{body_at}
 
 -- eight numbers of each kind
 abbrev pub lent : Sort → ℕ → Reach
-lent sort dim = record { sort = sort; dim = dim; vertex_fields = 8; cell_fields = 8; global_fields = 8 }
+lent sort dim = record { sort = sort; dim = axes; vertex_fields = 8; cell_fields = 8; global_fields = 8 }
 
 -- in the scenario's dimension, or in any where the event has no place
-pub body_fits : (scenario : Scenario) (event : Event) (sort : Sort) (dim : ℕ) (body : List Stmt) → sort_of event ≡ sort → body_at scenario.bodies event ≡ Some body
-    → (IsTrue (has_place sort) → dim ≡ scenario.setup.dim) → IsTrue (fits (lent sort dim) body)
-body_fits scenario event sort dim body is has same =
+pub body_fits : (scenario : Scenario) (event : Event) (sort : Sort) (axes : ℕ) (body : List Stmt) → sort_of event ≡ sort → body_at scenario.bodies event ≡ Some body
+    → (IsTrue (has_place sort) → axes ≡ scenario.setup.dim) → IsTrue (fits (lent sort axes) body)
+body_fits scenario event sort axes body is has same =
     let names = scenario.names in
     let narrow : Reach = record { sort = sort; dim = scenario.setup.dim; vertex_fields = length names.vertex; cell_fields = length names.cell; global_fields = length names.global } in
-    fits_wider narrow (lent sort dim) body
+    fits_wider narrow (lent sort axes) body
     (record { sort = refl; dim = same; vertex = names.few_of_vertices; cell = names.few_of_cells; global = names.few_of_all })
     (rw is at (scenario.fit.each event body has))

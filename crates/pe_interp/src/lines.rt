@@ -2,7 +2,7 @@
 ghost use Rattle.std.specs.Prelude.{◌≡◌, ◌≤◌, [], ◌∷◌, ◌++◌, OnOk, OnErr};
 ghost use Rattle.pe_base.specs.Acts.Events.{sort_of};
 ghost use Rattle.pe_base.specs.Lines.{line_by, place_line};
-ghost use Rattle.pe_io.specs.Counts.{Rises};
+ghost use Rattle.pe_io.specs.Counters.{Rises};
 ghost use Rattle.pe_io.specs.Sink.{Appends, AppendsPrefix};
 ghost use Rattle.pe_scene.specs.SaidView.{said_of};
 ghost use Rattle.pe_interp.specs.Effect.{trace_line};
@@ -13,19 +13,19 @@ use pe_scene::Scenario;
 
 /// Writes the trace line of an event, if the scenario traces it.
 pub(crate) fn write_trace<K: Sink>(
-    scene: &Scenario,
+    situation: &Scenario,
     event: Event,
     traversal: u64,
     place: &Place,
     sink: &mut K,
 ) -> Result<(), SinkFailed>
-    ensures ok { OnOk result (Appends (K.text sink.old) (trace_line (said_of scene.now) event traversal place.now) (K.text sink.new)) }
-    ensures err { OnErr result (AppendsPrefix (K.text sink.old) (trace_line (said_of scene.now) event traversal place.now) (K.text sink.new)) }
+    ensures ok { OnOk result (Appends (K.text sink.old) (trace_line (said_of situation.now) event traversal place.now) (K.text sink.new)) }
+    ensures err { OnErr result (AppendsPrefix (K.text sink.old) (trace_line (said_of situation.now) event traversal place.now) (K.text sink.new)) }
     ensures faults { K.faults sink.old ≤ K.faults sink.new }
     ensures failed { OnErr result (Rises (K.faults sink.old) (K.faults sink.new)) }
 {
-    if scene.trace.has(event) {
-        trace_words(scene.setup.dim, event, traversal, place).end(sink)
+    if situation.trace.has(event) {
+        trace_words(situation.setup.dim, event, traversal, place).end(sink)
     } else {
         Ok(())
     }

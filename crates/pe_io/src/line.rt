@@ -1,7 +1,7 @@
 ghost use Rattle.std.specs.Prelude.{◌≡◌, ◌+◌, ◌≤◌, [], ◌∷◌, ◌++◌, map, length, decimal, OnOk, OnErr};
 ghost use Rattle.std.specs.Fmt.{signed_decimal};
 ghost use Rattle.pe_base.specs.Lines.{shown_byte, shown_key};
-ghost use Rattle.pe_io.specs.Counts.{CountsOne, Rises};
+ghost use Rattle.pe_io.specs.Counters.{CountsOne, Rises};
 ghost use Rattle.pe_io.specs.Sink.{Appends, AppendsPrefix};
 ghost use Rattle.pe_io.specs.Line.{HasRoom};
 

@@ -1,5 +1,5 @@
 ghost use Rattle.std.specs.Prelude.{◌≡◌, ℕ, ◌<◌, ◌≤◌, List, [], length, Option, OnOk, OnErr, IsOk};
-ghost use Rattle.pe_io.specs.Counts.{CountsOne, Rises};
+ghost use Rattle.pe_io.specs.Counters.{CountsOne, Rises};
 ghost use Rattle.pe_io.specs.Sink.{Appends, AppendsPrefix};
 
 /// A sink failed: it took only a part of what it was given, or nothing.

@@ -17,8 +17,8 @@ use Rattle.pe_parse.specs.declared.tree.Expr.{Expr}
 use Rattle.pe_parse.specs.Lexemes.{Lexeme, kind_in}
 use Rattle.pe_parse.specs.Statements.{Statement, Statements}
 use Rattle.pe_parse.specs.Grammar.{Phrase, Chained, Operand, Linked, Listed, One, All, Names, plain, dotted, Spells, number, name, prefixed, group, extreme, absolute, single, chain, linked_none, linked, listed_none, listed, assigns, marks, prints, chooses, chooses_else, nothing, then_more, MayFollow, operand_of, rank_of, sign_of, prefix_kind, choice_kind, trigger_kind}
-use Rattle.pe_parse.specs.Places.{Frame, Needs, Value, Links, Second, Ending, Pair, Single, Values, Block, Otherwise, Sequence, Move, Takes, move, moved, link_move, sign_if, same_rank, step, ends, operand_frames, chain_frames, more_links, expression}
-use Rattle.pe_parse.proofs.Steps.{is_skip, skips, skip_is, needs_takes}
+use Rattle.pe_parse.specs.Frames.{Frame, Needs, Value, Links, Second, Ending, Pair, Single, Values, Block, Otherwise, Sequence, Move, Takes, move, moved, link_move, sign_if, same_rank, step, ends, operand_frames, chain_frames, more_links, expression}
+use Rattle.pe_parse.proofs.TokenMoves.{is_skip, skips, skip_is, needs_takes}
 
 abbrev pub on_step : Option (List Frame) → (List Frame → Bool) → Bool
 on_step None later = false

@@ -10,7 +10,7 @@ use Rattle.pe_lex.proofs.Spaced as spaced_text
 use Rattle.pe_parse.specs.Lexemes.{Lexeme, lexemes_of}
 use Rattle.pe_parse.specs.Statements.{Statements}
 use Rattle.pe_parse.specs.Grammar.{All, Spells}
-use Rattle.pe_parse.specs.Places.{Frame, Sequence, step}
+use Rattle.pe_parse.specs.Frames.{Frame, Sequence, step}
 use Rattle.pe_parse.specs.Printed.{Pieces, body_pieces, spaced, text_of, unplaced}
 use Rattle.pe_parse.specs.Laws.{IsTextOf}
 use Rattle.pe_parse.proofs.Accepts.{accepts, on_step, body_accepted}

@@ -12,9 +12,9 @@ use Rattle.pe_parse.specs.declared.tree.Stmt.TheVariants as stmt
 use Rattle.pe_parse.specs.Lexemes.{Lexeme, kind_at, offset_at}
 use Rattle.pe_parse.specs.Statements.{Statement, Chooses, ChoosesElse, Nothing, Then, statement_of, statements_of}
 use Rattle.pe_parse.specs.Grammar.{Spells, Chained, One, All, chooses, chooses_else, nothing, then_more}
-use Rattle.pe_parse.specs.Places.{Needs, Block, Otherwise, Sequence, expression}
+use Rattle.pe_parse.specs.Frames.{Needs, Block, Otherwise, Sequence, expression}
 use Rattle.pe_parse.specs.Reading.{piece, Went, Stopped, Needed, ReadsAs, ReadsBlock, ReadStatement}
-use Rattle.pe_parse.proofs.Steps.{stands, took, took_stop, went_here, too_deep, skips, refuses, skipped, refused, went_trans, went_frame, went_beside, stop_after, stop_frame, stop_beside, needed, missing}
+use Rattle.pe_parse.proofs.TokenMoves.{stands, took, took_stop, went_here, too_deep, skips, refuses, skipped, refused, went_trans, went_frame, went_beside, stop_after, stop_frame, stop_beside, needed, missing}
 use Rattle.pe_parse.proofs.Pieces.{piece_cons, piece_snoc, piece_join, piece_empty}
 use Rattle.pe_parse.proofs.Bodies.{of_if, of_if_else}
 

@@ -20,10 +20,10 @@ use Rattle.pe_parse.specs.declared.tree.Stmt.TheFolds.{fold-roll-Stmt}
 use Rattle.pe_parse.specs.Lexemes.{Lexeme, kind_at, offset_at, offset_in}
 use Rattle.pe_parse.specs.Statements.{Statement, Assigns, Marks, Prints, Chooses, ChoosesElse, statement_step, statement_of, statements_of}
 use Rattle.pe_parse.specs.Grammar.{Spells, Chained, Listed, One, listed, listed_none, assigns, marks, prints, trigger_kind}
-use Rattle.pe_parse.specs.Places.{Needs, Second, Values, Sequence, Takes, move, expression, are_counted}
+use Rattle.pe_parse.specs.Frames.{Needs, Second, Values, Sequence, Takes, move, expression, are_counted}
 use Rattle.pe_parse.specs.Faults.{is_too_large}
 use Rattle.pe_parse.specs.Reading.{piece, bytes_in, spelled_at, Went, Stopped, Needed, ReadsName, ReadsAs, ReadsClosed, ValuesAt, ReadsValues, ReadStatement}
-use Rattle.pe_parse.proofs.Steps.{stands, took, took_stop, too_many, skips, skipped, went_trans, went_beside, stop_after, stop_beside, needed, missing}
+use Rattle.pe_parse.proofs.TokenMoves.{stands, took, took_stop, too_many, skips, skipped, went_trans, went_beside, stop_after, stop_beside, needed, missing}
 use Rattle.pe_parse.proofs.Pieces.{piece_cons, piece_single, piece_snoc, piece_join, piece_empty}
 
 -- what the statements of the code are as plain data

@@ -13,10 +13,10 @@ use Rattle.pe_parse.specs.declared.tree.Expr.{Expr}
 use Rattle.pe_parse.specs.declared.tree.Expr.TheVariants as expr
 use Rattle.pe_parse.specs.Lexemes.{Lexeme, kind_at, offset_at}
 use Rattle.pe_parse.specs.Grammar.{Spells, Chained, Linked, single, chain, linked, linked_none, MayFollow, operand_of, rank_of, sign_of}
-use Rattle.pe_parse.specs.Places.{Frame, Links, Takes, move, link_move, sign_if, same_rank, more_links, operand_frames, chain_frames, nesting, are_counted}
+use Rattle.pe_parse.specs.Frames.{Frame, Links, Takes, move, link_move, sign_if, same_rank, more_links, operand_frames, chain_frames, nesting, are_counted}
 use Rattle.pe_parse.specs.Faults.{is_too_large}
 use Rattle.pe_parse.specs.Reading.{piece, sign_among, sign_at, Went, Stopped, ReadsAs}
-use Rattle.pe_parse.proofs.Steps.{stands, nesting-append, counted-append, took, took_stop, too_many, skips, is_skip, skipped, went_trans, went_beside, stop_after, stop_beside}
+use Rattle.pe_parse.proofs.TokenMoves.{stands, nesting-append, counted-append, took, took_stop, too_many, skips, is_skip, skipped, went_trans, went_beside, stop_after, stop_beside}
 use Rattle.pe_parse.proofs.Pieces.{piece_cons, piece_empty, piece_join}
 
 -- a token that is a sign of a rank

@@ -18,9 +18,9 @@ use Rattle.pe_parse.specs.declared.tree.Expr.TheVariants as expr
 use Rattle.pe_parse.specs.Lexemes.{Lexeme, value_of}
 use Rattle.pe_parse.specs.Statements.{Statement, Statements, Nothing, Then}
 use Rattle.pe_parse.specs.Grammar.{Phrase, Chained, Operand, Linked, Listed, One, All, plain, dotted, Spells, number, name, prefixed, group, extreme, absolute, single, chain, linked_none, linked, listed_none, listed, assigns, marks, prints, chooses, chooses_else, nothing, then_more, MayFollow, operand_of, rank_of, sign_of, prefix_kind, choice_kind, trigger_kind}
-use Rattle.pe_parse.specs.Places.{Frame, Needs, Value, Links, Second, Ending, Pair, Single, Values, Block, Otherwise, Sequence, Move, Takes, Skips, Refuses, move, moved, link_move, sign_if, same_rank, step, kind_number, operand_frames, more_links, expression, can_end, ends}
+use Rattle.pe_parse.specs.Frames.{Frame, Needs, Value, Links, Second, Ending, Pair, Single, Values, Block, Otherwise, Sequence, Move, Takes, Skips, Refuses, move, moved, link_move, sign_if, same_rank, step, kind_number, operand_frames, more_links, expression, can_end, ends}
 use Rattle.pe_parse.specs.Bodies.{Begins, open_next, open_after}
-use Rattle.pe_parse.proofs.Steps.{kind_same}
+use Rattle.pe_parse.proofs.TokenMoves.{kind_same}
 use Rattle.pe_parse.proofs.Accepts.{accepts, on_step}
 
 -- what a frame may be filled with

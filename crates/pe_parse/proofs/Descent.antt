@@ -18,8 +18,8 @@ use Rattle.pe_parse.specs.declared.tree.Expr.TheVariants as expr
 use Rattle.pe_parse.specs.Lexemes.{Lexeme, value_of}
 use Rattle.pe_parse.specs.Statements.{Statement, Statements, Assigns, Marks, Prints, Chooses, ChoosesElse, Nothing, Then}
 use Rattle.pe_parse.specs.Grammar.{sign_of}
-use Rattle.pe_parse.specs.Places.{kind_number, sign_if, Sequence}
-use Rattle.pe_parse.proofs.Steps.{skips}
+use Rattle.pe_parse.specs.Frames.{kind_number, sign_if, Sequence}
+use Rattle.pe_parse.proofs.TokenMoves.{skips}
 use Rattle.pe_parse.proofs.Accepts.{head}
 
 -- what is wanted of the tokens

@@ -1,7 +1,7 @@
 -- The lemmas of reading.
 
 -- what one token does to the frames that are open
-pub mod Steps
+pub mod TokenMoves
 -- parts of the tokens, joined
 pub mod Pieces
 -- what tokens spell

@@ -18,9 +18,9 @@ use Rattle.pe_parse.specs.declared.tree.Expr.TheVariants as expr
 use Rattle.pe_parse.specs.Lexemes.{Lexeme, lexemes_of}
 use Rattle.pe_parse.specs.Statements.{Statement, Statements, Assigns, Marks, Prints, Chooses, ChoosesElse, Nothing, Then}
 use Rattle.pe_parse.specs.Grammar.{Phrase, Chained, Operand, Linked, Listed, One, All, Names, plain, dotted, Spells, number, name, prefixed, group, extreme, absolute, single, chain, linked_none, linked, listed_none, listed, assigns, marks, prints, chooses, chooses_else, nothing, then_more, MayFollow, operand_of, rank_of, sign_of, prefix_kind, choice_kind, trigger_kind}
-use Rattle.pe_parse.specs.Places.{Second, Links, Values, Otherwise, Sequence, kind_number, sign_if, same_rank, link_move}
+use Rattle.pe_parse.specs.Frames.{Second, Links, Values, Otherwise, Sequence, kind_number, sign_if, same_rank, link_move}
 use Rattle.pe_parse.specs.Laws.{IsTextOf}
-use Rattle.pe_parse.proofs.Steps.{is_skip, skips, kind_self}
+use Rattle.pe_parse.proofs.TokenMoves.{is_skip, skips, kind_self}
 use Rattle.pe_parse.proofs.Accepts.{head, AfterOperand, AfterDisjunction, After, Inside, inside_of, links_of, closing_head, linked_head, listed_head, all_head, none_left, rank_same}
 use Rattle.pe_parse.proofs.Descent.{AnOperand, AChain, SomeLinks, MoreValues, AStatement, ABody, Found, and_then, Way, token, name_by, name_behind, chain_of, closed, block, prefix_behind, pair_behind, operand_by, operand_in, more_in, link_by, links, value_by, values, else_by, otherwise, mark_behind, statement_by, body_by, deeper, reading}
 

@@ -16,10 +16,10 @@ use Rattle.pe_parse.specs.declared.tree.Choice.{Choice}
 use Rattle.pe_parse.specs.declared.tree.Choice.TheVariants as choice
 use Rattle.pe_parse.specs.Lexemes.{Lexeme, kind_at, offset_at, offset_in, value_of}
 use Rattle.pe_parse.specs.Grammar.{Spells, plain, dotted, Operand, Chained, number, name, prefixed, group, extreme, absolute, prefix_kind, choice_kind}
-use Rattle.pe_parse.specs.Places.{Needs, Value, Second, Ending, Pair, Single, Takes, move, expression, nesting}
+use Rattle.pe_parse.specs.Frames.{Needs, Value, Second, Ending, Pair, Single, Takes, move, expression, nesting}
 use Rattle.pe_parse.specs.Faults.{is_too_large}
 use Rattle.pe_parse.specs.Reading.{piece, bytes_in, spelled_at, Went, Stopped, Needed, ReadsName, ReadsAs, ReadsClosed}
-use Rattle.pe_parse.proofs.Steps.{stands, at_within, took, took_stop, went_here, too_deep, too_large, skips, refuses, is_refuse, skipped, refused, went_trans, went_frame, stop_after, stop_frame, needed, missing}
+use Rattle.pe_parse.proofs.TokenMoves.{stands, at_within, took, took_stop, went_here, too_deep, too_large, skips, refuses, is_refuse, skipped, refused, went_trans, went_frame, stop_after, stop_frame, needed, missing}
 use Rattle.pe_parse.proofs.Pieces.{piece_cons, piece_single, piece_snoc, piece_join}
 
 module _ (size : ℕ) (xs : List Lexeme) where

@@ -3,7 +3,7 @@ use Rattle.std.proofs.Common.{◌≡◌, ℕ, ◌+◌, ◌-◌, ◌<◌, ◌≤�
 use Rattle.std.specs.Prelude.{slice_get}
 use Rattle.pe_parse.specs.Lexemes.{Lexeme}
 use Rattle.pe_parse.specs.Reading.{piece}
-use Rattle.pe_parse.proofs.Steps.{at_some}
+use Rattle.pe_parse.proofs.TokenMoves.{at_some}
 
 take_none : (k : ℕ) → take {A = Lexeme} k [] ≡ []
 take_none zero = refl

@@ -4,7 +4,7 @@ use Rattle.std.specs.Prelude.{nat_le}
 use Rattle.pe_parse.specs.declared.fault.ParseFault.{ParseFault}
 use Rattle.pe_parse.specs.declared.fault.ParseFault.TheVariants.{Syntax, TooDeep, TooMany, Literal, Memory}
 use Rattle.pe_parse.specs.Lexemes.{Lexeme, offset_at}
-use Rattle.pe_parse.specs.Places.{Frame, Sequence, step, ends, nesting, are_counted}
+use Rattle.pe_parse.specs.Frames.{Frame, Sequence, step, ends, nesting, are_counted}
 use Rattle.pe_parse.specs.Faults.{is_too_large, passed_limit, or_fault, at_token, fault_from}
 use Rattle.pe_parse.specs.Reading.{IsFault}
 use Rattle.pe_parse.specs.Bodies.{NoBody, Passed, Refused, WithinLimits, open_next, open_after}

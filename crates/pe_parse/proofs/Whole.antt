@@ -5,7 +5,7 @@ use Rattle.std.proofs.lemmas.List.{take_all}
 use Rattle.pe_parse.specs.declared.fault.ParseFault.{ParseFault}
 use Rattle.pe_parse.specs.declared.fault.ParseFault.TheVariants.{Syntax}
 use Rattle.pe_parse.specs.Lexemes.{Lexeme, offset_at, offset_in}
-use Rattle.pe_parse.specs.Places.{Sequence}
+use Rattle.pe_parse.specs.Frames.{Sequence}
 use Rattle.pe_parse.specs.Faults.{fault_from}
 use Rattle.pe_parse.specs.Reading.{piece, Behind, Went, IsFault, Stopped}
 

@@ -3,7 +3,7 @@ use Rattle.std.specs.Prelude.{ℕ, ◌≡◌, ◌<◌, ◌≤◌, List, [], ◌�
 use Rattle.pe_parse.specs.Lexemes.{Lexeme, offset_at}
 use Rattle.pe_parse.specs.Statements.{Statements}
 use Rattle.pe_parse.specs.Grammar.{All, Spells}
-use Rattle.pe_parse.specs.Places.{Frame, Sequence, step}
+use Rattle.pe_parse.specs.Frames.{Frame, Sequence, step}
 use Rattle.pe_parse.specs.declared.fault.ParseFault.{ParseFault}
 use Rattle.pe_parse.specs.declared.fault.ParseFault.TheVariants.{Syntax, TooDeep, TooMany, Literal, Memory}
 use Rattle.pe_parse.specs.Faults.{passed_limit}

@@ -6,7 +6,7 @@ use Rattle.pe_lex.specs.declared.token.TokenKind.TheVariants as kind
 use Rattle.pe_parse.specs.declared.fault.ParseFault.{ParseFault}
 use Rattle.pe_parse.specs.declared.fault.ParseFault.TheVariants.{Syntax, TooDeep, TooMany, Literal}
 use Rattle.pe_parse.specs.Lexemes.{Lexeme, lexemes_of, value_of}
-use Rattle.pe_parse.specs.Places.{Frame, Sequence, step, ends, nesting, are_counted}
+use Rattle.pe_parse.specs.Frames.{Frame, Sequence, step, ends, nesting, are_counted}
 
 -- a number that is no i64
 abbrev pub is_too_large : TokenKind → List ℕ → Bool

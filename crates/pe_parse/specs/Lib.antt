@@ -7,7 +7,7 @@ pub mod Statements
 -- which tokens spell which tree
 pub mod Grammar
 -- what may come next, and what is open
-pub mod Places
+pub mod Frames
 -- the first fault of a list of tokens
 pub mod Faults
 -- how a part of the tokens is read

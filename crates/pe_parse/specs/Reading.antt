@@ -14,9 +14,9 @@ use Rattle.pe_parse.specs.declared.tree.Values.{Values}
 use Rattle.pe_parse.specs.declared.tree.Stmt.{Stmt}
 use Rattle.pe_lex.specs.declared.token.TokenKind.TheVariants as kind
 use Rattle.pe_parse.specs.Statements.{Statements, statement_of, statements_of}
-use Rattle.pe_parse.specs.Places as frame
+use Rattle.pe_parse.specs.Frames as frame
 use Rattle.pe_parse.specs.Grammar.{Phrase, Chained, Listed, One, All, Spells, Names, sign_of}
-use Rattle.pe_parse.specs.Places.{Frame, Needs, Second, Block, Sequence, expression, nests, nesting, are_counted, sign_if}
+use Rattle.pe_parse.specs.Frames.{Frame, Needs, Second, Block, Sequence, expression, nests, nesting, are_counted, sign_if}
 use Rattle.pe_parse.specs.Faults.{fault_from}
 
 -- the tokens from one number to another

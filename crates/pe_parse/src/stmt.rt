@@ -4,7 +4,7 @@ ghost use Rattle.pe_lex.specs.Spans.{AreTokensOf};
 ghost use Rattle.pe_parse.specs.Lexemes.{kind_at};
 ghost use Rattle.pe_parse.specs.Statements.{statements_of};
 ghost use Rattle.pe_parse.specs.Grammar.{All, trigger_kind};
-ghost use Rattle.pe_parse.specs.Places.{Sequence};
+ghost use Rattle.pe_parse.specs.Frames.{Sequence};
 ghost use Rattle.pe_parse.specs.Reading.{seen, size_of, ReadsAs, ReadsValues, ReadsBlock, ReadsStatement, MayRead};
 
 use crate::expr::{DEEPEST, Found};

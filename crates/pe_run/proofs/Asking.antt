@@ -13,7 +13,7 @@ use Rattle.pe_scene.specs.Faults.{Gives}
 use Rattle.pe_scene.specs.Said.{Said, scenario_of, scenario_limit}
 use Rattle.pe_scene.specs.SaidView.{said_of}
 use Rattle.pe_run.specs.declared.refusal.Refusal.{Refusal}
-use Rattle.pe_run.specs.declared.refusal.Refusal.TheVariants.{NoJob, NoShelf, Scene}
+use Rattle.pe_run.specs.declared.refusal.Refusal.TheVariants.{NoJob, NoShelf, Unreadable}
 use Rattle.pe_run.specs.Run.{Stage, scenario_stage, Holds, read_as, held_as, asked, call_of}
 use Rattle.pe_run.specs.Stages.{IsAsked, Asks}
 
@@ -21,7 +21,7 @@ use Rattle.pe_run.specs.Stages.{IsAsked, Asks}
 pub IsAsked-read : (scenario : Scenario) (said : Result Said SceneFault) → Gives said_of (Ok scenario) said → IsAsked said_of (Ok scenario) (read_as said)
 IsAsked-read scenario said is = ap read_as is
 
-pub IsAsked-refused : (fault : SceneFault) (said : Result Said SceneFault) → Gives {T = Scenario} said_of (Err fault) said → IsAsked {S = Scenario} said_of (Err (Scene fault)) (read_as said)
+pub IsAsked-refused : (fault : SceneFault) (said : Result Said SceneFault) → Gives {T = Scenario} said_of (Err fault) said → IsAsked {S = Scenario} said_of (Err (Unreadable fault)) (read_as said)
 IsAsked-refused TooLong said is = ap read_as is
 IsAsked-refused NotToml said is = ap read_as is
 IsAsked-refused (UnknownKey key) said is = ap read_as is
@@ -75,14 +75,14 @@ module _ (before after : ℕ) (last : Option FailedCall) where
       Asks-held result (Some name) (Some contents) contents refl (subst (λ under. IsAsked said_of result (held_as under)) (sym is.0) says)
 
   -- the shelf holds more than the limit
-  pub Asks-longer : (told : Option Contents) (name : List ℕ) → WhereTold told (λ held. IsLonger (held name) scenario_limit) → Asks said_of (Some name) told before after last (Err (Scene TooLong))
+  pub Asks-longer : (told : Option Contents) (name : List ℕ) → WhereTold told (λ held. IsLonger (held name) scenario_limit) → Asks said_of (Some name) told before after last (Err (Unreadable TooLong))
   Asks-longer None name longer =
       let bytes = longer_than scenario_limit in
-      Asks-held (Err (Scene TooLong)) (Some name) None (λ _. Some bytes.0) (λ _. search rules) (ap read_as (refused_longer bytes.0 bytes.1))
+      Asks-held (Err (Unreadable TooLong)) (Some name) None (λ _. Some bytes.0) (λ _. search rules) (ap read_as (refused_longer bytes.0 bytes.1))
   Asks-longer (Some contents) name longer =
-      elim (contents name) as (λ under. contents name ≡ under → IsLonger under scenario_limit → Asks said_of (Some name) (Some contents) before after last (Err (Scene TooLong))) [
+      elim (contents name) as (λ under. contents name ≡ under → IsLonger under scenario_limit → Asks said_of (Some name) (Some contents) before after last (Err (Unreadable TooLong))) [
         | None ↦ λ same none. absurd none
-        | Some bytes ↦ λ same more. Asks-held (Err (Scene TooLong)) (Some name) (Some contents) contents refl (ap held_as same ∙ ap read_as (refused_longer bytes more))
+        | Some bytes ↦ λ same more. Asks-held (Err (Unreadable TooLong)) (Some name) (Some contents) contents refl (ap held_as same ∙ ap read_as (refused_longer bytes more))
       ] refl longer
 
   -- the shelf does not hold the name
@@ -108,8 +108,8 @@ module _ (before after : ℕ) (last : Option FailedCall) where
   Asks-not_given told name got (inr none) is untold failed = Asks-failed told name (failed none)
 
   -- want of memory
-  pub Asks-memory : (told : Option Contents) (name : List ℕ) → Asks said_of (Some name) told before after last (Err (Scene Memory))
-  Asks-memory told name = Asks-held (Err (Scene Memory)) (Some name) told (held_with told []) (Holds-held_with told []) tt
+  pub Asks-memory : (told : Option Contents) (name : List ℕ) → Asks said_of (Some name) told before after last (Err (Unreadable Memory))
+  Asks-memory told name = Asks-held (Err (Unreadable Memory)) (Some name) told (held_with told []) (Holds-held_with told []) tt
 
   -- the words name no job
   pub Asks-no_job : (job : Option (List ℕ)) (told : Option Contents) → None ≡ job → Asks said_of job told before after last (Err NoJob)

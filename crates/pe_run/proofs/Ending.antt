@@ -4,7 +4,7 @@ use Rattle.std.specs.Result.{IsErrAnd}
 use Rattle.pe_base.specs.declared.fields.Fields.{Fields}
 use Rattle.pe_base.specs.Lines.{done_line}
 use Rattle.pe_base.specs.Walk.Course.{Cause, halts}
-use Rattle.pe_io.specs.Counts.{Rises}
+use Rattle.pe_io.specs.Counters.{Rises}
 use Rattle.pe_io.specs.Sink.{AppendsPrefix}
 use Rattle.pe_stacks.specs.declared.record.Vertex.{Vertex}
 use Rattle.pe_stacks.specs.declared.record.CellRec.{CellRec}

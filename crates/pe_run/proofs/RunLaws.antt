@@ -1,6 +1,6 @@
 -- Laws of the run.
 use Rattle.std.proofs.Common.{◌≡◌, ◌≢◌, ◌⊎◌, ℕ, List, Option, Some, None, Result, Ok, Err, OnOk, refl, sym, subst, inl, inr, arith}
-use Rattle.pe_io.specs.Counts.{Rises}
+use Rattle.pe_io.specs.Counters.{Rises}
 use Rattle.pe_io.specs.Shelf.{Contents, FailedCall}
 use Rattle.pe_mapping.specs.Held.{Told}
 use Rattle.pe_scene.specs.Said.{Said}

@@ -2,7 +2,7 @@
 use Rattle.std.proofs.Common.{◌≡◌, ◌≢◌, ◌≤◌, ℕ, Result, Ok, Err, refl, sym, subst}
 use Rattle.std.specs.Result.{IsErrAnd}
 use Rattle.pe_base.specs.Walk.Course.{Cause}
-use Rattle.pe_io.specs.Counts.{Rises}
+use Rattle.pe_io.specs.Counters.{Rises}
 use Rattle.pe_io.specs.Sink.{Appends, AppendsPrefix}
 use Rattle.pe_mapping.specs.Held.{Told}
 use Rattle.pe_hang.specs.Follows.{halted}
@@ -14,7 +14,7 @@ use Rattle.pe_scene.specs.declared.scenario.Scenario.{Scenario}
 use Rattle.pe_scene.specs.Said.{Said}
 use Rattle.pe_scene.specs.SaidView.{said_of}
 use Rattle.pe_run.specs.declared.refusal.Refusal.{Refusal}
-use Rattle.pe_run.specs.declared.refusal.Refusal.TheVariants.{Scene}
+use Rattle.pe_run.specs.declared.refusal.Refusal.TheVariants.{Unreadable}
 use Rattle.pe_run.specs.declared.status.Status.{Status}
 use Rattle.pe_run.specs.declared.status.Stop.{Stop}
 use Rattle.pe_run.specs.declared.status.Stop.TheVariants.{Sink}
@@ -37,13 +37,13 @@ line_stops ran old new (Err stop) is text faults failed =
     subst (λ s. RunsTo ran old new (Err s)) (sym is) (record { failed = failed; told = part_told old new ran.text text faults })
 
 -- the last line behind a halt
-pub EndsFor-halted : (dim : ℕ) (halt : Halt) (traversal : ℕ) (stop : WalkStop) (cause : Cause) (old new : Told) (result : Result Status Stop) → halt ≡ Walk traversal stop → failure_of stop ≡ halted cause
-    → RunsTo (record { text = halt_line dim traversal cause; status = 4 }) old new result → EndsFor dim halt old new result
-EndsFor-halted dim halt traversal stop cause old new result is fails runs =
-    subst (λ h. EndsFor dim h old new result) (sym is) (subst (λ f. EndsWith dim traversal f old new result) (sym fails) runs)
+pub EndsFor-halted : (axes : ℕ) (halt : Halt) (traversal : ℕ) (stop : WalkStop) (cause : Cause) (old new : Told) (result : Result Status Stop) → halt ≡ Walk traversal stop → failure_of stop ≡ halted cause
+    → RunsTo (record { text = halt_line axes traversal cause; status = 4 }) old new result → EndsFor axes halt old new result
+EndsFor-halted axes halt traversal stop cause old new result is fails runs =
+    subst (λ h. EndsFor axes h old new result) (sym is) (subst (λ f. EndsWith axes traversal f old new result) (sym fails) runs)
 
 -- what is refused for another cause than want of memory, is refused for that cause
-said_is : (fault : SceneFault) (said : Result Said Refusal) → fault ≢ scene.Memory → IsAsked {S = Scenario} said_of (Err (Scene fault)) said → said ≡ Err (Scene fault)
+said_is : (fault : SceneFault) (said : Result Said Refusal) → fault ≢ scene.Memory → IsAsked {S = Scenario} said_of (Err (Unreadable fault)) said → said ≡ Err (Unreadable fault)
 said_is scene.TooLong said other is = is
 said_is scene.NotToml said other is = is
 said_is (scene.UnknownKey key) said other is = is
@@ -59,6 +59,6 @@ pub RunsTo-refused : (refusal : Refusal) (said : Result Said Refusal) (old new :
     → RunsTo (record { text = refusal_line refusal; status = refusal_status refusal }) old new result → RunsTo (run_asked said) old new result
 RunsTo-refused refusal said old new result is runs = subst (λ s. RunsTo (run_asked s) old new result) (sym is) runs
 
-pub RunsTo-scene : (fault : SceneFault) (said : Result Said Refusal) (old new : Told) (result : Result Status Stop) → fault ≢ scene.Memory → IsAsked {S = Scenario} said_of (Err (Scene fault)) said
+pub RunsTo-scene : (fault : SceneFault) (said : Result Said Refusal) (old new : Told) (result : Result Status Stop) → fault ≢ scene.Memory → IsAsked {S = Scenario} said_of (Err (Unreadable fault)) said
     → RunsTo (record { text = scene_line fault; status = 3 }) old new result → RunsTo (run_asked said) old new result
-RunsTo-scene fault said old new result other is runs = RunsTo-refused (Scene fault) said old new result (said_is fault said other is) runs
+RunsTo-scene fault said old new result other is runs = RunsTo-refused (Unreadable fault) said old new result (said_is fault said other is) runs

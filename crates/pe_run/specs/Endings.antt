@@ -57,12 +57,12 @@ scene_line scene.Memory = []
 abbrev pub refusal_line : Refusal → List ℕ
 refusal_line refused.NoJob = fault_words
 refusal_line refused.NoShelf = fault_shelf_scenario
-refusal_line (refused.Scene fault) = scene_line fault
+refusal_line (refused.Unreadable fault) = scene_line fault
 
 abbrev pub refusal_status : Refusal → ℕ
 refusal_status refused.NoJob = 2
 refusal_status refused.NoShelf = 6
-refusal_status (refused.Scene fault) = 3
+refusal_status (refused.Unreadable fault) = 3
 
 -- the line of what halts a traversal
 abbrev pub halt_line : ℕ → ℕ → Cause → List ℕ

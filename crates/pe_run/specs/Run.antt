@@ -8,7 +8,7 @@ use Rattle.pe_base.specs.Walk.Core.{Setting}
 use Rattle.pe_base.specs.Walk.Grids.{Grid, new_grid}
 use Rattle.pe_base.specs.Walk.Traversals.{Traversals, traversals}
 use Rattle.pe_io.specs.declared.shelf.ShelfCall.TheVariants.{Get}
-use Rattle.pe_io.specs.Counts.{Rises}
+use Rattle.pe_io.specs.Counters.{Rises}
 use Rattle.pe_io.specs.Sink.{Appends, AppendsPrefix}
 use Rattle.pe_io.specs.Shelf.{Contents, FailedCall, failed_call}
 use Rattle.pe_scene.specs.declared.fault.SceneFault.{SceneFault}
@@ -16,7 +16,7 @@ use Rattle.pe_scene.specs.Said.{Said, scenario_of}
 use Rattle.pe_interp.specs.Effect.{said_rules}
 use Rattle.pe_stacks.specs.Holdings.{Holdings}
 use Rattle.pe_run.specs.declared.refusal.Refusal.{Refusal}
-use Rattle.pe_run.specs.declared.refusal.Refusal.TheVariants.{NoJob, NoShelf, Scene}
+use Rattle.pe_run.specs.declared.refusal.Refusal.TheVariants.{NoJob, NoShelf, Unreadable}
 use Rattle.pe_run.specs.Traffic.{HasTraffic}
 use Rattle.pe_run.specs.Endings.{refusal_line, refusal_status, last_line, last_status}
 
@@ -62,7 +62,7 @@ run_asked (Ok said) = ran_traversals said.settings.dim (said_traversals said)
 -- what the bytes under the scenario's name say
 abbrev pub read_as : Result Said SceneFault → Result Said Refusal
 read_as (Ok said) = Ok said
-read_as (Err fault) = Err (Scene fault)
+read_as (Err fault) = Err (Unreadable fault)
 
 abbrev pub held_as : Option (List ℕ) → Result Said Refusal
 held_as None = Err NoShelf

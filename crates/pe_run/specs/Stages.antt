@@ -5,7 +5,7 @@ use Rattle.pe_base.specs.Walk.Course.{Cause, done, halts}
 use Rattle.pe_base.specs.Walk.Grids.{Grid}
 use Rattle.pe_base.specs.Walk.Traversals.{Traversal, Traversals}
 use Rattle.pe_io.specs.Shelf.{Contents, FailedCall}
-use Rattle.pe_io.specs.Counts.{Rises}
+use Rattle.pe_io.specs.Counters.{Rises}
 use Rattle.pe_stacks.specs.declared.record.Vertex.{Vertex}
 use Rattle.pe_stacks.specs.declared.record.CellRec.{CellRec}
 use Rattle.pe_stacks.specs.Holdings.{Holdings}
@@ -15,7 +15,7 @@ use Rattle.pe_adapt.specs.Stops.{failure_of}
 use Rattle.pe_scene.specs.declared.fault.SceneFault.TheVariants.{Memory as NoMemory}
 use Rattle.pe_scene.specs.Said.{Said}
 use Rattle.pe_run.specs.declared.refusal.Refusal.{Refusal}
-use Rattle.pe_run.specs.declared.refusal.Refusal.TheVariants.{NoJob, NoShelf, Scene}
+use Rattle.pe_run.specs.declared.refusal.Refusal.TheVariants.{NoJob, NoShelf, Unreadable}
 use Rattle.pe_run.specs.declared.status.Status.{Status}
 use Rattle.pe_run.specs.declared.status.Stop.{Stop}
 use Rattle.pe_run.specs.declared.status.Stop.TheVariants.{Sink, Memory}
@@ -89,8 +89,8 @@ abbrev pub IsAsked : {S : Type 0} → (S → Said) → Result S Refusal → Resu
 IsAsked view (Ok scenario) said = said ≡ Ok (view scenario)
 IsAsked view (Err NoJob) said = said ≡ Err NoJob
 IsAsked view (Err NoShelf) said = said ≡ Err NoShelf
-IsAsked view (Err (Scene NoMemory)) said = Unit {0}
-IsAsked view (Err (Scene fault)) said = said ≡ Err (Scene fault)
+IsAsked view (Err (Unreadable NoMemory)) said = Unit {0}
+IsAsked view (Err (Unreadable fault)) said = said ≡ Err (Unreadable fault)
 
 -- The shelf was asked for what the job asks for: it holds this, and so does it say; a call that failed was that of this
 -- stage, and nothing was given.

@@ -39,10 +39,10 @@ fn ask_for<H: Shelf>(alloc: Global, name: &str, shelf: &mut H) -> Result<Scenari
     match shelf.get(name, SCENARIO_LIMIT) {
         Got::Whole(bytes) => match read_scenario(alloc, &bytes) {
             Ok(scenario) => Ok(scenario),
-            Err(fault) => Err(Refusal::Scene(fault)),
+            Err(fault) => Err(Refusal::Unreadable(fault)),
         },
-        Got::Longer => Err(Refusal::Scene(SceneFault::TooLong)),
+        Got::Longer => Err(Refusal::Unreadable(SceneFault::TooLong)),
         Got::Absent | Got::Failed => Err(Refusal::NoShelf),
-        Got::Memory => Err(Refusal::Scene(SceneFault::Memory)),
+        Got::Memory => Err(Refusal::Unreadable(SceneFault::Memory)),
     }
 }

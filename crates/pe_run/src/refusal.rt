@@ -9,5 +9,5 @@ pub enum Refusal {
     /// The shelf gives no scenario.
     NoShelf,
     /// The scenario is refused, or there was no memory to read it.
-    Scene(SceneFault),
+    Unreadable(SceneFault),
 }

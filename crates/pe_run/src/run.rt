@@ -1,6 +1,6 @@
 // The run of the program, stage by stage.
 ghost use Rattle.std.specs.Prelude.{◌≡◌, ◌≢◌, ◌≤◌, ◌+◌, Result as Outcome, Err, Ok, OnOk, OnErr, map, length, string_bytes};
-ghost use Rattle.pe_io.specs.Counts.{Rises};
+ghost use Rattle.pe_io.specs.Counters.{Rises};
 ghost use Rattle.pe_io.specs.Sink.{Appends, AppendsPrefix};
 ghost use Rattle.pe_stacks.specs.Holdings.{new_holdings, cleared};
 ghost use Rattle.pe_scene.specs.Said.{Said};
@@ -48,7 +48,7 @@ fn write_scene_fault<K: Sink>(fault: &SceneFault, sink: &mut K) -> Result<(), Si
 
 // Ends a run whose scenario is refused, or for which there was no memory.
 fn refuse_scenario<K: Sink>(fault: &SceneFault, sink: &mut K) -> Result<Status, Stop>
-    ensures run { (said : Outcome Said ARefusal) → IsAsked {S = AScenario} said_of (Err (Refusal.Scene fault.now)) said
+    ensures run { (said : Outcome Said ARefusal) → IsAsked {S = AScenario} said_of (Err (Refusal.Unreadable fault.now)) said
         → RunsTo (run_asked said) (told_by K.text K.faults sink.old) (told_by K.text K.faults sink.new) result }
     ensures status { OnOk result (result ≢ Ok Status.Done) }
 {
@@ -77,7 +77,7 @@ fn refuse<K: Sink>(refusal: &Refusal, sink: &mut K) -> Result<Status, Stop>
             sink.write(b"fault shelf scenario\n")?;
             Ok(Status::NoShelf)
         }
-        Refusal::Scene(fault) => refuse_scenario(fault, sink),
+        Refusal::Unreadable(fault) => refuse_scenario(fault, sink),
     }
 }
 

@@ -61,37 +61,37 @@ none_if None never = refl
 none_if (Some x) never = absurd (never x refl)
 
 -- what has been read of the bodies, and what is left
-pub record Reading (dim : ℕ) (names : FieldNames) (members : Members) (i : ℕ) (bodies : List (Option (List Stmt))) : Type 0 where
+pub record Reading (axes : ℕ) (names : FieldNames) (members : Members) (i : ℕ) (bodies : List (Option (List Stmt))) : Type 0 where
   pub front : List (Option (List Stmt))
   pub are : bodies ≡ front ++ replicate (12 - i) None
   pub count : length front ≡ i
-  pub rest : on_ok (each_in (body_in dim names members) (drop i all_events)) (λ xs. Ok (front ++ xs)) ≡ all_bodies dim names members
+  pub rest : on_ok (each_in (body_in axes names members) (drop i all_events)) (λ xs. Ok (front ++ xs)) ≡ all_bodies axes names members
 
-module _ (dim : ℕ) (names : FieldNames) (members : Members) where
+module _ (axes : ℕ) (names : FieldNames) (members : Members) where
   with_none : {X : Type 0} (r : Result (List X) SceneFault) → on_ok r (λ xs. Ok ([] ++ xs)) ≡ r
   with_none (Ok xs) = refl
   with_none (Err fault) = refl
 
-  pub reading_begins : Reading dim names members 0 (replicate 12 None)
+  pub reading_begins : Reading axes names members 0 (replicate 12 None)
   unfolding all_bodies
-  reading_begins = record { front = []; are = refl; count = refl; rest = with_none (each_in (body_in dim names members) all_events) }
+  reading_begins = record { front = []; are = refl; count = refl; rest = with_none (each_in (body_in axes names members) all_events) }
 
-  module _ (i : ℕ) (bodies : List (Option (List Stmt))) (reading : Reading dim names members i bodies) where
-    pub reading_ends : 12 ≡ i → all_bodies dim names members ≡ Ok bodies
+  module _ (i : ℕ) (bodies : List (Option (List Stmt))) (reading : Reading axes names members i bodies) where
+    pub reading_ends : 12 ≡ i → all_bodies axes names members ≡ Ok bodies
     reading_ends all =
-        sym reading.rest ∙ ap (λ n. on_ok (each_in (body_in dim names members) (drop n all_events)) (λ xs. Ok (reading.front ++ xs))) (sym all)
+        sym reading.rest ∙ ap (λ n. on_ok (each_in (body_in axes names members) (drop n all_events)) (λ xs. Ok (reading.front ++ xs))) (sym all)
         ∙ ap Ok (sym (reading.are ∙ ap (λ n. reading.front ++ replicate (12 - n) None) (sym all)))
 
     module _ (below : i < 12) where
-      next : on_ok (each_in (body_in dim names members) (drop i all_events)) (λ xs. Ok (reading.front ++ xs))
-          ≡ on_ok (on_ok (body_in dim names members (event_at i)) (λ x. on_ok (each_in (body_in dim names members) (drop (suc i) all_events)) (λ xs. Ok (x ∷ xs)))) (λ xs. Ok (reading.front ++ xs))
-      next = ap (λ events. on_ok (each_in (body_in dim names members) events) (λ xs. Ok (reading.front ++ xs))) (drop-cons all_events i BeginIteration below)
+      next : on_ok (each_in (body_in axes names members) (drop i all_events)) (λ xs. Ok (reading.front ++ xs))
+          ≡ on_ok (on_ok (body_in axes names members (event_at i)) (λ x. on_ok (each_in (body_in axes names members) (drop (suc i) all_events)) (λ xs. Ok (x ∷ xs)))) (λ xs. Ok (reading.front ++ xs))
+      next = ap (λ events. on_ok (each_in (body_in axes names members) events) (λ xs. Ok (reading.front ++ xs))) (drop-cons all_events i BeginIteration below)
 
       -- a body that is refused
-      pub reading_wrong : (fault : SceneFault) → body_in dim names members (event_at i) ≡ Err fault → all_bodies dim names members ≡ Err fault
+      pub reading_wrong : (fault : SceneFault) → body_in axes names members (event_at i) ≡ Err fault → all_bodies axes names members ≡ Err fault
       reading_wrong fault wrong =
           sym reading.rest ∙ next
-          ∙ ap (λ r. on_ok (on_ok r (λ x. on_ok (each_in (body_in dim names members) (drop (suc i) all_events)) (λ xs. Ok (x ∷ xs)))) (λ xs. Ok (reading.front ++ xs))) wrong
+          ∙ ap (λ r. on_ok (on_ok r (λ x. on_ok (each_in (body_in axes names members) (drop (suc i) all_events)) (λ xs. Ok (x ∷ xs)))) (λ xs. Ok (reading.front ++ xs))) wrong
 
       one_more : (x : Option (List Stmt)) (r : Result (List (Option (List Stmt))) SceneFault) → on_ok r (λ xs. Ok ((reading.front ++ x ∷ []) ++ xs)) ≡ on_ok (on_ok r (λ xs. Ok (x ∷ xs))) (λ xs. Ok (reading.front ++ xs))
       one_more x (Ok xs) = ap Ok (append_assoc reading.front (x ∷ []) xs)
@@ -103,7 +103,7 @@ module _ (dim : ℕ) (names : FieldNames) (members : Members) where
       split : bodies ≡ reading.front ++ None ∷ replicate (12 - (i + 1)) None
       split = reading.are ∙ ap (λ n. reading.front ++ replicate n None) room
 
-      more : (x : Option (List Stmt)) (bodies' : List (Option (List Stmt))) → body_in dim names members (event_at i) ≡ Ok x → bodies' ≡ reading.front ++ x ∷ replicate (12 - (i + 1)) None → Reading dim names members (i + 1) bodies'
+      more : (x : Option (List Stmt)) (bodies' : List (Option (List Stmt))) → body_in axes names members (event_at i) ≡ Ok x → bodies' ≡ reading.front ++ x ∷ replicate (12 - (i + 1)) None → Reading axes names members (i + 1) bodies'
       more x bodies' right are =
           let step : suc i ≡ i + 1 = omega arith in
           let counted = reading.count in
@@ -112,9 +112,9 @@ module _ (dim : ℕ) (names : FieldNames) (members : Members) where
             are = are ∙ sym (append_assoc reading.front (x ∷ []) (replicate (12 - (i + 1)) None));
             count = omega (arith, length-append reading.front (x ∷ []));
             rest =
-                one_more x (each_in (body_in dim names members) (drop (i + 1) all_events))
-                ∙ ap (λ n. on_ok (on_ok (each_in (body_in dim names members) (drop n all_events)) (λ xs. Ok (x ∷ xs))) (λ xs. Ok (reading.front ++ xs))) (sym step)
-                ∙ sym (ap (λ r. on_ok (on_ok r (λ x. on_ok (each_in (body_in dim names members) (drop (suc i) all_events)) (λ xs. Ok (x ∷ xs)))) (λ xs. Ok (reading.front ++ xs))) right)
+                one_more x (each_in (body_in axes names members) (drop (i + 1) all_events))
+                ∙ ap (λ n. on_ok (on_ok (each_in (body_in axes names members) (drop n all_events)) (λ xs. Ok (x ∷ xs))) (λ xs. Ok (reading.front ++ xs))) (sym step)
+                ∙ sym (ap (λ r. on_ok (on_ok r (λ x. on_ok (each_in (body_in axes names members) (drop (suc i) all_events)) (λ xs. Ok (x ∷ xs)))) (λ xs. Ok (reading.front ++ xs))) right)
                 ∙ sym next ∙ reading.rest;
           }
 
@@ -124,11 +124,11 @@ module _ (dim : ℕ) (names : FieldNames) (members : Members) where
           omega (arith, ap length split, length-append reading.front (None ∷ replicate (12 - (i + 1)) None))
 
       -- an event without a body
-      pub reading_none : body_in dim names members (event_at i) ≡ Ok None → Reading dim names members (i + 1) bodies
+      pub reading_none : body_in axes names members (event_at i) ≡ Ok None → Reading axes names members (i + 1) bodies
       reading_none right = more None bodies right split
 
       -- an event with a body
-      pub reading_some : (body : List Stmt) → body_in dim names members (event_at i) ≡ Ok (Some body) → Reading dim names members (i + 1) (slice_set bodies (number_of (event_at i)) (Some body))
+      pub reading_some : (body : List Stmt) → body_in axes names members (event_at i) ≡ Ok (Some body) → Reading axes names members (i + 1) (slice_set bodies (number_of (event_at i)) (Some body))
       reading_some body right =
           let here = numbered i below ∙ sym reading.count in
           more (Some body) (slice_set bodies (number_of (event_at i)) (Some body)) right
@@ -136,27 +136,27 @@ module _ (dim : ℕ) (names : FieldNames) (members : Members) where
           ∙ set-append_seam reading.front None (replicate (12 - (i + 1)) None) (Some body))
 
 -- no body, and one more body, that fit
-pub all_fit-none : (dim vertex cell global : ℕ) → AllFit dim vertex cell global (replicate 12 None)
-all_fit-none dim vertex cell global = record { each = λ event body at. absurd (no_body event body at) }
+pub all_fit-none : (axes vertex cell global : ℕ) → AllFit axes vertex cell global (replicate 12 None)
+all_fit-none axes vertex cell global = record { each = λ event body at. absurd (no_body event body at) }
   where
     no_body : (event : Event) (body : List Stmt) → body_at (replicate 12 None) event ≡ Some body → ⊥
     no_body BeginIteration body at = cc
     no_body _ body at = cc
 
-module _ (dim vertex cell global : ℕ) (bodies : List (Option (List Stmt))) (event : Event) (body : List Stmt) (within : number_of event < length bodies) where
+module _ (axes vertex cell global : ℕ) (bodies : List (Option (List Stmt))) (event : Event) (body : List Stmt) (within : number_of event < length bodies) where
   set_here : (other : Event) → number_of other ≡ number_of event → body_at (slice_set bodies (number_of event) (Some body)) other ≡ Some body
   set_here other same = ap (λ n. get_or (slice_set bodies (number_of event) (Some body)) n None) same ∙ get_or-set_same bodies (number_of event) (Some body) None within
 
-  pub all_fit-set : AllFit dim vertex cell global bodies → fits (reach_at dim vertex cell global event) body ≡ true → AllFit dim vertex cell global (slice_set bodies (number_of event) (Some body))
+  pub all_fit-set : AllFit axes vertex cell global bodies → fits (reach_at axes vertex cell global event) body ≡ true → AllFit axes vertex cell global (slice_set bodies (number_of event) (Some body))
   all_fit-set fit here = record { each = λ other b at. go other b (number_of other == number_of event) refl at }
     where
-      go : (other : Event) (b : List Stmt) (t : Bool) → (number_of other == number_of event) ≡ t → body_at (slice_set bodies (number_of event) (Some body)) other ≡ Some b → fits (reach_at dim vertex cell global other) b ≡ true
+      go : (other : Event) (b : List Stmt) (t : Bool) → (number_of other == number_of event) ≡ t → body_at (slice_set bodies (number_of event) (Some body)) other ≡ Some b → fits (reach_at axes vertex cell global other) b ≡ true
       go other b true h at =
           let same : number_of other ≡ number_of event = grind (arith, nat_tests) in
           let e = event_same other event same in
           let held : Some body ≡ Some b = sym (set_here other same) ∙ at in
           let text : body ≡ b = cc in
-          subst (λ (e : Event). fits (reach_at dim vertex cell global e) b ≡ true) (sym e) (subst (λ (b : List Stmt). fits (reach_at dim vertex cell global event) b ≡ true) text here)
+          subst (λ (e : Event). fits (reach_at axes vertex cell global e) b ≡ true) (sym e) (subst (λ (b : List Stmt). fits (reach_at axes vertex cell global event) b ≡ true) text here)
       go other b false h at =
           let differ : number_of other ≢ number_of event = grind (arith, nat_tests) in
           fit.each other b (sym (get_or-set_other bodies (number_of event) (number_of other) (Some body) None differ) ∙ at)

@@ -75,8 +75,8 @@ fits-levels members =
 
 fits-settings : (members : Members) → Fits (settings_in members)
 fits-settings members =
-    fits-on_ok (number_in (codes "dim") dim_range members) _ (fits-number_in (codes "dim") dim_range members)
-    (λ dim. fits-on_ok (number_in (codes "traversals") traversals_range members) _ (fits-number_in (codes "traversals") traversals_range members)
+    fits-on_ok (number_in (codes "axes") dim_range members) _ (fits-number_in (codes "axes") dim_range members)
+    (λ axes. fits-on_ok (number_in (codes "traversals") traversals_range members) _ (fits-number_in (codes "traversals") traversals_range members)
     (λ traversals. fits-on_ok (levels_in members) _ (fits-levels members)
     (λ levels. fits-on_ok (number_in (codes "max_cells") max_cells_range members) _ (fits-number_in (codes "max_cells") max_cells_range members) (λ max_cells. fits-ok _))))
 
@@ -145,30 +145,30 @@ fits-lexed : (context : Context) (event : Event) (text : List ℕ) (tokens : Res
 fits-lexed context event text (Err at) = λ h. cc
 fits-lexed context event text (Ok tokens) = fits-parsed context event text tokens (fault_of text tokens) refl
 
-fits-of_text : (dim : ℕ) (names : FieldNames) (event : Event) (text : Option (List ℕ)) → Fits (of_text dim names event text)
-fits-of_text dim names event None = λ h. cc
-fits-of_text dim names event (Some text) =
-    fits-on_ok (body_text (context_at event dim names) event text) _ (fits-lexed (context_at event dim names) event text (tokens_of text)) (λ body. fits-ok _)
+fits-of_text : (axes : ℕ) (names : FieldNames) (event : Event) (text : Option (List ℕ)) → Fits (of_text axes names event text)
+fits-of_text axes names event None = λ h. cc
+fits-of_text axes names event (Some text) =
+    fits-on_ok (body_text (context_at event axes names) event text) _ (fits-lexed (context_at event axes names) event text (tokens_of text)) (λ body. fits-ok _)
 
-fits-of_value : (dim : ℕ) (names : FieldNames) (event : Event) (value : Option Data) → Fits (of_value dim names event value)
-fits-of_value dim names event None = fits-ok _
-fits-of_value dim names event (Some value) = fits-of_text dim names event (as_str value)
+fits-of_value : (axes : ℕ) (names : FieldNames) (event : Event) (value : Option Data) → Fits (of_value axes names event value)
+fits-of_value axes names event None = fits-ok _
+fits-of_value axes names event (Some value) = fits-of_text axes names event (as_str value)
 
 fits-each : {X : Type 0} (read : Event → Result X SceneFault) (events : List Event) → ((event : Event) → Fits (read event)) → Fits (each_in read events)
 fits-each read [] fits = fits-ok []
 fits-each read (event ∷ events) fits = fits-on_ok (read event) _ (fits event) (λ x. fits-on_ok (each_in read events) _ (fits-each read events fits) (λ xs. fits-ok _))
 
-fits-all_bodies : (dim : ℕ) (names : FieldNames) (members : Members) → Fits (all_bodies dim names members)
+fits-all_bodies : (axes : ℕ) (names : FieldNames) (members : Members) → Fits (all_bodies axes names members)
 unfolding all_bodies
-fits-all_bodies dim names members = fits-each (body_in dim names members) all_events (λ event. fits-of_value dim names event (get_member (name_of event) members))
+fits-all_bodies axes names members = fits-each (body_in axes names members) all_events (λ event. fits-of_value axes names event (get_member (name_of event) members))
 
-fits-of_events : (dim : ℕ) (names : FieldNames) (members : Option Members) → Fits (of_events dim names members)
-fits-of_events dim names None h = cc
-fits-of_events dim names (Some members) h = fits-if_known section.Events (all_bodies dim names members) (unknown_in section.Events members) (fits-all_bodies dim names members) h
+fits-of_events : (axes : ℕ) (names : FieldNames) (members : Option Members) → Fits (of_events axes names members)
+fits-of_events axes names None h = cc
+fits-of_events axes names (Some members) h = fits-if_known section.Events (all_bodies axes names members) (unknown_in section.Events members) (fits-all_bodies axes names members) h
 
-fits-events_of : (dim : ℕ) (names : FieldNames) (value : Option Data) → Fits (events_of dim names value)
-fits-events_of dim names None = fits-ok _
-fits-events_of dim names (Some value) = fits-of_events dim names (as_table value)
+fits-events_of : (axes : ℕ) (names : FieldNames) (value : Option Data) → Fits (events_of axes names value)
+fits-events_of axes names None = fits-ok _
+fits-events_of axes names (Some value) = fits-of_events axes names (as_table value)
 
 -- no document is refused for its length
 fits-known : (members : Members) → Fits (known_in members)

@@ -7,8 +7,8 @@ use Rattle.pe_base.specs.Tree.Dim.{IsDim}
 use Rattle.pe_stacks.specs.Corners.{CornerList}
 
 -- a cell has four corners at least and sixteen at most
-pub corners_range : (dim : ℕ) → IsDim dim → 2 ^ dim ≤ 16
-corners_range dim within = pow-le-pow_right (omega arith) within.1
+pub corners_range : (axes : ℕ) → IsDim axes → 2 ^ axes ≤ 16
+corners_range axes within = pow-le-pow_right (omega arith) within.1
 
 module _ {X : Type 0} where
   -- a slot that is full is one of those that are seen
@@ -31,7 +31,7 @@ module _ {X : Type 0} where
 
   -- the corners of a dimension with these slots
   abbrev pub corners_of : ℕ → List (Option X) → CornerList X
-  corners_of dim slots = record { dim = dim; slots = slots }
+  corners_of axes slots = record { dim = axes; slots = slots }
 
   -- where nothing is seen and the rest is empty, all is empty
   pub all_empty : (n m : ℕ) (xs : List (Option X)) → take n xs ≡ replicate n None → drop n xs ≡ replicate (m - n) None → n ≤ m → xs ≡ replicate m None

@@ -7,13 +7,13 @@ use Rattle.pe_stacks.specs.declared.quad.Quad.{Quad}
 use Rattle.pe_stacks.specs.Quads.{quad_of, set_quad}
 
 -- a quad of a cell's corners is one whole
-pub quad_within : (dim q : ℕ) → IsDim dim → 4 * q < 2 ^ dim → 4 * q + 3 < 2 ^ dim
+pub quad_within : (axes q : ℕ) → IsDim axes → 4 * q < 2 ^ axes → 4 * q + 3 < 2 ^ axes
 quad_within zero q range h = absurd (omega arith)
 quad_within (suc zero) q range h = absurd (omega arith)
 quad_within (suc (suc zero)) q range h = omega arith
 quad_within (suc (suc (suc zero))) q range h = omega arith
 quad_within (suc (suc (suc (suc zero)))) q range h = omega arith
-quad_within (suc (suc (suc (suc (suc dim))))) q range h = absurd (omega arith)
+quad_within (suc (suc (suc (suc (suc axes))))) q range h = absurd (omega arith)
 
 module _ {X : Type 0} where
   -- a quad is seen as it is

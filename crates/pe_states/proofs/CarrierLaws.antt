@@ -1,14 +1,14 @@
 -- The carriers of a child's corners among the parent's corners.
 use Rattle.std.proofs.Common.{◌≡◌, ℕ, zero, suc, ◌+◌, ◌-◌, ◌*◌, ◌/◌, ◌%◌, ◌^◌, ◌<◌, ◌≤◌, List, [], ◌∷◌, ◌++◌, map, take, length, refl, sym, ap, ap₂, ◌∙◌, subst, arith, Bool, true}
 use Rattle.std.specs.Prelude.{◌==◌, replicate}
-use Rattle.std.specs.List.{flat_map, list_any}
+use Rattle.std.specs.List.{flat_map, list_any, AllByRecursion as Each}
 use Rattle.std.proofs.lemmas.Bool.{eq-eqb, ne_eqb, cond-true, cond-false, cond_both}
 use Rattle.std.proofs.lemmas.List.Folds.{flat_map-map}
 use Rattle.pe_base.specs.declared.place.Place.{Place}
 use Rattle.pe_base.specs.declared.place.Digits.{Digits}
 use Rattle.pe_base.specs.Tree.Places.{IsCellPlace, IsDigits, bits, moved, finer, child_at, corner, number_of}
 use Rattle.pe_base.specs.Life.Carriers.{thirds, carrier_positions, carriers}
-use Rattle.pe_base.proofs.Lists.{Each, Each-map, Each-flat_map, Each-all, Each-weaker, map-map, map_same, flat_map_same, map-flat_map, list_any_same}
+use Rattle.pe_base.proofs.Lists.{Each-map, Each-flat_map, Each-all, Each-weaker, map-map, map_same, flat_map_same, map-flat_map, list_any_same}
 use Rattle.pe_base.proofs.Steps.RouteLaws.{Below, Below-front, length-front, padded-front}
 use Rattle.pe_base.proofs.Tree.PlaceLaws.{length-bits}
 use Rattle.pe_base.proofs.Tree.Corners.{IsBits}

@@ -8,15 +8,15 @@ use Rattle.pe_base.proofs.Faces.FaceLists.{face_of, across-up, leaving-up, leavi
 use Rattle.pe_base.specs.Tree.Places.{bits}
 use Rattle.pe_base.proofs.Tree.Corners.{bits_in}
 use Rattle.pe_base.proofs.Faces.Bridge.{on_grid, one_across, one_across_out, come_by_faces, go_by_faces}
-use Rattle.pe_base.proofs.Faces.Composition.{composes, composes_any, Turns-join, Turns-split}
-use Rattle.pe_base.proofs.Steps.Counts.{steps_to_cells, steps_from_cells, loaded_for_around, stored_for_around, stand_together}
+use Rattle.pe_base.proofs.Faces.Composition.{composes, composes_any, Stretches-join, Stretches-split}
+use Rattle.pe_base.proofs.Steps.VertexTouches.{steps_to_cells, steps_from_cells, loaded_for_around, stored_for_around, stand_together}
 use Rattle.pe_base.specs.Tree.Curve.{order}
 use Rattle.pe_base.proofs.Tree.Ranks.{rank_of, top, order_rises}
 use Rattle.pe_base.proofs.Faces.Quiet.{Still, arriving_none, leaving_none}
 use Rattle.pe_walk.proofs.Outside.{before_rises, NoneAcross, outside_arriving, outside_leaving}
 use Rattle.pe_walk.proofs.Trees.{root_is_cell, child_is_cell, place_is_cell, cell_position}
 use Rattle.pe_walk.proofs.Steps.{inside_on_grid, step_crosses, step_in_corners, in_corners_only, out_corners_only}
-use Rattle.pe_walk.specs.Laws.{CellsOfTheTree, NeighboursAgree, FacesAreOneWay, Composition, BeneathUntouched, Counts, StandTogether, CornersCrossOnce, CornersOnStacks, TurnsJoin, UnwalkedIsEmpty, LeafIsCorners, StepsCrossFaces, StepsAreCorners, CornersAreSteps}
+use Rattle.pe_walk.specs.Laws.{CellsOfTheTree, NeighboursAgree, FacesAreOneWay, Composition, BeneathUntouched, TouchedInOrder, StandTogether, CornersCrossOnce, CornersOnStacks, StretchesJoin, UnwalkedIsEmpty, LeafIsCorners, StepsCrossFaces, StepsAreCorners, CornersAreSteps}
 use Rattle.pe_walk.proofs.Unwalked.{contains_in, in_contains, cell_four, unwalked_arriving, unwalked_leaving, tree_either, leaf_arriving, leaf_leaving}
 
 neighbours_at : (axes : ℕ) (way : Way) (counts : Place → Bool) (levels axis side : ℕ) (cell neighbour : Place) → axes ≤ 4 → axis < axes → side < 2 → length cell.pos ≡ 4 → ShareFace (face_of axis side) cell neighbour
@@ -73,7 +73,7 @@ composition axes way counts levels axis parity cell dim a is_cell beneath = comp
 pub beneath_untouched : BeneathUntouched
 beneath_untouched axes way counts levels axis parity cell dim a is_cell beneath free = composes axes way counts levels axis parity cell dim.1 a (cell_four axes way cell dim.1 is_cell) (contains_in _ cell is_cell) beneath free
 
-pub counts : Counts
+pub counts : TouchedInOrder
 counts axes way levels vertex dim inside deep =
     let on = inside_on_grid axes vertex inside in record {
       loaded = loaded_for_around axes way levels vertex dim.1 on deep;
@@ -101,10 +101,10 @@ corners_on_stacks axes way counts cell dim is_cell =
       go = go_by_faces axes way counts cell dim.1 is;
     }
 
-pub turns_join : TurnsJoin
-turns_join turns more before after = record {
-  join = λ between s t. Turns-join turns more before between after s t;
-  split = Turns-split turns more before after;
+pub stretches_join : StretchesJoin
+stretches_join stretches more before after = record {
+  join = λ between s t. Stretches-join stretches more before between after s t;
+  split = Stretches-split stretches more before after;
 }
 
 pub cells_of_the_tree : CellsOfTheTree

@@ -2,7 +2,7 @@
 use Rattle.std.proofs.Common.{◌≡◌, ◌⊎◌, inl, inr, ℕ, zero, suc, ◌-◌, ◌^◌, ◌<◌, ◌≤◌, Bool, true, false, not, ◌&&◌, ◌||◌, ◌==◌, List, [], ◌∷◌, Option, Some, None, refl, sym, ap, ◌∙◌, true≢false, arith}
 use Rattle.std.specs.Prelude.{is_some, nat_lt, if◌then◌else◌}
 use Rattle.std.specs.Option.{option_map, unwrap_or}
-use Rattle.std.specs.List.{list_any}
+use Rattle.std.specs.List.{list_any, AllByRecursion as Each}
 use Rattle.std.proofs.lemmas.Bool.Decides.{nat_tests}
 use Rattle.std.proofs.lemmas.Bool.{and_parts, eqb-true, or_cases, or_right, or_left, cases_lt}
 use Rattle.pe_base.specs.declared.place.Place.{Place}
@@ -21,7 +21,7 @@ use Rattle.pe_base.specs.Walk.Maps.{at}
 use Rattle.pe_base.specs.Walk.Grids.{Grid, StoredVertex, state_in, is_stored_vertex, IsWellFormed}
 use Rattle.pe_base.specs.Walk.Streams.{goes_below}
 use Rattle.pe_base.specs.Walk.Foreseen.{next_traversal, was, will, will_on, kind_foreseen, counts, touched_state, old_foreseen, new_foreseen, walks, walked}
-use Rattle.pe_base.proofs.Lists.{Each, Each-all, Each-map}
+use Rattle.pe_base.proofs.Lists.{Each-all, Each-map}
 use Rattle.pe_base.proofs.Walk.TableLaws.{first_touch_keeps_old}
 use Rattle.pe_walk.specs.Takings.{Grown}
 use Rattle.pe_walk.specs.Outlooks.{outlook, stored_outlook, stored_walked, IsNew, ForecastFits, StoredFits}

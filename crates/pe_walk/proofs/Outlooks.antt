@@ -1,7 +1,7 @@
 -- The outlooks of grids fit walks.
 use Rattle.std.proofs.Common.{◌≡◌, ◌⊎◌, inl, inr, ℕ, zero, suc, ◌+◌, ◌-◌, ◌^◌, ◌<◌, ◌≤◌, Bool, true, ◌&&◌, ◌||◌, ◌==◌, List, [], ◌∷◌, map, reverse, length, take, drop, slice_index, refl, sym, ap, ap₂, ◌∙◌, subst, arith}
 use Rattle.std.specs.Prelude.{nat_lt}
-use Rattle.std.specs.List.{list_any, list_all, range_with_len, Contains}
+use Rattle.std.specs.List.{list_any, list_all, range_with_len, Contains, AllByRecursion as Each}
 use Rattle.std.proofs.lemmas.Bool.Decides.{nat_tests}
 use Rattle.std.proofs.lemmas.List.{reverse-reverse}
 use Rattle.std.proofs.lemmas.Bool.{and_parts, eq-eqb, ne_eqb, eqb-true, or_cases, or_right}
@@ -16,11 +16,11 @@ use Rattle.pe_base.specs.Steps.Faces.{corner_touches}
 use Rattle.pe_base.specs.Life.Carriers.{carriers, carrier_positions}
 use Rattle.pe_base.specs.Life.Kinds.{is_inside}
 use Rattle.pe_base.specs.Walk.Laws.{IsCornerOf}
-use Rattle.pe_base.proofs.Lists.{Each, Each-all, Each-weaker, Each-map, Each-reverse, Each-filter, In, Each-In, In-map}
+use Rattle.pe_base.proofs.Lists.{Each-all, Each-weaker, Each-map, Each-reverse, Each-filter, In, Each-In, In-map}
 use Rattle.pe_base.proofs.Tree.Mirrors.{Digits3, digit_lists_below}
 use Rattle.pe_base.proofs.Tree.Children.{child_of, children_are}
 use Rattle.pe_base.proofs.Tree.Ranks.{thirds-child, list_any-Each}
-use Rattle.pe_base.proofs.Steps.Counts.{OnGrid}
+use Rattle.pe_base.proofs.Steps.VertexTouches.{OnGrid}
 use Rattle.pe_base.proofs.Faces.Waits.{loads_touched}
 use Rattle.pe_base.proofs.Faces.Bridge.{on_grid}
 use Rattle.pe_base.proofs.Walk.CarrierLaws.{number_of-below, bits-number_of, carriers_are_parents}

@@ -1,4 +1,5 @@
 -- Faces to earlier cells, to later ones, and on the boundary of the root.
+use Rattle.std.specs.List.{AllByRecursion as Each}
 use Rattle.std.proofs.Common.{◌≡◌, ℕ, zero, suc, ◌+◌, ◌<◌, ◌≤◌, Bool, true, List, [], ◌∷◌, length, get_or, refl, sym, ap₂, ◌∙◌, subst, inl, inr, arith}
 use Rattle.std.proofs.lemmas.Bool.{and_parts}
 use Rattle.pe_base.specs.declared.place.Place.{Place}
@@ -8,7 +9,7 @@ use Rattle.pe_base.specs.Tree.Curve.{digit_lists, children, order}
 use Rattle.pe_base.specs.Steps.Around.{is_corner, around, steps}
 use Rattle.pe_base.specs.Steps.Faces.{Face, across, is_step, comes_across, goes_across, arriving, leaving}
 use Rattle.pe_base.specs.Tree.Places.{is_same}
-use Rattle.pe_base.proofs.Lists.{Each, Each-weaker, Each-map, Each-flat_map, Each-filter, In, Each-In}
+use Rattle.pe_base.proofs.Lists.{Each-weaker, Each-map, Each-flat_map, Each-filter, In, Each-In}
 use Rattle.pe_base.proofs.Tree.Mirrors.{Digits3, digit_lists_below}
 use Rattle.pe_base.proofs.Tree.Children.{child_of, children_are}
 use Rattle.pe_base.proofs.Faces.FaceLists.{is_child_at, leaving_is}

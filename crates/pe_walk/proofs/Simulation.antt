@@ -25,7 +25,7 @@ pub mod Silent
 -- the steps on which the simulation rests, as statements
 pub mod Leaves
 -- a cell is counted; events of a traversal as a whole
-pub mod Counts
+pub mod CellsCounted
 -- what loads and stores share
 pub mod Shared
 -- a corner is loaded

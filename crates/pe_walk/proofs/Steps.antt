@@ -1,6 +1,6 @@
 -- The steps around a vertex, and the corners of the cells on both sides of each.
 use Rattle.std.proofs.Common.{◌≡◌, ℕ, zero, suc, ◌+◌, ◌-◌, ◌<◌, ◌≤◌, ◌⊎◌, Bool, true, ◌&&◌, ◌||◌, ◌==◌, List, [], ◌∷◌, map, filter, reverse, drop, replicate, length, slice_index, refl, sym, ap, ap₂, ◌∙◌, subst, inl, inr, length-set, arith}
-use Rattle.std.specs.List.{Contains}
+use Rattle.std.specs.List.{Contains, AllByRecursion as Each}
 use Rattle.std.proofs.lemmas.List.{get_or-set_same}
 use Rattle.std.proofs.lemmas.Bool.Decides.{nat_tests}
 use Rattle.std.proofs.lemmas.Bool.{and_parts, eq-eqb}
@@ -11,11 +11,11 @@ use Rattle.pe_base.specs.Tree.Curve.{children, order}
 use Rattle.pe_base.specs.Steps.Around.{is_corner_pos, is_corner}
 use Rattle.pe_base.specs.Steps.Routes.{axis_of}
 use Rattle.pe_base.specs.Steps.Faces.{Face, Touch, beside, across, is_step, corner_touches, comes_across, goes_across, at_face, in_corners, out_corners, IsFace, facing, ShareFace}
-use Rattle.pe_base.proofs.Lists.{Each, Each-all, Each-weaker, Each-filter, In, In-map, In-flat_map, In-filter, In-reverse, Each-In, Each-flat_map, Each-reverse}
+use Rattle.pe_base.proofs.Lists.{Each-all, Each-weaker, Each-filter, In, In-map, In-flat_map, In-filter, In-reverse, Each-In, Each-flat_map, Each-reverse}
 use Rattle.pe_base.proofs.Tree.Corners.{IsBits, bit_lists, own_corners, slice_index-moved}
 use Rattle.pe_base.proofs.Faces.FaceLists.{face_of, up_cell, across-up, leaving_is}
 use Rattle.pe_base.proofs.Tree.Ranks.{OnLevel, order_on_level}
-use Rattle.pe_base.proofs.Steps.Counts.{OnGrid, root_on_grid, children_on_grid}
+use Rattle.pe_base.proofs.Steps.VertexTouches.{OnGrid, root_on_grid, children_on_grid}
 use Rattle.pe_base.proofs.Steps.RouteLaws.{within_cube, step_neighbours}
 use Rattle.pe_walk.specs.Laws.{Crosses}
 use Rattle.pe_walk.proofs.Unwalked.{contains_in, in_contains}

@@ -16,7 +16,7 @@ pub mod Walks
 pub mod Dues
 -- traversals
 pub mod Traversals
--- what each step keeps
+-- what each move keeps
 pub mod Keeping
 -- first and last by counting
 pub mod Counting
@@ -24,7 +24,7 @@ pub mod Counting
 pub mod Apart
 -- streams
 pub mod Streams
--- the counts of a depot after each step
+-- the counts of a depot after each move
 pub mod DepotCounts
 -- what the walk of a cell moves
 pub mod Traffic
@@ -38,8 +38,8 @@ pub mod Crossings
 pub mod CountLists
 -- the cells of a walk differ
 pub mod CellsApart
--- what each step changes
-pub mod StepFrames
+-- what each move changes
+pub mod MoveFrames
 -- the cells that are still to be entered
 pub mod CellsAhead
 -- what the walk of a cell leaves

@@ -19,19 +19,19 @@ use Rattle.pe_hang.specs.InHand.{setting_of, map_holdings}
 use Rattle.pe_hang.specs.Follows.{is_fit, Fits, Found, HasOverfull, Failure, halted, unwritten, wanting, unheard_of, Follows, Does, read_by}
 use Rattle.pe_walk.specs.Machine.{Machine}
 use Rattle.pe_walk.specs.Machine as machine
-use Rattle.pe_walk.specs.Gridded.{HoldsGrid, MayTurn, HasTurned, EndAlike, IsShort, IsWalked, ports_of}
+use Rattle.pe_walk.specs.Gridded.{HoldsGrid, MachineMayTraverse, MachineHasTraversed, EndAlike, IsShort, IsWalked, ports_of}
 use Rattle.pe_walk.specs.InHand.{machine_between}
 use Rattle.pe_walk.specs.Outlooks.{outlook}
 use Rattle.pe_walk.proofs.Simulation.Answers.{stacks_are_addresses}
 use Rattle.pe_walk.proofs.Simulation.Tallied.Alike.{CountAlike, is_seen, alike-sym, within-alike, raises-alike, exact-alike}
-use Rattle.pe_walk.proofs.Simulation.Tallied.Traversals.{turns_are_exact}
+use Rattle.pe_walk.proofs.Simulation.Tallied.Traversals.{traversals_are_exact}
 use Rattle.pe_walk.specs.Traversing.{Stores, MayTraverse, IsAdvanced, LacksRoom, Traverses, Answers}
 
 -- a traversal of a grid that depots hold may begin
 pub may_turn : {Plan V C : Type 0} (numbers : Numbers V C) (rules : Rules Plan) (mapping : Held Plan) (start_level max_cells levels : ℕ) (depots : Stores V C) (handle : Handle C) (grid : Grid)
     → AreLawful rules → mapping.dim ≡ handle.dim → max_level rules mapping ≡ levels → AreLevels levels start_level → IsCellLimit max_cells → CountsWithin depots.vertices (2 ^ 60) → CountsWithin depots.cells (2 ^ 60)
     → MayTraverse numbers mapping levels depots handle grid
-    → MayTurn (setting_of rules mapping start_level max_cells (handle.finished + 1)) grid handle.swapped (machine_between numbers depots.vertices depots.cells handle.root mapping.list (no_tally (handle.finished + 1)))
+    → MachineMayTraverse (setting_of rules mapping start_level max_cells (handle.finished + 1)) grid handle.swapped (machine_between numbers depots.vertices depots.cells handle.root mapping.list (no_tally (handle.finished + 1)))
 may_turn numbers rules mapping start_level max_cells levels depots handle grid lawful dim same bounds limit counts cell_counts may = record {
   fits = record {
     lawful = lawful;
@@ -77,7 +77,7 @@ of_all P (first ∷ log) push each (zero, few, at) = subst P at each.0
 of_all P (first ∷ log) push each (suc k, few, at) = of_all P log push each.1 (k, omega (arith, few), at)
 
 -- the walk by address is done where the machine is
-done_of : (swapped : Bool) (m : Machine) (ending : Ending (Grid × Tally)) → EndAlike swapped ending (done m) → (after : Grid × Tally) × (ending ≡ done after) × HasTurned swapped after m
+done_of : (swapped : Bool) (m : Machine) (ending : Ending (Grid × Tally)) → EndAlike swapped ending (done m) → (after : Grid × Tally) × (ending ≡ done after) × MachineHasTraversed swapped after m
 done_of swapped m (done after) alike = (after, refl, alike)
 done_of swapped m (halts cause) alike = absurd alike
 done_of swapped m stuck alike = absurd alike
@@ -89,7 +89,7 @@ halts_of swapped cause (halts other) alike = ap halts alike
 halts_of swapped cause stuck alike = absurd alike
 
 module _ {Plan V C : Type 0} (numbers : Numbers V C) (set : Setting Plan) (grid : Grid) (handle : Handle C) (before : Stores V C) (list : List ℤ)
-    (may : MayTurn set grid handle.swapped (machine_between numbers before.vertices before.cells handle.root list (no_tally set.traversal)))
+    (may : MachineMayTraverse set grid handle.swapped (machine_between numbers before.vertices before.cells handle.root list (no_tally set.traversal)))
     (old : Found) (mapping : Held Plan) (after : Stores V C) where
   abbrev after_of : Handle C × Tally → Machine
   after_of answer = machine_between numbers after.vertices after.cells answer.0.root mapping.list answer.1
@@ -107,7 +107,7 @@ module _ {Plan V C : Type 0} (numbers : Numbers V C) (set : Setting Plan) (grid 
       → Does course (done (after_of answer)) old.told mapping.told → Traverses numbers set grid handle.swapped (model.traverse set grid) old.told before mapping after answer
   traverses axes finished answer advanced does =
       let found = done_of handle.swapped (after_of answer) (model.traverse set grid).ending (subst (EndAlike handle.swapped (model.traverse set grid).ending) does.ends is.ending) in
-      let exact = turns_are_exact set grid handle.swapped begins (after_of answer) may does.ends in
+      let exact = traversals_are_exact set grid handle.swapped begins (after_of answer) may does.ends in
       let from = mapped-done (model.walk_root (record set { traversal = grid.finished + 1 }) grid.greatest (begun (grid.finished + 1) grid)) (λ w. (ended_of w grid, w.tally)) found.0 found.1 in
       record {
         next = found.0.0;

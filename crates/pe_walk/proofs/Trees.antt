@@ -1,18 +1,18 @@
 -- The cells of the tree are the places of cells.
 use Rattle.std.proofs.Common.{◌≡◌, ℕ, zero, suc, ◌+◌, ◌-◌, ◌*◌, ◌/◌, ◌%◌, ◌^◌, ◌<◌, ◌≤◌, ◌⊎◌, inl, inr, List, [], ◌∷◌, ◌++◌, map, length, take, drop, replicate, slice_index, refl, sym, ap, ap₂, ◌∙◌, subst, pow-suc, take-append-drop, append-nil, arith}
 use Rattle.std.proofs.lemmas.List.{length-map}
-use Rattle.std.specs.List.{Contains}
+use Rattle.std.specs.List.{Contains, AllByRecursion as Each}
 use Rattle.pe_base.specs.declared.place.Place.{Place}
 use Rattle.pe_base.specs.declared.way.Way.{Way}
 use Rattle.pe_base.specs.Tree.Places.{root, finer, IsPosition}
 use Rattle.pe_base.specs.Tree.Curve.{digit_lists, turned, children, order}
-use Rattle.pe_base.proofs.Lists.{Each, Each-weaker, Each-map, Each-flat_map, In, In-flat_map, Each-In}
+use Rattle.pe_base.proofs.Lists.{Each-weaker, Each-map, Each-flat_map, In, In-flat_map, Each-In}
 use Rattle.pe_base.proofs.Tree.Mirrors.{Digits3, digit_lists_below, turned_below, turned_twice}
 use Rattle.pe_base.proofs.Tree.Children.{flips_in, length-flips, child_of, child_ks, child_ks-below, child_index, children_are, slice_index-below}
 use Rattle.pe_base.proofs.Tree.Ranks.{thirds, rests}
 use Rattle.pe_base.proofs.Faces.Quiet.{digits-take, rests-each}
 use Rattle.pe_base.proofs.Faces.Waits.{child_in_tree}
-use Rattle.pe_base.proofs.Steps.Counts.{OnGrid, child_on_grid, root_on_grid}
+use Rattle.pe_base.proofs.Steps.VertexTouches.{OnGrid, child_on_grid, root_on_grid}
 use Rattle.pe_walk.specs.Laws.{IsCell}
 use Rattle.pe_walk.proofs.Unwalked.{contains_in, in_contains}
 use Rattle.pe_base.proofs.Faces.Bridge.{all_zeros, zeros_behind}

@@ -1,7 +1,7 @@
 -- Cells that are not walked.
 use Rattle.std.proofs.Common.{◌≡◌, ℕ, zero, suc, ◌+◌, ◌<◌, ◌≤◌, Bool, true, false, List, [], ◌∷◌, ◌++◌, filter, length, get_or, refl, sym, ap, ap₂, ◌∙◌, subst, true≢false, inl, inr, append-nil, arith}
 use Rattle.std.proofs.lemmas.Bool.{and_parts}
-use Rattle.std.specs.List.{All, Contains}
+use Rattle.std.specs.List.{All, Contains, AllByRecursion as Each}
 use Rattle.pe_base.specs.declared.place.Place.{Place}
 use Rattle.pe_base.specs.declared.way.Way.{Way}
 use Rattle.pe_base.specs.declared.way.Way.TheVariants.{Forward, Inverted}
@@ -10,7 +10,7 @@ use Rattle.pe_base.specs.Tree.Curve.{digit_lists, children, order}
 use Rattle.pe_base.specs.Steps.Around.{around, steps}
 use Rattle.pe_base.specs.Steps.Faces.{Face, Touch, across, is_step, loads, comes_across, goes_across, at_face, arriving, leaving, in_corners, out_corners}
 use Rattle.pe_base.specs.Tree.Places.{is_same}
-use Rattle.pe_base.proofs.Lists.{Each, Each-weaker, Each-filter, In, In-map, In-reverse, Each-In, flat_map_none}
+use Rattle.pe_base.proofs.Lists.{Each-weaker, Each-filter, In, In-map, In-reverse, Each-In, flat_map_none}
 use Rattle.pe_base.proofs.Tree.Mirrors.{Digits3, digit_lists_below}
 use Rattle.pe_base.proofs.Tree.Children.{child_of, children_are, reverse-children}
 use Rattle.pe_base.proofs.Tree.Corners.{own_corners}
@@ -18,7 +18,7 @@ use Rattle.pe_base.proofs.Faces.FaceLists.{is_child_at, at_face_parts, leaving_i
 use Rattle.pe_base.proofs.Tree.Ranks.{OnLevel, order_on_level, child_four, steps_within, list_any-Each, same_places}
 use Rattle.pe_base.proofs.Faces.Quiet.{at_face_none, false_unless}
 use Rattle.pe_base.proofs.Faces.Waits.{digits_in, InTree, child_in_tree}
-use Rattle.pe_base.proofs.Steps.Counts.{reverse-order}
+use Rattle.pe_base.proofs.Steps.VertexTouches.{reverse-order}
 use Rattle.pe_walk.specs.Laws.{IsCell, IsWalk}
 
 pub contains_in : {X : Type 0} (xs : List X) (x : X) → Contains xs x → In x xs

@@ -67,34 +67,34 @@ module _ {Plan V C : Type 0} (rules : Rules Plan) (numbers : Numbers V C) (setti
   goes-set old new goes = setting-kept rules old.held new.held settings.setup.start_level settings.setup.max_cells settings.traversal goes.keeps
 
   -- a call does what a course does
-  abbrev pub Steps : {X A : Type 0} → (Setting Plan → Course X) → (A → X) → Result A Failure → Hands Plan V C → Hands Plan V C → Type 0
-  Steps course after answer old new = Follows (course (set_in old)) after answer (found_in old) new.held.told
+  abbrev pub HasRun : {X A : Type 0} → (Setting Plan → Course X) → (A → X) → Result A Failure → Hands Plan V C → Hands Plan V C → Type 0
+  HasRun course after answer old new = Follows (course (set_in old)) after answer (found_in old) new.held.told
 
   module _ {X Y : Type 0} (first : Setting Plan → Course X) (next : Setting Plan → X → Course Y) where
     abbrev pub both : Setting Plan → Course Y
     both set = and_then (first set) (next set)
 
     -- after a call that came through, the next one does not get stuck
-    pub steps-may : {A : Type 0} (after : A → X) (a : A) (old mid : Hands Plan V C) → Fits (both (set_in old)) → Steps first after (Ok a) old mid → Goes old mid → Fits (next (set_in mid) (after a))
-    steps-may after a old mid fits is goes =
+    pub runs-may : {A : Type 0} (after : A → X) (a : A) (old mid : Hands Plan V C) → Fits (both (set_in old)) → HasRun first after (Ok a) old mid → Goes old mid → Fits (next (set_in mid) (after a))
+    runs-may after a old mid fits is goes =
         subst (λ s. Fits (next s (after a))) (sym (goes-set old mid goes))
         (leads_rest (next (set_in old) (after a))
         (leads_next (first (set_in old)) (next (set_in old)) after a (found_in mid) (leads_start (both (set_in old)) (found_in old)) is (goes-roomier old mid goes)) fits)
 
     -- and what it does is what both do
-    pub steps-then : {A B : Type 0} (after : A → X) (a : A) (after' : B → Y) (answer : Result B Failure) (old mid new : Hands Plan V C)
-        → Steps first after (Ok a) old mid → Goes old mid → Steps (λ set. next set (after a)) after' answer mid new → Steps both after' answer old new
-    steps-then after a after' answer old mid new is goes then =
+    pub runs-then : {A B : Type 0} (after : A → X) (a : A) (after' : B → Y) (answer : Result B Failure) (old mid new : Hands Plan V C)
+        → HasRun first after (Ok a) old mid → Goes old mid → HasRun (λ set. next set (after a)) after' answer mid new → HasRun both after' answer old new
+    runs-then after a after' answer old mid new is goes then =
         follows-then (first (set_in old)) (next (set_in old)) after a after' answer (found_in old) (found_in mid) new.held.told is (goes-roomier old mid goes)
         (subst (λ s. Follows (next s (after a)) after' answer (found_in mid) new.held.told) (goes-set old mid goes) then)
 
     -- a call that fails is a failure of both
-    pub steps-err : {A B : Type 0} (after : A → X) (after' : B → Y) (failure : Failure) (old new : Hands Plan V C)
-        → Steps first after (Err failure) old new → Steps both after' (Err failure) old new
-    steps-err after after' failure old new is =
+    pub runs-err : {A B : Type 0} (after : A → X) (after' : B → Y) (failure : Failure) (old new : Hands Plan V C)
+        → HasRun first after (Err failure) old new → HasRun both after' (Err failure) old new
+    runs-err after after' failure old new is =
         leads_err (first (set_in old)) (next (set_in old)) after after' failure new.held.told (leads_start (both (set_in old)) (found_in old)) is
 
   -- one course in place of another
-  pub steps-as : {X A : Type 0} (course course' : Setting Plan → Course X) (after : A → X) (answer : Result A Failure) (old new : Hands Plan V C)
-      → course (set_in old) ≡ course' (set_in old) → Steps course after answer old new → Steps course' after answer old new
-  steps-as course course' after answer old new same is = subst (λ course. Follows course after answer (found_in old) new.held.told) same is
+  pub runs-as : {X A : Type 0} (course course' : Setting Plan → Course X) (after : A → X) (answer : Result A Failure) (old new : Hands Plan V C)
+      → course (set_in old) ≡ course' (set_in old) → HasRun course after answer old new → HasRun course' after answer old new
+  runs-as course course' after answer old new same is = subst (λ course. Follows course after answer (found_in old) new.held.told) same is

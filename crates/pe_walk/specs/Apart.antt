@@ -24,7 +24,7 @@ pub record IsApart (o : Outlook) (t : Tokens) : Type 0 where
   pub once : (place : Place) → o.counts place ≡ true → occurs t place ≤ 1
   pub unmet : (place : Place) → o.counts place ≡ true → o.reads place ≡ false → t.met place ≡ 0 → occurs t place ≡ 0
 
--- Each step keeps it so, and so does the walk of a cell.
+-- Each move keeps it so, and so does the walk of a cell.
 pub record KeepsApart (o : Outlook) : Type 0 where
   pub loads : (cell : Place) (k : ℕ) (t after : Tokens) → IsCell o.axes o.way cell → k < 2 ^ o.axes → load o cell k t ≡ Some after → IsApart o t → IsApart o after
   pub stores : (cell : Place) (k : ℕ) (t after : Tokens) → IsCell o.axes o.way cell → k < 2 ^ o.axes → store o cell k t ≡ Some after → IsApart o t → IsApart o after

@@ -34,7 +34,7 @@ pub record CellsAhead (o : Outlook) (ahead : List Place) (t : Tokens) : Type 0 w
   pub once : (x : Place) → times ahead x ≤ 1
   pub lie : (x : Place) → 1 ≤ times ahead x → lies t.cells x ≡ (if o.reads_cell x then 1 else 0)
 
--- Each step keeps it. A cell that is entered is on no stack, and may be left when no cell that is the same is ahead.
+-- Each move keeps it. A cell that is entered is on no stack, and may be left when no cell that is the same is ahead.
 pub record KeepsAhead (o : Outlook) : Type 0 where
   pub loads : (cell : Place) (k : ℕ) (ahead : List Place) (t after : Tokens) → load o cell k t ≡ Some after → CellsAhead o ahead t → CellsAhead o ahead after
   pub stores : (cell : Place) (k : ℕ) (ahead : List Place) (t after : Tokens) → store o cell k t ≡ Some after → CellsAhead o ahead t → CellsAhead o ahead after

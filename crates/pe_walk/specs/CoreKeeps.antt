@@ -62,7 +62,7 @@ IsStoredAlike set last place vertex (Some it) =
 abbrev pub KeepsParents : {Plan : Type 0} → Setting Plan → Place → List VertexRecord → List VertexRecord → Type 0
 KeepsParents set place before after = AreAlike (set.rules.greatest set.plan) (place.level - 1) before after
 
--- a load keeps what was loaded alike, and so do all steps the corners of the parent, and the cell's own corners
+-- a load keeps what was loaded alike, and so do all moves the corners of the parent, and the cell's own corners
 pub record KeepsAlike {Plan : Type 0} (set : Setting Plan) : Type 0 where
   pub loads : (kind : Kind) (first : Bool) (found : VertexRecord) (place : Place) (family : Family) (after : VertexRecord × Family)
       → (load_touch set kind first found place family).ending ≡ done after

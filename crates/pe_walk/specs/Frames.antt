@@ -1,4 +1,4 @@
--- What each step of the walk over places changes, and what it leaves.
+-- What each move of the walk over places changes, and what it leaves.
 use Rattle.std.specs.Prelude.{◌≡◌, ℕ, suc, ◌+◌, ◌-◌, ◌^◌, ◌<◌, ◌≤◌, Bool, true, false, not, ◌&&◌, ◌∷◌, if◌then◌else◌, Option, Some, None}
 use Rattle.pe_base.specs.declared.place.Place.{Place}
 use Rattle.pe_base.specs.Tree.Dim.{IsDim}

@@ -45,7 +45,7 @@ pub record IsTraversalOf {Plan : Type 0} (set : Setting Plan) (grid : Grid) : Ty
   pub max_cells : set.max_cells ≤ 4194304
 
 -- a traversal may begin
-pub record MayTurn {Plan : Type 0} (set : Setting Plan) (grid : Grid) (swapped : Bool) (m : Machine) : Type 0 where
+pub record MachineMayTraverse {Plan : Type 0} (set : Setting Plan) (grid : Grid) (swapped : Bool) (m : Machine) : Type 0 where
   pub fits : IsTraversalOf set grid
   pub formed : IsNew grid ⊎ IsWellFormed grid
   pub holds : HoldsGrid grid swapped m
@@ -54,14 +54,14 @@ pub record MayTurn {Plan : Type 0} (set : Setting Plan) (grid : Grid) (swapped :
   pub tally : m.tally ≡ no_tally set.traversal
 
 -- what a traversal leaves: the next grid on the stacks, with input and output exchanged, and the same tally
-pub record HasTurned (swapped : Bool) (after : Grid × Tally) (m : Machine) : Type 0 where
+pub record MachineHasTraversed (swapped : Bool) (after : Grid × Tally) (m : Machine) : Type 0 where
   pub formed : IsWellFormed after.0
   pub holds : HoldsGrid after.0 (not swapped) m
   pub tally : m.tally ≡ after.1
 
 -- model and machine end alike
 abbrev pub EndAlike : Bool → Ending (Grid × Tally) → Ending Machine → Type 0
-EndAlike swapped (done after) (done m) = HasTurned swapped after m
+EndAlike swapped (done after) (done m) = MachineHasTraversed swapped after m
 EndAlike swapped (done after) (halts cause) = ⊥
 EndAlike swapped (done after) stuck = ⊥
 EndAlike swapped (halts cause) (done m) = ⊥
@@ -91,5 +91,5 @@ abbrev pub ports_of : Bool → Ports
 ports_of swapped = record { input = input_stack swapped; cell_input = cell_input_stack swapped }
 
 abbrev pub StacksAreAddresses : Type 0 → Type 0
-StacksAreAddresses Plan = (set : Setting Plan) (grid : Grid) (swapped : Bool) (m : Machine) → MayTurn set grid swapped m
+StacksAreAddresses Plan = (set : Setting Plan) (grid : Grid) (swapped : Bool) (m : Machine) → MachineMayTraverse set grid swapped m
     → IsWalked set grid swapped (machine.traverse set (ports_of swapped) grid.greatest m)

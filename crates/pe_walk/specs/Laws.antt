@@ -12,7 +12,7 @@ use Rattle.pe_base.specs.Tree.Curve.{children, order}
 use Rattle.pe_base.specs.Steps.Around.{around, steps}
 use Rattle.pe_base.specs.Steps.Routes.{stack_in, stack_out}
 use Rattle.pe_base.specs.Steps.Stacks.{AcrossNone, AcrossOne, ComeByFaces, GoByFaces}
-use Rattle.pe_base.specs.Steps.Faces.{Face, IsFace, facing, ShareFace, across, stack_of, face_on, loads, stores, arriving, leaving, in_corners, out_corners, is_touched, is_step, Turns, TurnsApart, Turn, cell_turns, touched_for, steps_to, steps_from}
+use Rattle.pe_base.specs.Steps.Faces.{Face, IsFace, facing, ShareFace, across, stack_of, face_on, loads, stores, arriving, leaving, in_corners, out_corners, is_touched, is_step, Stretches, StretchesApart, Stretch, cell_stretches, touched_for, steps_to, steps_from}
 
 -- a cell of the tree
 abbrev pub IsCell : ℕ → Way → Place → Type 0
@@ -57,24 +57,24 @@ OneFaceOnEach = (axis parity : ℕ) (cell : Place) → parity < 2 → stack_of (
 -- when it is wanted, and the cell's leaving list is left on what was beneath.
 abbrev pub Composition : Type 0
 Composition = (axes : ℕ) (way : Way) (counts : Place → Bool) (levels axis parity : ℕ) (cell : Place) → IsDim axes → axis < axes → IsCell axes way cell → (beneath : List Place)
-    → Turns (cell_turns axes way counts levels axis parity cell)
+    → Stretches (cell_stretches axes way counts levels axis parity cell)
     (arriving axes way counts levels (face_on axis parity cell) cell ++ beneath)
     (leaving axes way counts levels (face_on axis parity cell) cell ++ beneath)
 
--- Turns one after another: the latter find what the former leave.
-pub record Joined (turns more : List Turn) (before after : List Place) : Type 0 where
-  pub join : (between : List Place) → Turns turns before between → Turns more between after → Turns (turns ++ more) before after
-  pub split : Turns (turns ++ more) before after → (between : List Place) × Turns turns before between × Turns more between after
+-- Stretches one after another: the latter find what the former leave.
+pub record Joined (stretches more : List Stretch) (before after : List Place) : Type 0 where
+  pub join : (between : List Place) → Stretches stretches before between → Stretches more between after → Stretches (stretches ++ more) before after
+  pub split : Stretches (stretches ++ more) before after → (between : List Place) × Stretches stretches before between × Stretches more between after
 
-abbrev pub TurnsJoin : Type 0
-TurnsJoin = (turns more : List Turn) (before after : List Place) → Joined turns more before after
+abbrev pub StretchesJoin : Type 0
+StretchesJoin = (stretches more : List Stretch) (before after : List Place) → Joined stretches more before after
 
 -- What lies beneath is not touched. Where the walk of a cell touches nothing of what lies beneath its lists, no child
 -- touches anything of what lies beneath its own, nor do the loads and stores of the cell's corners.
 abbrev pub BeneathUntouched : Type 0
 BeneathUntouched = (axes : ℕ) (way : Way) (counts : Place → Bool) (levels axis parity : ℕ) (cell : Place) → IsDim axes → axis < axes → IsCell axes way cell
     → (beneath : List Place) → list_any (is_touched axes way levels cell) beneath ≡ false
-    → TurnsApart (cell_turns axes way counts levels axis parity cell)
+    → StretchesApart (cell_stretches axes way counts levels axis parity cell)
     (arriving axes way counts levels (face_on axis parity cell) cell ++ beneath)
     (leaving axes way counts levels (face_on axis parity cell) cell ++ beneath)
 
@@ -90,8 +90,8 @@ pub record Counted (axes : ℕ) (way : Way) (levels : ℕ) (vertex : Place) : Ty
   pub popped : (n : ℕ) → flat_map (steps_to axes way vertex) (take n (around axes way vertex)) ≡ steps (take n (around axes way vertex))
   pub pushed : (n : ℕ) → flat_map (steps_from axes way vertex) (take n (around axes way vertex)) ≡ steps (take (suc n) (around axes way vertex))
 
-abbrev pub Counts : Type 0
-Counts = (axes : ℕ) (way : Way) (levels : ℕ) (vertex : Place) → IsDim axes → IsInside axes vertex → vertex.level ≤ levels → Counted axes way levels vertex
+abbrev pub TouchedInOrder : Type 0
+TouchedInOrder = (axes : ℕ) (way : Way) (levels : ℕ) (vertex : Place) → IsDim axes → IsInside axes vertex → vertex.level ≤ levels → Counted axes way levels vertex
 
 -- The cells for which the walk of a cell loads a vertex stand together in the list around the vertex.
 abbrev pub StandTogether : Type 0

@@ -18,7 +18,7 @@ pub mod Outlooks
 pub mod StreamLaws
 -- what is moved, and how much is out
 pub mod Traffic
--- what each step changes, and what it leaves
+-- what each move changes, and what it leaves
 pub mod Frames
 -- how many cells are walked
 pub mod FewCells
@@ -34,7 +34,7 @@ pub mod Machine
 pub mod Examples
 -- what the core keeps of the records in hand
 pub mod CoreKeeps
--- what holds between the steps of a traversal
+-- what holds between the moves of a traversal
 pub mod Standing
 -- the machine as an image of it
 pub mod Images
@@ -45,7 +45,7 @@ pub mod InHand
 -- a grid on stacks, and a traversal of it
 pub mod Gridded
 -- what a traversal on stacks counts and moves
-pub mod TurnTraffic
+pub mod TraversalTraffic
 -- corners touched in their slots
 pub mod Corners
 -- a traversal of a grid in depots, and its answer

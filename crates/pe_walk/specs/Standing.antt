@@ -1,4 +1,4 @@
--- What holds between the steps of a traversal, of the working state by address and of the places on stacks.
+-- What holds between the moves of a traversal, of the working state by address and of the places on stacks.
 --
 -- A stage is a cell that is being walked, with its parent, and which of its corners are in hand: those from a number on.
 -- Loads go down from all to none left to load, stores up.

@@ -24,7 +24,7 @@ use Rattle.pe_walk.specs.Traffic.{entered_cells, first_vertices, crosses_on}
 use Rattle.pe_walk.specs.Frames.{HasStacks}
 use Rattle.pe_walk.specs.FewCells.{most_cells}
 
--- one step after another
+-- one move after another
 abbrev pub each_counted : {A : Type 0} → (A → Tally → Tally) → List A → Tally → Tally
 each_counted step [] tally = tally
 each_counted step (x ∷ xs) tally = each_counted step xs (step x tally)

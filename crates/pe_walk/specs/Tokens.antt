@@ -1,8 +1,8 @@
--- The walk over places on stacks: which place each step takes from which stack, and which it puts where. There are no
+-- The walk over places on stacks: which place each move takes from which stack, and which it puts where. There are no
 -- records, no values and no events.
 --
--- A step answers none where the place that it wants is not on top of the stack, or where it is loaded before its time, or
--- stored though it is not held, or where children are asked for on no level. No step of a walk does.
+-- A move answers none where the place that it wants is not on top of the stack, or where it is loaded before its time, or
+-- stored though it is not held, or where children are asked for on no level. No move of a walk does.
 use Rattle.std.specs.Prelude.{ℕ, zero, suc, ◌+◌, ◌-◌, ◌^◌, Bool, true, false, not, ◌==◌, nat_lt, List, [], ◌∷◌, reverse, if◌then◌else◌, Option, Some, None}
 use Rattle.std.specs.Option.{option_map, option_and_then}
 use Rattle.std.specs.List.{range_with_len}

@@ -16,18 +16,18 @@
 //! runs, each place on top when it is wanted, and what it leaves; `loads_are_due` that each load comes after those of the
 //! cells around its vertex that come before. They ask that an outlook fits a walk: `grids_fit` says that what is foreseen
 //! of a traversal does, and what is stored. `places_stand_apart`, `cells_stand_apart` and `first_and_last` are what the
-//! values of vertices and cells need, and `steps_and_frames` says what each step changes, and what the walk of a cell leaves.
+//! values of vertices and cells need, and `moves_and_frames` says what each move changes, and what the walk of a cell leaves.
 //! `turning_round`, `streams_are_one` and `streams_of_grids` make what is written what is read next. `traffic`,
 //! `stacks_are_short` and `cells_are_few` are the counts, and `tallies` has them in the words in which a traversal counts.
 //!
 //! Last the values: `core_keeps` and `kinds_are_found` are what they need, and `stacks_are_addresses` says that a traversal on
-//! stacks is the walk by address; `turns_are_exact` says what it counts and moves. So it is with the walk of one cell, by
+//! stacks is the walk by address; `traversals_are_exact` says what it counts and moves. So it is with the walk of one cell, by
 //! `law_of_a_face` and `cells_are_exact`.
 ghost use Rattle.pe_walk.specs.CoreKeeps.{CoreKeeps};
 ghost use Rattle.pe_walk.specs.Standing.{KindsAreFound};
 ghost use Rattle.pe_walk.specs.Gridded.{StacksAreAddresses};
 ghost use Rattle.pe_walk.specs.FaceLaw.{LawOfAFace, CellsAreExact};
-ghost use Rattle.pe_walk.specs.Laws.{NeighboursAgree, FacesAreOneWay, OneFaceOnEach, Composition, BeneathUntouched, StoresAsLoads, Counts, UnwalkedIsEmpty, LeafIsCorners, CellsOfTheTree, StepsCrossFaces, StepsAreCorners, CornersAreSteps, TurnsJoin, StandTogether, CornersCrossOnce, CornersOnStacks};
+ghost use Rattle.pe_walk.specs.Laws.{NeighboursAgree, FacesAreOneWay, OneFaceOnEach, Composition, BeneathUntouched, StoresAsLoads, TouchedInOrder, UnwalkedIsEmpty, LeafIsCorners, CellsOfTheTree, StepsCrossFaces, StepsAreCorners, CornersAreSteps, StretchesJoin, StandTogether, CornersCrossOnce, CornersOnStacks};
 ghost use Rattle.pe_walk.specs.TokenLaws.{WalkOfACell, LoadsAreDue, LoadedAround, WholeTraversal, TurningRound, TurningAround};
 ghost use Rattle.pe_walk.specs.Outlooks.{ForecastFits, StoredFits};
 ghost use Rattle.pe_walk.specs.StreamLaws.{FitsTurned, StreamsAreOne, ReadsAreStreams, NextIsFormed, WritesAreStreams, TraversalOfAGrid};
@@ -36,7 +36,7 @@ ghost use Rattle.pe_walk.specs.Apart.{StepsKeepApart, BeginsApart, CornersByCoun
 ghost use Rattle.pe_walk.specs.FewCells.{FewCells, FewCellsOfTraversals, FewCellsOfGrids};
 ghost use Rattle.pe_walk.specs.Tallies.{TallyOfACell, TrafficByTally, KindsForeseen, TrafficOfGrids};
 ghost use Rattle.pe_walk.specs.Traversing.{CountsStay};
-ghost use Rattle.pe_walk.specs.TurnTraffic.{TallyIsForeseen, TurnsAreExact};
+ghost use Rattle.pe_walk.specs.TraversalTraffic.{TallyIsForeseen, TraversalsAreExact};
 ghost use Rattle.pe_walk.specs.Frames.{WhatStepsChange, WhatWalksLeave};
 ghost use Rattle.pe_walk.specs.CellsAhead.{WalkedCellsDiffer, StepsKeepAhead, BeginsAhead, MovesItsCells};
 
@@ -62,7 +62,7 @@ pub fn faces_are_one_way()
 /// The lists of a cell's own corners and of its children compose to those of the cell, on each stack.
 pub fn composition()
     ensures stacks { OneFaceOnEach }
-    ensures turns { Composition }
+    ensures stretches { Composition }
 {}
 
 /// No part of the walk of a cell touches what waits beneath its lists.
@@ -71,14 +71,14 @@ pub fn beneath_untouched()
     ensures stores { StoresAsLoads }
 {}
 
-/// Turns on a stack, one after another.
-pub fn turns_join()
-    ensures join { TurnsJoin }
+/// Stretches on a stack, one after another.
+pub fn stretches_join()
+    ensures join { StretchesJoin }
 {}
 
 /// The loads and stores of a vertex are its steps, and those within a cell are for cells that stand together around it.
 pub fn counts()
-    ensures counted { Counts }
+    ensures counted { TouchedInOrder }
     ensures together { StandTogether }
 {}
 
@@ -149,8 +149,8 @@ pub fn cells_stand_apart()
     ensures moved { MovesItsCells }
 {}
 
-/// What each step of the walk over places changes, and what the walk of a cell leaves as it was.
-pub fn steps_and_frames()
+/// What each move of the walk over places changes, and what the walk of a cell leaves as it was.
+pub fn moves_and_frames()
     ensures steps { WhatStepsChange }
     ensures walks { WhatWalksLeave }
 {}
@@ -242,9 +242,9 @@ pub fn stacks_are_addresses<E: Effects>()
 
 /// A traversal counts what is foreseen of it, by address and on stacks, and moves just what it counts. No count of a depot
 /// rises by more than 64 for each cell, and once more.
-pub fn turns_are_exact<E: Effects>()
+pub fn traversals_are_exact<E: Effects>()
     ensures tally { TallyIsForeseen E.Plan }
-    ensures exact { TurnsAreExact E.Plan }
+    ensures exact { TraversalsAreExact E.Plan }
 {}
 
 /// No count of a depot that was new passes what a traversal asks for, over a billion traversals, each of no more cells than

@@ -3,7 +3,7 @@ use Rattle.std.specs.Prelude.{◌≡◌, ◌≢◌, ℕ, List, Option}
 use Rattle.std.specs.declared.io.Error.{Error}
 use Rattle.std.specs.declared.io.ErrorKind.TheVariants.{InvalidData}
 use Rattle.std.specs.IoError.{error_kind}
-use Rattle.pe_io.specs.Counts.{Rises}
+use Rattle.pe_io.specs.Counters.{Rises}
 use Rattle.pe_io.specs.Shelf.{Contents, FailedCall}
 use Rattle.pe_run.specs.Run.{IsShelfCause, IsComplete}
 

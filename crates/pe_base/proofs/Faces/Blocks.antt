@@ -1,14 +1,14 @@
--- The turns of the children on one stack, by the blocks in which they meet.
+-- The stretches of the children on one stack, by the blocks in which they meet.
 use Rattle.std.proofs.Common.{◌≡◌, ◌≢◌, ℕ, zero, suc, ◌+◌, ◌*◌, ◌<◌, ◌≤◌, ◌⊎◌, Bool, true, false, ◌||◌, ◌^◌, List, [], ◌∷◌, ◌++◌, map, filter, reverse, length, refl, sym, ap, ap₂, ◌∙◌, subst, subst₂, inl, inr, append_assoc, append-nil, mul-le-mul_right, arith}
-use Rattle.std.specs.List.{flat_map, list_any}
+use Rattle.std.specs.List.{flat_map, list_any, AllByRecursion as Each}
 use Rattle.std.proofs.lemmas.List.{map-append, reverse-append, reverse-reverse}
 use Rattle.std.proofs.lemmas.List.Elements.{filter-append}
 use Rattle.std.proofs.lemmas.List.Concat.{flat_map-append}
 use Rattle.std.proofs.lemmas.List.Folds.{flat_map-map}
 use Rattle.pe_base.specs.declared.place.Place.{Place}
 use Rattle.pe_base.specs.Tree.Curve.{digit_lists}
-use Rattle.pe_base.specs.Steps.Faces.{Turn, TurnsApart}
-use Rattle.pe_base.proofs.Lists.{Each, Each-weaker, Each-reverse, Each-filter, map-map, flat_map_same, flat_map_none, filter-map, filter_none, map-reverse, reverse-cons, Each-both, filter_all}
+use Rattle.pe_base.specs.Steps.Faces.{Stretch, StretchesApart}
+use Rattle.pe_base.proofs.Lists.{Each-weaker, Each-reverse, Each-filter, map-map, flat_map_same, flat_map_none, filter-map, filter_none, map-reverse, reverse-cons, Each-both, filter_all}
 use Rattle.pe_base.proofs.Tree.Mirrors.{Digits3, complement, digit_lists_below, reverse-digit_lists}
 use Rattle.pe_base.proofs.Tree.Ranks.{value, Rising, Rising-above, digit_lists_rise}
 use Rattle.pe_base.proofs.Tree.Mirrors.{Each-digits}
@@ -20,12 +20,12 @@ blocks_rise n s t xs ys h d =
     let m : (s + 1) * 3 ^ n ≤ t * 3 ^ n = mul-le-mul_right (3 ^ n) (omega arith) in
     omega (arith, value-below n xs (Each-digits n xs d))
 
-pub TurnsApart-append : (xs ys : List Turn) (a b c : List Place) → TurnsApart xs a b → TurnsApart ys b c → TurnsApart (xs ++ ys) a c
-TurnsApart-append [] ys a b c s t = subst (λ z. TurnsApart ys z c) (sym s) t
-TurnsApart-append (x ∷ xs) ys a b c s t = (s.0, s.1, s.2, TurnsApart-append xs ys (x.gives ++ s.0) b c s.3 t)
+pub StretchesApart-append : (xs ys : List Stretch) (a b c : List Place) → StretchesApart xs a b → StretchesApart ys b c → StretchesApart (xs ++ ys) a c
+StretchesApart-append [] ys a b c s t = subst (λ z. StretchesApart ys z c) (sym s) t
+StretchesApart-append (x ∷ xs) ys a b c s t = (s.0, s.1, s.2, StretchesApart-append xs ys (x.gives ++ s.0) b c s.3 t)
 
-abbrev pub turn_of : List Place → List Place → (Place → Bool) → Turn
-turn_of takes gives touches = record { takes = takes; gives = gives; touches = touches }
+abbrev pub stretch_of : List Place → List Place → (Place → Bool) → Stretch
+stretch_of takes gives touches = record { takes = takes; gives = gives; touches = touches }
 
 -- none of some vertices is touched
 abbrev pub Untouched : (Place → Bool) → List Place → Type 0
@@ -55,32 +55,32 @@ ordered_digits n R h = go 0 (digit_lists n) (digit_lists_below n) (digit_lists_r
     go low [] e s = tt
     go low (xs ∷ xss) e s = (Each-both (Digits3 n) (λ ys. suc (value n xs) ≤ value n ys) (R xs) (λ ys d l. h xs ys e.0 d l) xss e.1 (Rising-above (value n) (suc (value n xs)) (3 ^ n) xss s.1), go (suc (value n xs)) xss e.1 s.1)
 
--- turns that only take, and turns that only give
+-- stretches that only take, and stretches that only give
 pub all_take : {X : Type 0} (f g : X → List Place) (touches : X → Place → Bool) (xs : List X) (rest : List Place) → Each (λ x. g x ≡ []) xs → Ordered (λ x y. Untouched (touches x) (f y)) xs → Each (λ x. Untouched (touches x) rest) xs
-    → TurnsApart (map (λ x. turn_of (f x) (g x) (touches x)) xs) (flat_map f xs ++ rest) rest
+    → StretchesApart (map (λ x. stretch_of (f x) (g x) (touches x)) xs) (flat_map f xs ++ rest) rest
 all_take f g touches [] rest e o u = refl
 all_take f g touches (x ∷ xs) rest e o u = (
   flat_map f xs ++ rest,
   append_assoc (f x) (flat_map f xs) rest,
   Untouched-append (touches x) (flat_map f xs) rest (Untouched-flat_map (touches x) f xs o.0) u.0,
-  subst (λ z. TurnsApart (map (λ y. turn_of (f y) (g y) (touches y)) xs) (z ++ (flat_map f xs ++ rest)) rest) (sym e.0) (all_take f g touches xs rest e.1 o.1 u.1),
+  subst (λ z. StretchesApart (map (λ y. stretch_of (f y) (g y) (touches y)) xs) (z ++ (flat_map f xs ++ rest)) rest) (sym e.0) (all_take f g touches xs rest e.1 o.1 u.1),
 )
 
 pub all_give : {X : Type 0} (f g : X → List Place) (touches : X → Place → Bool) (xs : List X) (rest : List Place) → Each (λ x. f x ≡ []) xs → Ordered (λ x y. Untouched (touches y) (g x)) xs → Each (λ x. Untouched (touches x) rest) xs
-    → TurnsApart (map (λ x. turn_of (f x) (g x) (touches x)) xs) rest (flat_map g (reverse xs) ++ rest)
+    → StretchesApart (map (λ x. stretch_of (f x) (g x) (touches x)) xs) rest (flat_map g (reverse xs) ++ rest)
 all_give f g touches [] rest e o u = refl
 all_give f g touches (x ∷ xs) rest e o u = (
   rest,
   ap (λ z. z ++ rest) (sym e.0),
   u.0,
-  subst (TurnsApart (map (λ y. turn_of (f y) (g y) (touches y)) xs) (g x ++ rest)) (ends (flat_map g (reverse xs)) (g x) ∙ ap (λ z. z ++ rest) (sym (flat_map-append g (reverse xs) (x ∷ [])) ∙ ap (flat_map g) (sym (reverse-cons x xs))))
+  subst (StretchesApart (map (λ y. stretch_of (f y) (g y) (touches y)) xs) (g x ++ rest)) (ends (flat_map g (reverse xs)) (g x) ∙ ap (λ z. z ++ rest) (sym (flat_map-append g (reverse xs) (x ∷ [])) ∙ ap (flat_map g) (sym (reverse-cons x xs))))
       (all_give f g touches xs (g x ++ rest) e.1 o.1 (Each-both _ _ _ (λ y h k. Untouched-append (touches y) (g x) rest h k) xs o.0 u.1)),
 )
   where
     ends : (p q : List Place) → p ++ (q ++ rest) ≡ (p ++ (q ++ [])) ++ rest
     ends p q = ap (λ z. p ++ (z ++ rest)) (sym (append-nil q)) ∙ sym (append_assoc p (q ++ []) rest)
 
--- The turns of children by their digits along the curve: what each takes, gives and touches; and which are at an outer face.
+-- The stretches of children by their digits along the curve: what each takes, gives and touches; and which are at an outer face.
 abbrev pub Lists : Type 0
 Lists = List ℕ → List Place
 
@@ -90,8 +90,8 @@ Touching = List ℕ → Place → Bool
 abbrev pub behind : {X : Type 0} → ℕ → (List ℕ → X) → List ℕ → X
 behind t f ts = f (t ∷ ts)
 
-abbrev pub child_turns : ℕ → Lists → Lists → Touching → List Turn
-child_turns n takes gives touches = map (λ ts. turn_of (takes ts) (gives ts) (touches ts)) (digit_lists n)
+abbrev pub child_stretches : ℕ → Lists → Lists → Touching → List Stretch
+child_stretches n takes gives touches = map (λ ts. stretch_of (takes ts) (gives ts) (touches ts)) (digit_lists n)
 
 abbrev pub outer_takes : ℕ → Lists → (List ℕ → Bool) → List Place
 outer_takes n takes outer = flat_map takes (filter outer (digit_lists n))
@@ -164,16 +164,16 @@ free_earlier n s t takes gives touches outer h b p = λ ys d. Untouched-flat_map
     (Each-reverse _ (filter (behind s outer) (digit_lists n)) (Each-weaker _ _ (λ xs e. p.earlier (s ∷ xs) (t ∷ ys) (omega arith, e.0) (b, d) (blocks_rise n s t xs ys h e.0) e.1) (filter (behind s outer) (digit_lists n)) (Each-filter (Digits3 n) (behind s outer) (digit_lists n) (digit_lists_below n))))
 
 -- parts of lists made from three blocks
-block_turns : (n t : ℕ) (takes gives : Lists) (touches : Touching) → map (λ ts. turn_of (takes ts) (gives ts) (touches ts)) (map (λ ts. t ∷ ts) (digit_lists n)) ≡ child_turns n (behind t takes) (behind t gives) (behind t touches)
-block_turns n t takes gives touches = map-map (λ ts. turn_of (takes ts) (gives ts) (touches ts)) (λ ts. t ∷ ts) (digit_lists n)
+block_stretches : (n t : ℕ) (takes gives : Lists) (touches : Touching) → map (λ ts. stretch_of (takes ts) (gives ts) (touches ts)) (map (λ ts. t ∷ ts) (digit_lists n)) ≡ child_stretches n (behind t takes) (behind t gives) (behind t touches)
+block_stretches n t takes gives touches = map-map (λ ts. stretch_of (takes ts) (gives ts) (touches ts)) (λ ts. t ∷ ts) (digit_lists n)
 
-three_turns : (n : ℕ) (takes gives : Lists) (touches : Touching) → child_turns (suc n) takes gives touches
-    ≡ child_turns n (behind 0 takes) (behind 0 gives) (behind 0 touches) ++ (child_turns n (behind 1 takes) (behind 1 gives) (behind 1 touches) ++ child_turns n (behind 2 takes) (behind 2 gives) (behind 2 touches))
-three_turns n takes gives touches =
-    let f = λ (ts : List ℕ). turn_of (takes ts) (gives ts) (touches ts) in
+three_stretches : (n : ℕ) (takes gives : Lists) (touches : Touching) → child_stretches (suc n) takes gives touches
+    ≡ child_stretches n (behind 0 takes) (behind 0 gives) (behind 0 touches) ++ (child_stretches n (behind 1 takes) (behind 1 gives) (behind 1 touches) ++ child_stretches n (behind 2 takes) (behind 2 gives) (behind 2 touches))
+three_stretches n takes gives touches =
+    let f = λ (ts : List ℕ). stretch_of (takes ts) (gives ts) (touches ts) in
     let b = λ (t : ℕ). map (λ ts. t ∷ ts) (digit_lists n) in
-    map-append f (b 0) (b 1 ++ (b 2 ++ [])) ∙ ap₂ (λ x y. x ++ y) (block_turns n 0 takes gives touches)
-    (map-append f (b 1) (b 2 ++ []) ∙ ap₂ (λ x y. x ++ y) (block_turns n 1 takes gives touches) (ap (map f) (append-nil (b 2)) ∙ block_turns n 2 takes gives touches))
+    map-append f (b 0) (b 1 ++ (b 2 ++ [])) ∙ ap₂ (λ x y. x ++ y) (block_stretches n 0 takes gives touches)
+    (map-append f (b 1) (b 2 ++ []) ∙ ap₂ (λ x y. x ++ y) (block_stretches n 1 takes gives touches) (ap (map f) (append-nil (b 2)) ∙ block_stretches n 2 takes gives touches))
 
 block_outer : (n t : ℕ) (outer : List ℕ → Bool) → filter outer (map (λ ts. t ∷ ts) (digit_lists n)) ≡ map (λ ts. t ∷ ts) (filter (behind t outer) (digit_lists n))
 block_outer n t outer = filter-map outer (λ ts. t ∷ ts) (digit_lists n)
@@ -213,15 +213,15 @@ outer_takes_none n takes outer h = flat_map_none takes (filter outer (digit_list
 
 -- a block at the outer face
 outer_block : (n : ℕ) (takes gives : Lists) (touches : Touching) (outer : List ℕ → Bool) → ((ts : List ℕ) → Digits3 n ts → outer ts ≡ true) → OneWay n takes gives outer → Apart n takes gives touches outer
-    → (rest : List Place) → Free n touches rest → TurnsApart (child_turns n takes gives touches) (outer_takes n takes outer ++ rest) (outer_gives n gives outer ++ rest)
+    → (rest : List Place) → Free n touches rest → StretchesApart (child_stretches n takes gives touches) (outer_takes n takes outer ++ rest) (outer_gives n gives outer ++ rest)
 outer_block n takes gives touches outer all one apart rest free =
     let every : filter outer (digit_lists n) ≡ digit_lists n = filter_all outer (digit_lists n) (Each-weaker (Digits3 n) _ all (digit_lists n) (digit_lists_below n)) in
     let fr : Each (λ ts. Untouched (touches ts) rest) (digit_lists n) = Each-weaker (Digits3 n) _ free (digit_lists n) (digit_lists_below n) in
     elim one [
-      | inl none ↦ subst₂ (λ x y. TurnsApart (child_turns n takes gives touches) (x ++ rest) (y ++ rest)) (sym (outer_takes_none n takes outer none)) (ap (λ z. flat_map gives (reverse z)) (sym every))
+      | inl none ↦ subst₂ (λ x y. StretchesApart (child_stretches n takes gives touches) (x ++ rest) (y ++ rest)) (sym (outer_takes_none n takes outer none)) (ap (λ z. flat_map gives (reverse z)) (sym every))
           (all_give takes gives touches (digit_lists n) rest (Each-weaker (Digits3 n) _ (λ ts d. none ts d (all ts d)) (digit_lists n) (digit_lists_below n))
           (ordered_digits n (λ x y. Untouched (touches y) (gives x)) (λ x y d e l. apart.earlier x y d e l (all x d))) fr)
-      | inr none ↦ subst₂ (λ x y. TurnsApart (child_turns n takes gives touches) (x ++ rest) (y ++ rest)) (ap (flat_map takes) (sym every)) (sym (outer_gives_none n gives outer none))
+      | inr none ↦ subst₂ (λ x y. StretchesApart (child_stretches n takes gives touches) (x ++ rest) (y ++ rest)) (ap (flat_map takes) (sym every)) (sym (outer_gives_none n gives outer none))
           (all_take takes gives touches (digit_lists n) rest (Each-weaker (Digits3 n) _ (λ ts d. none ts d (all ts d)) (digit_lists n) (digit_lists_below n))
           (ordered_digits n (λ x y. Untouched (touches x) (takes y)) (λ x y d e l. apart.later x y d e l (all y e))) fr)
     ]
@@ -229,16 +229,16 @@ outer_block n takes gives touches outer all one apart rest free =
 -- two blocks that meet leave the stack as it was
 meeting_blocks : (n : ℕ) (takes gives next_takes next_gives : Lists) (touches next_touches : Touching) → ((ts : List ℕ) → Digits3 n ts → gives ts ≡ next_takes (complement ts)) → ((ts : List ℕ) → Digits3 n ts → takes ts ≡ []) → ((ts : List ℕ) → Digits3 n ts → next_gives ts ≡ [])
     → GivesEarlier n gives touches → TakesLater n next_takes next_touches
-    → (rest : List Place) → Free n touches rest → Free n next_touches rest → TurnsApart (child_turns n takes gives touches ++ child_turns n next_takes next_gives next_touches) rest rest
+    → (rest : List Place) → Free n touches rest → Free n next_touches rest → StretchesApart (child_stretches n takes gives touches ++ child_stretches n next_takes next_gives next_touches) rest rest
 meeting_blocks n takes gives next_takes next_gives touches next_touches agree none next_none given taken rest free next_free =
     let back : flat_map gives (reverse (digit_lists n)) ≡ flat_map next_takes (digit_lists n) =
     flat_map_same gives (λ ts. next_takes (complement ts)) (reverse (digit_lists n)) (Each-reverse _ (digit_lists n) (Each-weaker (Digits3 n) _ agree (digit_lists n) (digit_lists_below n)))
     ∙ sym (flat_map-map next_takes complement (reverse (digit_lists n)))
     ∙ ap (flat_map next_takes) (map-reverse complement (digit_lists n) ∙ ap reverse (sym (reverse-digit_lists n)) ∙ reverse-reverse (digit_lists n)) in
-    TurnsApart-append (child_turns n takes gives touches) (child_turns n next_takes next_gives next_touches) rest (flat_map gives (reverse (digit_lists n)) ++ rest) rest
+    StretchesApart-append (child_stretches n takes gives touches) (child_stretches n next_takes next_gives next_touches) rest (flat_map gives (reverse (digit_lists n)) ++ rest) rest
     (all_give takes gives touches (digit_lists n) rest (Each-weaker (Digits3 n) _ none (digit_lists n) (digit_lists_below n))
     (ordered_digits n (λ x y. Untouched (touches y) (gives x)) given) (Each-weaker (Digits3 n) _ free (digit_lists n) (digit_lists_below n)))
-    (subst (λ z. TurnsApart (child_turns n next_takes next_gives next_touches) (z ++ rest) rest) (sym back)
+    (subst (λ z. StretchesApart (child_stretches n next_takes next_gives next_touches) (z ++ rest) rest) (sym back)
     (all_take next_takes next_gives next_touches (digit_lists n) rest (Each-weaker (Digits3 n) _ next_none (digit_lists n) (digit_lists_below n))
     (ordered_digits n (λ x y. Untouched (next_touches x) (next_takes y)) taken) (Each-weaker (Digits3 n) _ next_free (digit_lists n) (digit_lists_below n))))
 
@@ -249,9 +249,9 @@ meet_here : (n : ℕ) (takes gives : Lists) (touches : Touching) (outer : List �
     → ((ts : List ℕ) → Digits3 n ts → outer (first ∷ ts) ≡ false) → ((ts : List ℕ) → Digits3 n ts → outer ((first + 1) ∷ ts) ≡ false)
     → ((t : ℕ) → t < 3 → t ≢ first → t ≢ first + 1 → (ts : List ℕ) → Digits3 n ts → outer (t ∷ ts) ≡ true)
     → OneWay (suc n) takes gives outer → Apart (suc n) takes gives touches outer → (rest : List Place) → Free (suc n) touches rest
-    → TurnsApart (child_turns (suc n) takes gives touches) (outer_takes (suc n) takes outer ++ rest) (outer_gives (suc n) gives outer ++ rest)
+    → StretchesApart (child_stretches (suc n) takes gives touches) (outer_takes (suc n) takes outer ++ rest) (outer_gives (suc n) gives outer ++ rest)
 meet_here n takes gives touches outer zero low agree none next_none given taken inner inner_next outside one apart rest free =
-    let c = λ (t : ℕ). child_turns n (behind t takes) (behind t gives) (behind t touches) in
+    let c = λ (t : ℕ). child_stretches n (behind t takes) (behind t gives) (behind t touches) in
     let k0 = filter_none (behind 0 outer) (digit_lists n) (Each-weaker (Digits3 n) _ inner (digit_lists n) (digit_lists_below n)) in
     let k1 = filter_none (behind 1 outer) (digit_lists n) (Each-weaker (Digits3 n) _ inner_next (digit_lists n) (digit_lists_below n)) in
     let a2 = outer_takes n (behind 2 takes) (behind 2 outer) in
@@ -261,16 +261,16 @@ meet_here n takes gives touches outer zero low agree none next_none given taken 
     let l : outer_gives (suc n) gives outer ≡ l2 =
     three_gives n gives outer ∙ ap₂ (λ x y. (outer_gives n (behind 2 gives) (behind 2 outer) ++ flat_map (behind 1 gives) (reverse y)) ++ flat_map (behind 0 gives) (reverse x)) k0 k1
     ∙ append-nil _ ∙ append-nil _ in
-    let s = TurnsApart-append (c 0 ++ c 1) (c 2) (a2 ++ rest) (a2 ++ rest) (l2 ++ rest)
+    let s = StretchesApart-append (c 0 ++ c 1) (c 2) (a2 ++ rest) (a2 ++ rest) (l2 ++ rest)
     (meeting_blocks n (behind 0 takes) (behind 0 gives) (behind 1 takes) (behind 1 gives) (behind 0 touches) (behind 1 touches) agree none next_none given taken (a2 ++ rest)
     (free_append n (behind 0 touches) a2 rest (free_later n 0 2 takes gives touches outer (omega arith) (omega arith) apart) (λ ts d. free (0 ∷ ts) (omega arith, d)))
     (free_append n (behind 1 touches) a2 rest (free_later n 1 2 takes gives touches outer (omega arith) (omega arith) apart) (λ ts d. free (1 ∷ ts) (omega arith, d))))
     (outer_block n (behind 2 takes) (behind 2 gives) (behind 2 touches) (behind 2 outer) (outside 2 (omega arith) (omega arith) (omega arith)) (one_behind n 2 takes gives outer (omega arith) one)
     (apart_behind n 2 takes gives touches outer (omega arith) apart) rest (λ ts d. free (2 ∷ ts) (omega arith, d))) in
-    subst₂ (λ x y. TurnsApart (child_turns (suc n) takes gives touches) (x ++ rest) (y ++ rest)) (sym a) (sym l)
-    (subst (λ z. TurnsApart z (a2 ++ rest) (l2 ++ rest)) (append_assoc (c 0) (c 1) (c 2) ∙ sym (three_turns n takes gives touches)) s)
+    subst₂ (λ x y. StretchesApart (child_stretches (suc n) takes gives touches) (x ++ rest) (y ++ rest)) (sym a) (sym l)
+    (subst (λ z. StretchesApart z (a2 ++ rest) (l2 ++ rest)) (append_assoc (c 0) (c 1) (c 2) ∙ sym (three_stretches n takes gives touches)) s)
 meet_here n takes gives touches outer (suc zero) low agree none next_none given taken inner inner_next outside one apart rest free =
-    let c = λ (t : ℕ). child_turns n (behind t takes) (behind t gives) (behind t touches) in
+    let c = λ (t : ℕ). child_stretches n (behind t takes) (behind t gives) (behind t touches) in
     let k1 = filter_none (behind 1 outer) (digit_lists n) (Each-weaker (Digits3 n) _ inner (digit_lists n) (digit_lists_below n)) in
     let k2 = filter_none (behind 2 outer) (digit_lists n) (Each-weaker (Digits3 n) _ inner_next (digit_lists n) (digit_lists_below n)) in
     let a0 = outer_takes n (behind 0 takes) (behind 0 outer) in
@@ -279,49 +279,49 @@ meet_here n takes gives touches outer (suc zero) low agree none next_none given 
     three_takes n takes outer ∙ ap₂ (λ x y. outer_takes n (behind 0 takes) (behind 0 outer) ++ (flat_map (behind 1 takes) x ++ flat_map (behind 2 takes) y)) k1 k2 ∙ append-nil _ in
     let l : outer_gives (suc n) gives outer ≡ l0 =
     three_gives n gives outer ∙ ap₂ (λ x y. (flat_map (behind 2 gives) (reverse y) ++ flat_map (behind 1 gives) (reverse x)) ++ outer_gives n (behind 0 gives) (behind 0 outer)) k1 k2 in
-    let s = TurnsApart-append (c 0) (c 1 ++ c 2) (a0 ++ rest) (l0 ++ rest) (l0 ++ rest)
+    let s = StretchesApart-append (c 0) (c 1 ++ c 2) (a0 ++ rest) (l0 ++ rest) (l0 ++ rest)
     (outer_block n (behind 0 takes) (behind 0 gives) (behind 0 touches) (behind 0 outer) (outside 0 (omega arith) (omega arith) (omega arith)) (one_behind n 0 takes gives outer (omega arith) one)
     (apart_behind n 0 takes gives touches outer (omega arith) apart) rest (λ ts d. free (0 ∷ ts) (omega arith, d)))
     (meeting_blocks n (behind 1 takes) (behind 1 gives) (behind 2 takes) (behind 2 gives) (behind 1 touches) (behind 2 touches) agree none next_none given taken (l0 ++ rest)
     (free_append n (behind 1 touches) l0 rest (free_earlier n 0 1 takes gives touches outer (omega arith) (omega arith) apart) (λ ts d. free (1 ∷ ts) (omega arith, d)))
     (free_append n (behind 2 touches) l0 rest (free_earlier n 0 2 takes gives touches outer (omega arith) (omega arith) apart) (λ ts d. free (2 ∷ ts) (omega arith, d)))) in
-    subst₂ (λ x y. TurnsApart (child_turns (suc n) takes gives touches) (x ++ rest) (y ++ rest)) (sym a) (sym l)
-    (subst (λ z. TurnsApart z (a0 ++ rest) (l0 ++ rest)) (sym (three_turns n takes gives touches)) s)
+    subst₂ (λ x y. StretchesApart (child_stretches (suc n) takes gives touches) (x ++ rest) (y ++ rest)) (sym a) (sym l)
+    (subst (λ z. StretchesApart z (a0 ++ rest) (l0 ++ rest)) (sym (three_stretches n takes gives touches)) s)
 meet_here n takes gives touches outer (suc (suc first)) low agree none next_none given taken inner inner_next outside one apart rest free = absurd (omega arith)
 
 -- three parts one after another, each on what it does not touch
-three_blocks : (c0 c1 c2 : List Turn) (f0 f1 f2 : List Place → Type 0) (a0 a1 a2 l0 l1 l2 rest : List Place)
-    → ((r : List Place) → f0 r → TurnsApart c0 (a0 ++ r) (l0 ++ r)) → ((r : List Place) → f1 r → TurnsApart c1 (a1 ++ r) (l1 ++ r)) → ((r : List Place) → f2 r → TurnsApart c2 (a2 ++ r) (l2 ++ r))
+three_blocks : (c0 c1 c2 : List Stretch) (f0 f1 f2 : List Place → Type 0) (a0 a1 a2 l0 l1 l2 rest : List Place)
+    → ((r : List Place) → f0 r → StretchesApart c0 (a0 ++ r) (l0 ++ r)) → ((r : List Place) → f1 r → StretchesApart c1 (a1 ++ r) (l1 ++ r)) → ((r : List Place) → f2 r → StretchesApart c2 (a2 ++ r) (l2 ++ r))
     → ((a0 ≡ []) × (a1 ≡ []) × (a2 ≡ [])) ⊎ ((l0 ≡ []) × (l1 ≡ []) × (l2 ≡ []))
     → f0 (a1 ++ (a2 ++ rest)) → f0 rest → f1 (a2 ++ rest) → f1 (l0 ++ rest) → f2 rest → f2 (l1 ++ (l0 ++ rest))
-    → TurnsApart (c0 ++ (c1 ++ c2)) ((a0 ++ (a1 ++ a2)) ++ rest) (((l2 ++ l1) ++ l0) ++ rest)
+    → StretchesApart (c0 ++ (c1 ++ c2)) ((a0 ++ (a1 ++ a2)) ++ rest) (((l2 ++ l1) ++ l0) ++ rest)
 three_blocks c0 c1 c2 f0 f1 f2 a0 a1 a2 l0 l1 l2 rest s0 s1 s2 none g0 h0 g1 h1 g2 h2 = elim none [
-  | inl e ↦ subst₂ (TurnsApart (c0 ++ (c1 ++ c2)))
+  | inl e ↦ subst₂ (StretchesApart (c0 ++ (c1 ++ c2)))
       (ap₂ (λ x y. (x ++ y) ++ rest) (sym e.0) (ap₂ (λ x y. x ++ y) (sym e.1) (sym e.2)))
       (sym (append_assoc l2 l1 (l0 ++ rest)) ∙ sym (append_assoc (l2 ++ l1) l0 rest))
-      (TurnsApart-append c0 (c1 ++ c2) rest (l0 ++ rest) (l2 ++ (l1 ++ (l0 ++ rest))) (subst (λ z. TurnsApart c0 (z ++ rest) (l0 ++ rest)) e.0 (s0 rest h0))
-      (TurnsApart-append c1 c2 (l0 ++ rest) (l1 ++ (l0 ++ rest)) (l2 ++ (l1 ++ (l0 ++ rest))) (subst (λ z. TurnsApart c1 (z ++ (l0 ++ rest)) (l1 ++ (l0 ++ rest))) e.1 (s1 (l0 ++ rest) h1))
-      (subst (λ z. TurnsApart c2 (z ++ (l1 ++ (l0 ++ rest))) (l2 ++ (l1 ++ (l0 ++ rest)))) e.2 (s2 (l1 ++ (l0 ++ rest)) h2))))
-  | inr e ↦ subst₂ (TurnsApart (c0 ++ (c1 ++ c2)))
+      (StretchesApart-append c0 (c1 ++ c2) rest (l0 ++ rest) (l2 ++ (l1 ++ (l0 ++ rest))) (subst (λ z. StretchesApart c0 (z ++ rest) (l0 ++ rest)) e.0 (s0 rest h0))
+      (StretchesApart-append c1 c2 (l0 ++ rest) (l1 ++ (l0 ++ rest)) (l2 ++ (l1 ++ (l0 ++ rest))) (subst (λ z. StretchesApart c1 (z ++ (l0 ++ rest)) (l1 ++ (l0 ++ rest))) e.1 (s1 (l0 ++ rest) h1))
+      (subst (λ z. StretchesApart c2 (z ++ (l1 ++ (l0 ++ rest))) (l2 ++ (l1 ++ (l0 ++ rest)))) e.2 (s2 (l1 ++ (l0 ++ rest)) h2))))
+  | inr e ↦ subst₂ (StretchesApart (c0 ++ (c1 ++ c2)))
       (ap (λ z. a0 ++ z) (sym (append_assoc a1 a2 rest)) ∙ sym (append_assoc a0 (a1 ++ a2) rest))
       (ap₂ (λ x y. (x ++ y) ++ rest) (ap₂ (λ x y. x ++ y) (sym e.2) (sym e.1)) (sym e.0))
-      (TurnsApart-append c0 (c1 ++ c2) (a0 ++ (a1 ++ (a2 ++ rest))) (a1 ++ (a2 ++ rest)) rest (subst (λ z. TurnsApart c0 (a0 ++ (a1 ++ (a2 ++ rest))) (z ++ (a1 ++ (a2 ++ rest)))) e.0 (s0 (a1 ++ (a2 ++ rest)) g0))
-      (TurnsApart-append c1 c2 (a1 ++ (a2 ++ rest)) (a2 ++ rest) rest (subst (λ z. TurnsApart c1 (a1 ++ (a2 ++ rest)) (z ++ (a2 ++ rest))) e.1 (s1 (a2 ++ rest) g1))
-      (subst (λ z. TurnsApart c2 (a2 ++ rest) (z ++ rest)) e.2 (s2 rest g2))))
+      (StretchesApart-append c0 (c1 ++ c2) (a0 ++ (a1 ++ (a2 ++ rest))) (a1 ++ (a2 ++ rest)) rest (subst (λ z. StretchesApart c0 (a0 ++ (a1 ++ (a2 ++ rest))) (z ++ (a1 ++ (a2 ++ rest)))) e.0 (s0 (a1 ++ (a2 ++ rest)) g0))
+      (StretchesApart-append c1 c2 (a1 ++ (a2 ++ rest)) (a2 ++ rest) rest (subst (λ z. StretchesApart c1 (a1 ++ (a2 ++ rest)) (z ++ (a2 ++ rest))) e.1 (s1 (a2 ++ rest) g1))
+      (subst (λ z. StretchesApart c2 (a2 ++ rest) (z ++ rest)) e.2 (s2 rest g2))))
 ]
 
--- The turns of the children take the lists of the outer face off the stack and leave the others there.
+-- The stretches of the children take the lists of the outer face off the stack and leave the others there.
 pub blocks : (axis n : ℕ) (takes gives : Lists) (touches : Touching) (outer : List ℕ → Bool) → MeetBehind axis n takes gives touches outer → OneWay n takes gives outer → Apart n takes gives touches outer
-    → (rest : List Place) → Free n touches rest → TurnsApart (child_turns n takes gives touches) (outer_takes n takes outer ++ rest) (outer_gives n gives outer ++ rest)
+    → (rest : List Place) → Free n touches rest → StretchesApart (child_stretches n takes gives touches) (outer_takes n takes outer ++ rest) (outer_gives n gives outer ++ rest)
 blocks axis zero takes gives touches outer m one apart rest free = absurd (omega arith)
 blocks zero (suc n) takes gives touches outer m one apart rest free =
     meet_here n takes gives touches outer m.first m.low m.agree m.takes_none m.gives_none m.gives_apart m.takes_apart m.inner m.inner_next m.outside one apart rest free
 blocks (suc axis) (suc n) takes gives touches outer m one apart rest free =
-    let c = λ (t : ℕ). child_turns n (behind t takes) (behind t gives) (behind t touches) in
+    let c = λ (t : ℕ). child_stretches n (behind t takes) (behind t gives) (behind t touches) in
     let a = λ (t : ℕ). outer_takes n (behind t takes) (behind t outer) in
     let l = λ (t : ℕ). outer_gives n (behind t gives) (behind t outer) in
     let f = λ (t : ℕ). Free n (behind t touches) in
-    let part : (t : ℕ) → t < 3 → (r : List Place) → f t r → TurnsApart (c t) (a t ++ r) (l t ++ r) =
+    let part : (t : ℕ) → t < 3 → (r : List Place) → f t r → StretchesApart (c t) (a t ++ r) (l t ++ r) =
     λ t h r g. blocks axis n (behind t takes) (behind t gives) (behind t touches) (behind t outer) (m t h) (one_behind n t takes gives outer h one) (apart_behind n t takes gives touches outer h apart) r g in
     let none : ((a 0 ≡ []) × (a 1 ≡ []) × (a 2 ≡ [])) ⊎ ((l 0 ≡ []) × (l 1 ≡ []) × (l 2 ≡ [])) = elim one [
       | inl e ↦ inl (outer_takes_none n _ _ (λ ts d o. e (0 ∷ ts) (omega arith, d) o), outer_takes_none n _ _ (λ ts d o. e (1 ∷ ts) (omega arith, d) o), outer_takes_none n _ _ (λ ts d o. e (2 ∷ ts) (omega arith, d) o))
@@ -330,8 +330,8 @@ blocks (suc axis) (suc n) takes gives touches outer m one apart rest free =
     let r : (t : ℕ) → t < 3 → f t rest = λ t h ts d. free (t ∷ ts) (h, d) in
     let up : (s t : ℕ) → s < t → t < 3 → f s (a t) = λ s t h b. free_later n s t takes gives touches outer h b apart in
     let down : (s t : ℕ) → s < t → t < 3 → f t (l s) = λ s t h b. free_earlier n s t takes gives touches outer h b apart in
-    subst (λ z. TurnsApart z (outer_takes (suc n) takes outer ++ rest) (outer_gives (suc n) gives outer ++ rest)) (sym (three_turns n takes gives touches))
-    (subst₂ (λ x y. TurnsApart (c 0 ++ (c 1 ++ c 2)) (x ++ rest) (y ++ rest)) (sym (three_takes n takes outer)) (sym (three_gives n gives outer))
+    subst (λ z. StretchesApart z (outer_takes (suc n) takes outer ++ rest) (outer_gives (suc n) gives outer ++ rest)) (sym (three_stretches n takes gives touches))
+    (subst₂ (λ x y. StretchesApart (c 0 ++ (c 1 ++ c 2)) (x ++ rest) (y ++ rest)) (sym (three_takes n takes outer)) (sym (three_gives n gives outer))
     (three_blocks (c 0) (c 1) (c 2) (f 0) (f 1) (f 2) (a 0) (a 1) (a 2) (l 0) (l 1) (l 2) rest (part 0 (omega arith)) (part 1 (omega arith)) (part 2 (omega arith)) none
     (free_append n _ (a 1) (a 2 ++ rest) (up 0 1 (omega arith) (omega arith)) (free_append n _ (a 2) rest (up 0 2 (omega arith) (omega arith)) (r 0 (omega arith))))
     (r 0 (omega arith))

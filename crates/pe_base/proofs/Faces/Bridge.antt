@@ -1,7 +1,7 @@
 -- The steps around a corner of a cell, and the stacks by which the corner comes and goes.
 use Rattle.std.proofs.Common.{◌≡◌, ◌≢◌, ℕ, zero, suc, ◌+◌, ◌-◌, ◌*◌, ◌/◌, ◌%◌, ◌^◌, ◌<◌, ◌≤◌, ◌⊎◌, inl, inr, Bool, true, false, ◌&&◌, ◌||◌, ◌==◌, List, [], ◌∷◌, map, filter, reverse, drop, replicate, length, slice_index, Some, refl, sym, ap, ap₂, ◌∙◌, subst, true≢false, arith}
 use Rattle.std.specs.Prelude.{nat_lt, if◌then◌else◌}
-use Rattle.std.specs.List.{list_any}
+use Rattle.std.specs.List.{list_any, AllByRecursion as Each}
 use Rattle.std.specs.Option.{option_map}
 use Rattle.std.proofs.lemmas.List.{length-set, get_or-set_same, get_or-set_other}
 use Rattle.std.proofs.lemmas.Bool.Decides.{nat_tests}
@@ -16,11 +16,11 @@ use Rattle.pe_base.specs.Steps.Around.{is_corner_pos, is_corner, around, steps}
 use Rattle.pe_base.specs.Steps.Routes.{axis_between, axis_of, waiting_stack, stack_in, stack_out}
 use Rattle.pe_base.specs.Steps.Faces.{Face, IsFace, ShareFace, Touch, beside, across, plane, stack_of, face_on, in_finest, is_on, is_step, corner_touches, comes_across, in_corners}
 use Rattle.pe_base.specs.Steps.Stacks.{is_stack, comes_by, goes_by, ComeByFaces, GoByFaces, AcrossNone, AcrossOne}
-use Rattle.pe_base.proofs.Lists.{Each, Each-all, Each-weaker, Each-filter, map-map, map-reverse, filter-map, filter-reverse, filter_same, filter_none}
+use Rattle.pe_base.proofs.Lists.{Each-all, Each-weaker, Each-filter, map-map, map-reverse, filter-map, filter-reverse, filter_same, filter_none}
 use Rattle.pe_base.proofs.Tree.Mirrors.{up}
 use Rattle.pe_base.proofs.Tree.Corners.{IsBits, bit_lists, bit_lists_below, touch_at, corner_touches_are, slice_index-moved, slice_index-bits}
 use Rattle.pe_base.proofs.Tree.Ranks.{steps_within, list_any-Each, same_places}
-use Rattle.pe_base.proofs.Steps.Counts.{OnGrid, is_same_itself, same_itself}
+use Rattle.pe_base.proofs.Steps.VertexTouches.{OnGrid, is_same_itself, same_itself}
 use Rattle.pe_base.proofs.Steps.CornerPlaces.{length-moved}
 use Rattle.pe_base.proofs.Steps.RouteLaws.{step_neighbours}
 use Rattle.pe_base.proofs.Steps.Turned.{find_none, find_first, any_both, one_step_to, is_step-opposite, stack-opposite}

@@ -1,6 +1,6 @@
 -- The lists of a face: those of the cell's own corners and of its children at the face; neighbours agree.
 use Rattle.std.proofs.Common.{◌≡◌, ℕ, zero, suc, ◌+◌, ◌-◌, ◌*◌, ◌^◌, ◌<◌, ◌≤◌, ◌⊎◌, Bool, true, false, ◌&&◌, ◌==◌, List, [], ◌∷◌, ◌++◌, map, filter, reverse, length, slice_index, slice_set, replicate, refl, sym, ap, ap₂, ◌∙◌, subst, inl, inr, le_trans, pow-suc, mul-le-mul_right, arith}
-use Rattle.std.specs.List.{flat_map}
+use Rattle.std.specs.List.{flat_map, AllByRecursion as Each}
 use Rattle.std.proofs.lemmas.List.{length-set, map-append, reverse-append}
 use Rattle.std.proofs.lemmas.List.Elements.{filter-append}
 use Rattle.std.proofs.lemmas.Bool.Decides.{nat_tests}
@@ -13,7 +13,7 @@ use Rattle.pe_base.specs.declared.way.Way.TheVariants.{Forward, Inverted}
 use Rattle.pe_base.specs.Tree.Places.{moved}
 use Rattle.pe_base.specs.Tree.Curve.{digit_lists, children}
 use Rattle.pe_base.specs.Steps.Faces.{Face, Touch, across, in_finest, is_step, corner_touches, loads, stores, comes_across, goes_across, at_face, arriving, leaving}
-use Rattle.pe_base.proofs.Lists.{Each, Each-all, Each-weaker, Each-append, Each-map, Each-flat_map, Each-filter, Each-reverse, flat_map_same, flat_map-filter, reverse-flat_map, filter_same, filter_none}
+use Rattle.pe_base.proofs.Lists.{Each-all, Each-weaker, Each-append, Each-map, Each-flat_map, Each-filter, Each-reverse, flat_map_same, flat_map-filter, reverse-flat_map, filter_same, filter_none}
 use Rattle.pe_base.proofs.Tree.Mirrors.{Digits3, digit_lists_below, turned_across, turned_across-digit, up}
 use Rattle.pe_base.proofs.Tree.Children.{flips_in, flips_agree, length-flips, child_of, child_ks, child_ks-below, child_index, child_length, children_are, reverse-children, slice_index-below}
 use Rattle.pe_base.proofs.Tree.Corners.{IsBits, bit_lists, bit_lists_below, shared_corners, slice_index-moved, slice_index-bits, touch_at, corner_touches_are, pow_three, same_tests, own_corners}

@@ -1,11 +1,11 @@
 -- Two blocks of the children of a cell that meet at a plane of a stack.
+use Rattle.std.specs.List.{AllByRecursion as Each}
 use Rattle.std.proofs.Common.{◌≡◌, ◌≢◌, ℕ, zero, suc, ◌+◌, ◌-◌, ◌*◌, ◌%◌, ◌^◌, ◌<◌, ◌≤◌, ◌⊎◌, Bool, ◌==◌, List, [], ◌∷◌, ◌++◌, length, slice_index, replicate, refl, sym, ap, ap₂, ◌∙◌, subst, inl, inr, arith}
 use Rattle.std.proofs.lemmas.Bool.{ne_eqb, eq-eqb}
 use Rattle.pe_base.specs.declared.place.Place.{Place}
 use Rattle.pe_base.specs.declared.way.Way.{Way}
 use Rattle.pe_base.specs.Tree.Curve.{mirrored}
-use Rattle.pe_base.specs.Steps.Faces.{across, face_on, is_touched, arriving, leaving, child_turn}
-use Rattle.pe_base.proofs.Lists.{Each}
+use Rattle.pe_base.specs.Steps.Faces.{across, face_on, is_touched, arriving, leaving, child_stretch}
 use Rattle.pe_base.proofs.Tree.Mirrors.{Digits3, complement, complement_below, mirrored_even, mirrored_odd, even_or_odd, turns_at, turned-at, turned_next-even, turned_next-odd}
 use Rattle.pe_base.proofs.Tree.Children.{flips_in, length-flips, child_of, child_ks, child_index}
 use Rattle.pe_base.proofs.Faces.FaceLists.{face_of, up_cell, is_child_at, across-up, leaving-up, leaving-down}
@@ -83,10 +83,10 @@ module _ (axes : ℕ) (way : Way) (counts : Place → Bool) (levels parity level
   child t ts = child_of axes way cell (us ++ t ∷ ts)
 
   abbrev takes : Lists
-  takes ts = (child_turn axes way counts levels axis parity (child_of axes way cell (us ++ ts))).takes
+  takes ts = (child_stretch axes way counts levels axis parity (child_of axes way cell (us ++ ts))).takes
 
   abbrev gives : Lists
-  gives ts = (child_turn axes way counts levels axis parity (child_of axes way cell (us ++ ts))).gives
+  gives ts = (child_stretch axes way counts levels axis parity (child_of axes way cell (us ++ ts))).gives
 
   abbrev touches : Touching
   touches ts = is_touched axes way levels (child_of axes way cell (us ++ ts))

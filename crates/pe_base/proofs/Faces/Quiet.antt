@@ -1,4 +1,5 @@
 -- Faces where nothing arrives, and faces where nothing is left.
+use Rattle.std.specs.List.{AllByRecursion as Each}
 use Rattle.std.proofs.Common.{◌≡◌, ℕ, zero, suc, ◌+◌, ◌-◌, ◌*◌, ◌/◌, ◌%◌, ◌^◌, ◌<◌, ◌≤◌, ◌⊎◌, ◌≢◌, length-set, Bool, true, false, ◌==◌, List, [], ◌∷◌, ◌++◌, map, filter, reverse, length, set, take, drop, slice_index, slice_set, replicate, refl, sym, ap, ap₂, ◌∙◌, subst, inl, inr, pow-suc, mul-le-mul_right, take-append-drop, arith}
 use Rattle.std.proofs.lemmas.Bool.{and_parts, eqb-true}
 use Rattle.std.proofs.lemmas.List.{length-map}
@@ -8,7 +9,7 @@ use Rattle.pe_base.specs.Tree.Ways.{opposite}
 use Rattle.pe_base.specs.Tree.Places.{finer, moved}
 use Rattle.pe_base.specs.Tree.Curve.{digit_lists, turned}
 use Rattle.pe_base.specs.Steps.Faces.{Face, Touch, beside, across, corner_touches, loads, comes_across, goes_across, at_face, arriving, leaving}
-use Rattle.pe_base.proofs.Lists.{Each, Each-all, Each-weaker, Each-map, Each-filter, filter_none, flat_map_none}
+use Rattle.pe_base.proofs.Lists.{Each-all, Each-weaker, Each-map, Each-filter, filter_none, flat_map_none}
 use Rattle.pe_base.proofs.Tree.Mirrors.{Digits3, digit_lists_below, sum_of, sum-turned, mirrored_below}
 use Rattle.pe_base.proofs.Tree.Children.{flips_in, length-flips, child_of, child_ks, child_ks-below, child_index}
 use Rattle.pe_base.proofs.Tree.Corners.{bit_lists, own_corners, pow_three}

@@ -1,6 +1,6 @@
 -- Where the vertices of a face's lists wait, and that no cell is walked meanwhile which they touch.
 use Rattle.std.proofs.Common.{◌≡◌, ℕ, zero, suc, ◌+◌, ◌*◌, ◌^◌, ◌<◌, ◌≤◌, ◌⊎◌, Bool, true, false, ◌&&◌, ◌||◌, ◌==◌, List, [], ◌∷◌, map, filter, reverse, length, slice_index, refl, sym, ap, ap₂, ◌∙◌, subst, subst₂, inl, inr, mul-le-mul_right, arith}
-use Rattle.std.specs.List.{list_any}
+use Rattle.std.specs.List.{list_any, AllByRecursion as Each}
 use Rattle.std.proofs.lemmas.Bool.Decides.{nat_tests}
 use Rattle.std.proofs.lemmas.Bool.{and_parts}
 use Rattle.pe_base.specs.declared.place.Place.{Place}
@@ -10,7 +10,7 @@ use Rattle.pe_base.specs.Tree.Places.{moved, is_same}
 use Rattle.pe_base.specs.Tree.Curve.{digit_lists, children, order}
 use Rattle.pe_base.specs.Steps.Around.{is_corner_pos, is_corner, around, steps}
 use Rattle.pe_base.specs.Steps.Faces.{Face, Touch, across, is_step, corner_touches, loads, comes_across, goes_across, at_face, arriving, leaving, is_touched}
-use Rattle.pe_base.proofs.Lists.{Each, Each-all, Each-weaker, Each-append, Each-map, Each-flat_map, Each-filter, Each-reverse, In, In-append_left, In-append_right, In-map, In-flat_map, In-filter, Each-In, list_any_none}
+use Rattle.pe_base.proofs.Lists.{Each-all, Each-weaker, Each-append, Each-map, Each-flat_map, Each-filter, Each-reverse, In, In-append_left, In-append_right, In-map, In-flat_map, In-filter, Each-In, list_any_none}
 use Rattle.pe_base.proofs.Tree.Mirrors.{Digits3, digit_lists_below}
 use Rattle.pe_base.proofs.Tree.Children.{child_of, children_are}
 use Rattle.pe_base.proofs.Tree.Corners.{IsBits, bit_lists, bit_lists_below, own_corners, touch_at, corner_touches_are}

@@ -3,7 +3,7 @@ use Rattle.std.proofs.Common.{◌≡◌, ◌∙◌, ℕ, zero, suc, List, [], �
 use Rattle.pe_base.specs.declared.place.Place.{Place}
 use Rattle.pe_base.specs.Tree.Places.{bits, moved, corner}
 use Rattle.pe_base.proofs.Tree.PlaceLaws.{length-bits}
-use Rattle.pe_base.proofs.Steps.Counts.{OnGrid}
+use Rattle.pe_base.proofs.Steps.VertexTouches.{OnGrid}
 
 pub length-moved : (p ds : List ℕ) → length (moved p ds) ≡ length p
 length-moved [] ds = refl

@@ -1,7 +1,7 @@
 -- The cells around a vertex as positions on the grid's axes.
 use Rattle.std.proofs.Common.{◌≡◌, ℕ, zero, suc, ◌+◌, ◌-◌, ◌*◌, ◌%◌, ◌<◌, ◌≤◌, true, ◌&&◌, ◌||◌, List, [], ◌∷◌, ◌++◌, map, length, sym, ap, ◌∙◌, refl, arith, add-one}
 use Rattle.std.specs.Prelude.{◌==◌, filter, sum, replicate, slice_index}
-use Rattle.std.specs.List.{flat_map}
+use Rattle.std.specs.List.{flat_map, AllByRecursion as Each}
 use Rattle.std.proofs.lemmas.Bool.{eq-eqb}
 use Rattle.std.proofs.lemmas.List.{map-append, length-append, length-replicate, get_or_append_left}
 use Rattle.std.proofs.lemmas.List.Folds.{flat_map-map, sum_by-replicate}
@@ -13,7 +13,7 @@ use Rattle.pe_base.specs.Tree.Places.{padded, finer, at}
 use Rattle.pe_base.specs.Tree.Curve.{flip, mirrored, turned, digit_lists, children, order}
 use Rattle.pe_base.specs.Steps.Around.{is_corner, is_corner_pos, around}
 use Rattle.pe_base.specs.Steps.Routes.{way_turns}
-use Rattle.pe_base.proofs.Lists.{Each, Each-weaker, Each-append, Each-map, Each-flat_map, map-map, map_same, flat_map_same, map-flat_map, filter-map, filter_same}
+use Rattle.pe_base.proofs.Lists.{Each-weaker, Each-append, Each-map, Each-flat_map, map-map, map_same, flat_map_same, map-flat_map, filter-map, filter_same}
 use Rattle.pe_base.proofs.Tree.PlaceLaws.{length-finer, finer-zeros}
 use Rattle.pe_base.proofs.Tree.Mirrors.{Digits3, digit_lists_below, mirrored_same, turned_below}
 use Rattle.pe_base.proofs.Tree.Children.{flips_in, length-flips, child_of, children_are, length-digits}
@@ -21,11 +21,11 @@ use Rattle.pe_base.proofs.Steps.Spans.{Spot, fits_all}
 use Rattle.pe_base.proofs.Steps.Levels.{kids, cells, holders}
 
 -- flips that turn each axis as the position and a number of turns do
-abbrev pub Turns : ℕ → List ℕ → List ℕ → Type 0
-Turns a es ps = (i : ℕ) → i < length ps → slice_index es i % 2 ≡ (a + slice_index ps i) % 2
+abbrev pub FlipsAlike : ℕ → List ℕ → List ℕ → Type 0
+FlipsAlike a es ps = (i : ℕ) → i < length ps → slice_index es i % 2 ≡ (a + slice_index ps i) % 2
 
 -- the children at all digits, axis by axis
-kids-turned : (es ps : List ℕ) (before b a : ℕ) → length es ≡ length ps → b % 2 ≡ (before + a) % 2 → Turns a es ps → map (λ ts. finer ps (turned es before ts)) (digit_lists (length ps)) ≡ kids b ps
+kids-turned : (es ps : List ℕ) (before b a : ℕ) → length es ≡ length ps → b % 2 ≡ (before + a) % 2 → FlipsAlike a es ps → map (λ ts. finer ps (turned es before ts)) (digit_lists (length ps)) ≡ kids b ps
 kids-turned [] [] before b a len e turns = refl
 kids-turned (e₁ ∷ es) [] before b a len e turns = absurd (omega arith)
 kids-turned [] (p ∷ ps) before b a len e turns = absurd (omega arith)
@@ -33,7 +33,7 @@ kids-turned (e₁ ∷ es) (p ∷ ps) before b a len e turns =
     let f : List ℕ → List ℕ = λ ts. finer (p ∷ ps) (turned (e₁ ∷ es) before ts) in
     let child : ℕ → ℕ = λ t. 3 * p + mirrored (b + p) t in
     let here = turns 0 (omega arith) in
-    let rest : Turns a es ps = λ i h. turns (suc i) (omega arith) in
+    let rest : FlipsAlike a es ps = λ i h. turns (suc i) (omega arith) in
     let ls : ℕ → List (List ℕ) = λ t. map (λ ts. t ∷ ts) (digit_lists (length ps)) in
     let part : (t : ℕ) → map f (ls t) ≡ map (λ cs. child t ∷ cs) (kids (b + t) ps) = λ t.
     map-map f (λ ts. t ∷ ts) (digit_lists (length ps))
@@ -69,7 +69,7 @@ length-padded : (ps : List ℕ) → length ps ≤ 4 → length (padded ps) ≡ 4
 length-padded ps h = length-append ps (replicate (4 - length ps) 0) ∙ omega (arith, length-replicate {A = ℕ} (4 - length ps) 0)
 
 -- the flips of a cell turn each axis as all positions and its own do
-turns-flips : (axes : ℕ) (way : Way) (ps : List ℕ) → length ps ≡ axes → axes ≤ 4 → Turns (way_turns way + sum ps) (flips_in axes way (padded ps)) ps
+turns-flips : (axes : ℕ) (way : Way) (ps : List ℕ) → length ps ≡ axes → axes ≤ 4 → FlipsAlike (way_turns way + sum ps) (flips_in axes way (padded ps)) ps
 turns-flips axes way ps len within i h =
     let inside : i < length (padded ps) = omega (arith, length-padded ps) in
     omega (arith, get_or-map-range_with_len (λ axis. flip (padded ps) axis + way_turns way) 0 axes i i 0 (omega arith) (omega arith), sum_by-remove (λ x. x) (padded ps) i 0 inside, sum-padded ps, get_or_append_left ps (replicate (4 - length ps) 0) 0 i h)

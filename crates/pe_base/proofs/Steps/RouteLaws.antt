@@ -1,7 +1,7 @@
 -- The steps around a vertex, and the stacks by which it goes.
 use Rattle.std.proofs.Common.{◌≡◌, ℕ, zero, suc, ◌+◌, ◌-◌, ◌*◌, ◌%◌, ◌^◌, ◌<◌, ◌≤◌, true, ◌&&◌, ◌||◌, List, [], ◌∷◌, ◌++◌, map, take, drop, length, Option, sym, ap, ap₂, ◌∙◌, subst, subst₂, refl, inl, inr, ◌⊎◌, arith, pow-suc}
 use Rattle.std.specs.Prelude.{◌==◌, if◌then◌else◌, replicate, slice_index}
-use Rattle.std.specs.List.{zip}
+use Rattle.std.specs.List.{zip, AllByRecursion as Each}
 use Rattle.std.proofs.lemmas.Bool.{eq-eqb, ne_eqb, cases_lt, and_parts}
 use Rattle.std.proofs.lemmas.List.{length-take-le}
 use Rattle.std.proofs.lemmas.List.Elements.{All-from_recursion}
@@ -11,7 +11,7 @@ use Rattle.pe_base.specs.Tree.Places.{IsPosition, IsInside, is_same, padded, at}
 use Rattle.pe_base.specs.Steps.Around.{around, steps}
 use Rattle.pe_base.specs.Steps.Faces.{IsFace, ShareFace, across, is_step}
 use Rattle.pe_base.specs.Steps.Routes.{way_turns, axis_between, axis_of, StepsAcrossFaces}
-use Rattle.pe_base.proofs.Lists.{Each, Each-weaker}
+use Rattle.pe_base.proofs.Lists.{Each-weaker}
 use Rattle.pe_base.proofs.Tree.Mirrors.{up}
 use Rattle.pe_base.proofs.Tree.Ranks.{list_any-Each, same_places}
 use Rattle.pe_base.proofs.Faces.FaceLists.{face_of, up_cell, across-up}

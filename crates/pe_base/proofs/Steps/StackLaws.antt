@@ -1,7 +1,7 @@
 -- The stacks by which a vertex goes, by how its cells are entered and left.
 use Rattle.std.proofs.Common.{◌≡◌, ℕ, zero, suc, ◌+◌, ◌-◌, ◌*◌, ◌/◌, ◌%◌, ◌^◌, ◌<◌, ◌≤◌, Bool, true, false, ◌&&◌, List, [], ◌∷◌, ◌++◌, map, length, Option, Some, None, sym, ap, ◌∙◌, subst, refl, inl, inr, ◌⊎◌, arith, pow-suc}
 use Rattle.std.specs.Prelude.{◌==◌, if◌then◌else◌, find, sum, replicate}
-use Rattle.std.specs.List.{zip}
+use Rattle.std.specs.List.{zip, AllByRecursion as Each}
 use Rattle.std.specs.Option.{option_map}
 use Rattle.std.proofs.lemmas.Bool.{and_parts, eq-eqb, false≢true, cases_Bool}
 use Rattle.pe_base.specs.declared.place.Place.{Place}
@@ -9,9 +9,9 @@ use Rattle.pe_base.specs.declared.way.Way.{Way}
 use Rattle.pe_base.specs.Tree.Places.{padded, at, is_same, is_same_pos}
 use Rattle.pe_base.specs.Tree.Curve.{mirrored}
 use Rattle.pe_base.specs.Steps.Routes.{way_turns, axis_of, waiting_stack, stack_in, stack_out}
-use Rattle.pe_base.proofs.Lists.{Each, Each-weaker, Each-filter, In, In-append_left, In-append_right, In-map, In-flat_map, In-filter}
+use Rattle.pe_base.proofs.Lists.{Each-weaker, Each-filter, In, In-append_left, In-append_right, In-map, In-flat_map, In-filter}
 use Rattle.pe_base.proofs.Tree.Ranks.{same_list}
-use Rattle.pe_base.proofs.Steps.Counts.{pos_itself}
+use Rattle.pe_base.proofs.Steps.VertexTouches.{pos_itself}
 use Rattle.pe_base.proofs.Steps.Walks.{Path}
 use Rattle.pe_base.proofs.Steps.Spans.{Spot, fits_all, Crosses, parents, is_even}
 use Rattle.pe_base.proofs.Steps.Levels.{kids, cells, holders, entry}

@@ -16,7 +16,7 @@ use Rattle.pe_base.specs.Steps.Routes.{axis_of, axis_between, waiting_stack, sta
 use Rattle.pe_base.specs.Steps.Faces.{is_step, steps_to, steps_from}
 use Rattle.pe_base.proofs.Lists.{filter-map, filter-reverse, reverse-cons}
 use Rattle.pe_base.proofs.Tree.Ranks.{rank, rank_of, top, around_rises, is_same-true}
-use Rattle.pe_base.proofs.Steps.Counts.{step_alone, is_same_itself, reverse-order}
+use Rattle.pe_base.proofs.Steps.VertexTouches.{step_alone, is_same_itself, reverse-order}
 
 pub around-opposite : (axes : ℕ) (way : Way) (vertex : Place) → around axes (opposite way) vertex ≡ reverse (around axes way vertex)
 around-opposite axes way vertex = ap (filter (is_corner vertex)) (reverse-order axes way vertex.level) ∙ filter-reverse (is_corner vertex) _

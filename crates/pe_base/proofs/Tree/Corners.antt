@@ -1,6 +1,6 @@
 -- The corners of a cell at a face, and of its neighbour there.
 use Rattle.std.proofs.Common.{◌≡◌, ℕ, zero, suc, ◌+◌, ◌-◌, ◌*◌, ◌/◌, ◌%◌, ◌^◌, ◌<◌, ◌≤◌, Bool, true, false, cond, ◌&&◌, ◌==◌, List, [], ◌∷◌, ◌++◌, map, filter, reverse, length, slice_index, refl, sym, ap, ap₂, ◌∙◌, pow-suc, arith}
-use Rattle.std.specs.List.{flat_map, range_with_len}
+use Rattle.std.specs.List.{flat_map, range_with_len, AllByRecursion as Each}
 use Rattle.std.proofs.lemmas.List.Concat.{flat_map_single}
 use Rattle.std.proofs.Math.Nat.{eq_of_mul-eq-mul_right}
 use Rattle.std.proofs.lemmas.Bool.Decides.{nat_tests}
@@ -8,7 +8,7 @@ use Rattle.std.proofs.lemmas.List.Folds.{flat_map-map}
 use Rattle.pe_base.specs.declared.place.Place.{Place}
 use Rattle.pe_base.specs.Tree.Places.{bits, moved}
 use Rattle.pe_base.specs.Steps.Faces.{Face, Touch, is_on, corner_touches, at_face}
-use Rattle.pe_base.proofs.Lists.{Each, Each-weaker, Each-flat_map, map-map, map_same, flat_map_same, map-flat_map, filter-flat_map, map-reverse, filter-map, filter-reverse, filter_same, filter-filter}
+use Rattle.pe_base.proofs.Lists.{Each-weaker, Each-flat_map, map-map, map_same, flat_map_same, map-flat_map, filter-flat_map, map-reverse, filter-map, filter-reverse, filter_same, filter-filter}
 use Rattle.pe_base.proofs.Tree.Mirrors.{up}
 
 -- as many bits as there are axes

@@ -1,9 +1,10 @@
 -- The digits of the curve, mirrored and turned.
+use Rattle.std.specs.List.{AllByRecursion as Each}
 use Rattle.std.proofs.Common.{◌≡◌, ℕ, zero, suc, ◌+◌, ◌-◌, ◌*◌, ◌%◌, ◌<◌, ◌≤◌, ◌⊎◌, List, [], ◌∷◌, ◌++◌, map, reverse, length, set, slice_index, refl, sym, ap, ap₂, ◌∙◌, inl, inr, arith}
 use Rattle.std.proofs.lemmas.Bool.Decides.{nat_tests}
 use Rattle.pe_base.specs.Tree.Places.{finer}
 use Rattle.pe_base.specs.Tree.Curve.{digit_lists, mirrored, turned}
-use Rattle.pe_base.proofs.Lists.{Each, Each-weaker, Each-append, Each-map, map-map, map-reverse, reverse-flat_map, map-flat_map}
+use Rattle.pe_base.proofs.Lists.{Each-weaker, Each-append, Each-map, map-map, map-reverse, reverse-flat_map, map-flat_map}
 
 -- as many digits below 3 as there are axes
 abbrev pub Digits3 : ℕ → List ℕ → Type 0

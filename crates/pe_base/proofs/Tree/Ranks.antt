@@ -1,6 +1,6 @@
 -- The place of a cell in the order of its level, as a number.
 use Rattle.std.proofs.Common.{◌≡◌, ℕ, zero, suc, ◌+◌, ◌-◌, ◌*◌, ◌/◌, ◌%◌, ◌^◌, ◌<◌, ◌≤◌, ◌⊎◌, Bool, true, false, cond, ◌==◌, List, [], ◌∷◌, ◌++◌, map, filter, length, take, replicate, refl, sym, ap, ap₂, ◌∙◌, subst, true≢false, nat_eq, inl, inr, pow-suc, mul-le-mul_right, length-append, arith}
-use Rattle.std.specs.List.{flat_map, list_any}
+use Rattle.std.specs.List.{flat_map, list_any, AllByRecursion as Each}
 use Rattle.std.specs.Cmp.Lexicographic.{pointwise}
 use Rattle.std.proofs.lemmas.List.{length-replicate}
 use Rattle.std.proofs.lemmas.Bool.Decides.{nat_tests}
@@ -11,7 +11,7 @@ use Rattle.pe_base.specs.Tree.Places.{finer, is_same}
 use Rattle.pe_base.specs.Tree.Curve.{digit_lists, turned, children, order}
 use Rattle.pe_base.specs.Steps.Around.{is_corner, around, steps}
 use Rattle.pe_base.specs.Steps.Faces.{is_step}
-use Rattle.pe_base.proofs.Lists.{Each, Each-all, Each-weaker, Each-append, Each-map, Each-flat_map, Each-both}
+use Rattle.pe_base.proofs.Lists.{Each-all, Each-weaker, Each-append, Each-map, Each-flat_map, Each-both}
 use Rattle.pe_base.proofs.Tree.PlaceLaws.{length-finer}
 use Rattle.pe_base.proofs.Tree.Mirrors.{Digits3, digit_lists_below, sum_of, turned_twice, Each-digits}
 use Rattle.pe_base.proofs.Tree.Children.{flips_in, length-flips, child_pos, child_of, child_ks, child_ks-below, children_are, length-digits}

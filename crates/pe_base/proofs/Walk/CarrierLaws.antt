@@ -1,11 +1,12 @@
 -- The carriers of a corner of a cell are corners of the cell's parent.
+use Rattle.std.specs.List.{AllByRecursion as Each}
 use Rattle.std.proofs.Common.{◌≡◌, ℕ, zero, suc, ◌+◌, ◌*◌, ◌/◌, ◌%◌, ◌-◌, ◌^◌, ◌<◌, ◌≤◌, Bool, true, false, ◌==◌, List, [], ◌∷◌, map, length, slice_index, refl, sym, ap, subst, ◌∙◌, inl, inr, arith, if◌then◌else◌}
 use Rattle.std.proofs.lemmas.Bool.{eqb-true, eqb-false, cases_lt}
 use Rattle.pe_base.specs.declared.place.Place.{Place}
 use Rattle.pe_base.specs.Tree.Places.{corner, bits, moved, parent_of, number_of}
 use Rattle.pe_base.specs.Life.Carriers.{thirds, carrier_positions, carriers}
 use Rattle.pe_base.specs.Walk.Laws.{IsCornerOf, CarriersAreParents}
-use Rattle.pe_base.proofs.Lists.{Each, Each-weaker, Each-map, Each-flat_map}
+use Rattle.pe_base.proofs.Lists.{Each-weaker, Each-map, Each-flat_map}
 use Rattle.pe_base.proofs.Tree.PlaceLaws.{bits-suc, moved-none}
 use Rattle.pe_base.proofs.Tree.Corners.{IsBits, bits_in}
 

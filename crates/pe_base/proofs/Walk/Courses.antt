@@ -1,7 +1,7 @@
 -- The results of courses that are done.
+use Rattle.std.specs.List.{AllByRecursion as Each}
 use Rattle.std.proofs.Common.{◌≡◌, List, [], ◌∷◌, refl, sym, subst}
 use Rattle.pe_base.specs.Walk.Course.{Cause, Ending, done, halts, stuck, Course, ends, at_once, from, and_then, course_map, each}
-use Rattle.pe_base.proofs.Lists.{Each}
 
 pub done_same : {X : Type 0} (a b : X) → done a ≡ done b → a ≡ b
 done_same a b e = cc

@@ -3,15 +3,15 @@ use Rattle.std.proofs.Common.{◌≡◌, ℕ, ℤ, zero, suc, ◌+◌, ◌^◌, 
 use Rattle.std.proofs.lemmas.Bool.{ne_eqb}
 use Rattle.std.proofs.lemmas.List.FromFn.{length-map-range_with_len}
 use Rattle.std.specs.Option.{unwrap_or}
-use Rattle.std.specs.List.{range_with_len}
+use Rattle.std.specs.List.{range_with_len, AllByRecursion as Each}
 use Rattle.pe_base.specs.declared.place.Place.{Place}
 use Rattle.pe_base.specs.Tree.Places.{is_same}
 use Rattle.pe_base.specs.Acts.Effects.{VertexRecord}
 use Rattle.pe_base.specs.Walk.Maps.{at}
 use Rattle.pe_base.specs.Walk.Core.{Family, Own}
 use Rattle.pe_base.specs.Walk.Working.{Working, record_at, put_record, records_of, put_records_from, put_records, put_cell, cell_at, family_of, put_family, own_of, put_own}
-use Rattle.pe_base.proofs.Lists.{Each, map-map, map_same}
-use Rattle.pe_base.proofs.Steps.Counts.{is_same_itself}
+use Rattle.pe_base.proofs.Lists.{map-map, map_same}
+use Rattle.pe_base.proofs.Steps.VertexTouches.{is_same_itself}
 use Rattle.pe_base.proofs.Walk.MapLaws.{at-put}
 use Rattle.pe_base.proofs.Walk.Slots.{Slot, read, is_slot, slot_if, slot_of, is_hung, HangsSame, slot_of-same, hangs-write, put_record-is, record_at-is, write_all, SameBeside, beside-write_all, AreApart, read-write_all, read-write_all_other}
 use Rattle.pe_base.proofs.Walk.CellCorners.{corners_apart}

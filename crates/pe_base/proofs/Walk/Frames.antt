@@ -1,5 +1,6 @@
 -- What the walk of a cell leaves: above the cell's parent nothing changes, and beside the parent no hanging vertex comes or
 -- goes.
+use Rattle.std.specs.List.{AllByRecursion as Each}
 use Rattle.std.proofs.Common.{◌≡◌, ℕ, zero, suc, ◌+◌, ◌^◌, ◌<◌, ◌≤◌, ◌≢◌, Bool, true, false, ◌&&◌, ◌==◌, List, [], ◌∷◌, reverse, Option, Some, None, refl, sym, ap, subst, ◌∙◌, arith}
 use Rattle.std.specs.Prelude.{if◌then◌else◌, is_some, nat_lt}
 use Rattle.std.proofs.lemmas.Bool.{ne_eqb}
@@ -17,7 +18,7 @@ use Rattle.pe_base.specs.Walk.Core.{Setting, way, Family, Own, load_touch, store
 use Rattle.pe_base.specs.Walk.Working.{Working, vertex_at, put_vertex, cell_at, loads_of, loaded_again, record_at, put_record, records_of, put_records_from, put_cell, family_of, put_family, own_of, put_own}
 use Rattle.pe_base.specs.Walk.Touches.{tally_load, tally_store, tally_cell, kind_of_vertex, kind_of_children, within_limit, count_cell, put_loaded, after_load, load_corner, put_stored, after_store, store_corner, after_cell, enter_cell, put_left, leave_cell}
 use Rattle.pe_base.specs.Walk.Walk.{corner_numbers, around_below, if_walked, walk_cell}
-use Rattle.pe_base.proofs.Lists.{Each, Each-all, Each-map, Each-weaker}
+use Rattle.pe_base.proofs.Lists.{Each-all, Each-map, Each-weaker}
 use Rattle.pe_base.proofs.Walk.MapLaws.{is_key, found-changed, at-put, at-removed}
 use Rattle.pe_base.proofs.Walk.Slots.{write, slot_if, is_hung, hangs-write, put_record-is}
 use Rattle.pe_base.proofs.Walk.Courses.{Keeps, keeps-at_once, keeps-halts, keeps-map, keeps-then, keeps-each}

@@ -2,6 +2,7 @@
 --
 -- A slot is a stored vertex's, by its place, or a hanging vertex's, by its cell and corner number. All that one event sees
 -- lies in different slots.
+use Rattle.std.specs.List.{AllByRecursion as Each}
 use Rattle.std.proofs.Common.{◌≡◌, ℕ, Bool, true, false, ◌==◌, List, [], ◌∷◌, map, length, Option, Some, None, refl, sym, ap, subst, ◌∙◌, if◌then◌else◌, arith, is_some}
 use Rattle.std.specs.Option.{unwrap_or}
 use Rattle.pe_base.specs.declared.place.Place.{Place}
@@ -12,8 +13,7 @@ use Rattle.pe_base.specs.Walk.Working.{Working, no_vertex, vertex_at, put_vertex
 use Rattle.std.proofs.lemmas.Bool.{and_parts, eqb-true}
 use Rattle.std.specs.Cmp.Lexicographic.{pointwise, same_text}
 use Rattle.std.specs.Prelude.{nat_eq}
-use Rattle.pe_base.proofs.Lists.{Each}
-use Rattle.pe_base.proofs.Steps.Counts.{is_same_itself}
+use Rattle.pe_base.proofs.Steps.VertexTouches.{is_same_itself}
 use Rattle.pe_base.proofs.Walk.MapLaws.{is_key, found-changed, at-put}
 
 pub data Slot : Type 0 where

@@ -118,44 +118,44 @@ abbrev pub is_touched : ℕ → Way → ℕ → Place → Place → Bool
 is_touched axes way levels cell vertex = list_any (λ touch. is_same touch.vertex vertex) (loads axes way levels cell)
 
 -- a part of the walk, on one stack: what it takes off the top, what it puts there, and the vertices that it touches
-pub record Turn : Type 0 where
+pub record Stretch : Type 0 where
   pub takes : List Place
   pub gives : List Place
   pub touches : Place → Bool
 
--- Some turns on a stack, the top first: each finds what it takes on top, and leaves what is beneath as it was.
-abbrev pub Turns : List Turn → List Place → List Place → Type 0
-Turns [] before after = before ≡ after
-Turns (turn ∷ turns) before after = (beneath : List Place) × (before ≡ turn.takes ++ beneath) × Turns turns (turn.gives ++ beneath) after
+-- Some stretches on a stack, the top first: each finds what it takes on top, and leaves what is beneath as it was.
+abbrev pub Stretches : List Stretch → List Place → List Place → Type 0
+Stretches [] before after = before ≡ after
+Stretches (stretch ∷ stretches) before after = (beneath : List Place) × (before ≡ stretch.takes ++ beneath) × Stretches stretches (stretch.gives ++ beneath) after
 
 -- the same, where besides none of what is beneath is touched in that part of the walk
-abbrev pub TurnsApart : List Turn → List Place → List Place → Type 0
-TurnsApart [] before after = before ≡ after
-TurnsApart (turn ∷ turns) before after =
-    (beneath : List Place) × (before ≡ turn.takes ++ beneath) × (list_any turn.touches beneath ≡ false) × TurnsApart turns (turn.gives ++ beneath) after
+abbrev pub StretchesApart : List Stretch → List Place → List Place → Type 0
+StretchesApart [] before after = before ≡ after
+StretchesApart (stretch ∷ stretches) before after =
+    (beneath : List Place) × (before ≡ stretch.takes ++ beneath) × (list_any stretch.touches beneath ≡ false) × StretchesApart stretches (stretch.gives ++ beneath) after
 
--- What the walk of a cell does on one stack, by axis and parity. Each child in turn takes off what arrives in it, and
+-- What the walk of a cell does on one stack, by axis and parity. Each child in stretch takes off what arrives in it, and
 -- puts on what it leaves.
-abbrev pub child_turn : ℕ → Way → (Place → Bool) → ℕ → ℕ → ℕ → Place → Turn
-child_turn axes way counts levels axis parity child = record {
+abbrev pub child_stretch : ℕ → Way → (Place → Bool) → ℕ → ℕ → ℕ → Place → Stretch
+child_stretch axes way counts levels axis parity child = record {
   takes = arriving axes way counts levels (face_on axis parity child) child;
   gives = leaving axes way counts levels (face_on axis parity child) child;
   touches = is_touched axes way levels child;
 }
 
-abbrev pub child_turns : ℕ → Way → (Place → Bool) → ℕ → ℕ → ℕ → Place → List Turn
-child_turns axes way counts zero axis parity cell = []
-child_turns axes way counts (suc levels) axis parity cell = map (child_turn axes way counts levels axis parity) (children axes way cell)
+abbrev pub child_stretches : ℕ → Way → (Place → Bool) → ℕ → ℕ → ℕ → Place → List Stretch
+child_stretches axes way counts zero axis parity cell = []
+child_stretches axes way counts (suc levels) axis parity cell = map (child_stretch axes way counts levels axis parity) (children axes way cell)
 
 -- the cell takes off its own corners before, and puts on its own corners after
-abbrev pub corner_turn : ℕ → Way → Place → List Place → List Place → Turn
-corner_turn axes way cell takes gives = record { takes = takes; gives = gives; touches = is_touched axes way 0 cell }
+abbrev pub corner_stretch : ℕ → Way → Place → List Place → List Place → Stretch
+corner_stretch axes way cell takes gives = record { takes = takes; gives = gives; touches = is_touched axes way 0 cell }
 
-abbrev pub cell_turns : ℕ → Way → (Place → Bool) → ℕ → ℕ → ℕ → Place → List Turn
-cell_turns axes way counts levels axis parity cell =
-    corner_turn axes way cell (in_corners axes way counts (face_on axis parity cell) cell) []
-    ∷ child_turns axes way counts levels axis parity cell
-    ++ corner_turn axes way cell [] (out_corners axes way counts (face_on axis parity cell) cell) ∷ []
+abbrev pub cell_stretches : ℕ → Way → (Place → Bool) → ℕ → ℕ → ℕ → Place → List Stretch
+cell_stretches axes way counts levels axis parity cell =
+    corner_stretch axes way cell (in_corners axes way counts (face_on axis parity cell) cell) []
+    ∷ child_stretches axes way counts levels axis parity cell
+    ++ corner_stretch axes way cell [] (out_corners axes way counts (face_on axis parity cell) cell) ∷ []
 
 -- the cells for which a vertex is touched, in the order of the touches
 abbrev pub touched_for : Place → List Touch → List Place

@@ -1,6 +1,6 @@
--- Steps one after another: what they add, and how they end.
+-- Moves one after another: what they add, and how they end.
 --
--- A step adds text, and may log pushes on stacks. It is done with a result, or halts the walk, or is stuck, which no
+-- A move adds text, and may log pushes on stacks. It is done with a result, or halts the walk, or is stuck, which no
 -- walk ever is.
 use Rattle.std.specs.Prelude.{ℕ, Bool, List, [], ◌∷◌, ◌++◌}
 use Rattle.pe_base.specs.declared.place.Place.{Place}
@@ -55,7 +55,7 @@ module _ {X Y : Type 0} where
   abbrev pub course_map : (X → Y) → Course X → Course Y
   course_map f course = and_then course (λ x. at_once (f x))
 
--- one step for each item
+-- one move for each item
 abbrev pub each : {A X : Type 0} → (A → X → Course X) → List A → X → Course X
 each step [] x = at_once x
 each step (a ∷ as') x = and_then (step a x) (each step as')

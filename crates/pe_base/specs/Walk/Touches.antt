@@ -1,4 +1,4 @@
--- The steps of the walk by address: each finds what it needs in the working state, does what the core says, and puts it
+-- The moves of the walk by address: each finds what it needs in the working state, does what the core says, and puts it
 -- back.
 --
 -- A vertex that is stored is touched by each of the cells around it. The first touch is the one before which it was never

@@ -2,7 +2,7 @@
 use Rattle.std.proofs.Common.{◌≡◌, ℕ, ◌+◌, ◌-◌, ◌^◌, ◌<◌, ◌≤◌, ◌≢◌, Bool, true, false, not, ◌==◌, ◌||◌, List, [], ◌∷◌, map, refl, sym, ap, ap₂, ◌∙◌, inl, arith}
 use Rattle.std.specs.Prelude.{if◌then◌else◌}
 use Rattle.std.specs.Option.{unwrap_or}
-use Rattle.std.specs.List.{list_any, range_with_len}
+use Rattle.std.specs.List.{list_any, range_with_len, AllByRecursion as Each}
 use Rattle.std.proofs.lemmas.Bool.{eqb-true, eqb-false}
 use Rattle.pe_base.specs.declared.place.Place.{Place}
 use Rattle.pe_base.specs.declared.kind.Kind.TheVariants.{Kept, Born}
@@ -14,7 +14,6 @@ use Rattle.pe_base.specs.Walk.Maps.{at}
 use Rattle.pe_base.specs.Walk.Core.{Setting}
 use Rattle.pe_base.specs.Walk.Working.{Working, no_vertex, record_at, records_of}
 use Rattle.pe_base.specs.Walk.Touches.{kind_below, kind_of_children}
-use Rattle.pe_base.proofs.Lists.{Each}
 use Rattle.pe_base.proofs.Walk.Families.{Each-range}
 use Rattle.pe_base.proofs.Walk.Slots.{is_hung}
 use Rattle.pe_walk.specs.Tokens.{Outlook, Tokens}

@@ -1,13 +1,13 @@
 -- What has a carrier inside the root cube lies inside itself.
 use Rattle.std.proofs.Common.{◌≡◌, ℕ, zero, suc, ◌+◌, ◌-◌, ◌*◌, ◌/◌, ◌%◌, ◌^◌, ◌<◌, ◌≤◌, ◌≢◌, Bool, true, ◌&&◌, ◌==◌, List, [], ◌∷◌, map, length, take, drop, replicate, refl, sym, ap, ap₂, subst, ◌∙◌, inl, inr, arith, pow-suc, if◌then◌else◌}
 use Rattle.std.specs.Prelude.{nat_lt}
-use Rattle.std.specs.List.{list_all}
+use Rattle.std.specs.List.{list_all, AllByRecursion as Each}
 use Rattle.std.proofs.lemmas.Bool.{lt-ltb, ltb-true, eqb-true, eqb-false, cases_Bool, and_parts}
 use Rattle.pe_base.specs.declared.place.Place.{Place}
 use Rattle.pe_base.specs.Life.Kinds.{is_inside}
 use Rattle.pe_base.specs.Life.Carriers.{thirds, carrier_positions, carriers}
-use Rattle.pe_base.proofs.Lists.{Each, Each-map, Each-flat_map, Each-weaker}
-use Rattle.pe_base.proofs.Steps.Counts.{OnGrid}
+use Rattle.pe_base.proofs.Lists.{Each-map, Each-flat_map, Each-weaker}
+use Rattle.pe_base.proofs.Steps.VertexTouches.{OnGrid}
 
 -- along some axes a position is strictly between 0 and a bound
 abbrev is_between : ℕ → ℕ → List ℕ → Bool

@@ -2,7 +2,7 @@
 use Rattle.std.proofs.Common.{◌≡◌, ℕ, ℤ, ◌^◌, ◌≢◌, Bool, true, false, ◌&&◌, ◌==◌, List, [], ◌∷◌, map, length, Some, refl, sym, ap, ◌∙◌}
 use Rattle.std.specs.Prelude.{nat_eq, if◌then◌else◌}
 use Rattle.std.specs.Option.{unwrap_or}
-use Rattle.std.specs.List.{range_with_len}
+use Rattle.std.specs.List.{range_with_len, AllByRecursion as Each}
 use Rattle.std.specs.Cmp.Lexicographic.{pointwise}
 use Rattle.std.proofs.lemmas.Bool.{ne_eqb}
 use Rattle.std.proofs.Math.Bool.{and-false}
@@ -12,7 +12,7 @@ use Rattle.pe_base.specs.Acts.Effects.{VertexRecord}
 use Rattle.pe_base.specs.Walk.Maps.{at}
 use Rattle.pe_base.specs.Walk.Core.{Family}
 use Rattle.pe_base.specs.Walk.Working.{Working, cell_at, put_cell, record_at, records_of, put_records, put_family, own_of}
-use Rattle.pe_base.proofs.Lists.{Each, map_same, Each-all}
+use Rattle.pe_base.proofs.Lists.{map_same, Each-all}
 use Rattle.pe_base.proofs.Walk.MapLaws.{at-put}
 use Rattle.pe_base.proofs.Walk.Slots.{read, is_slot, slot_if, slot_of, is_hung, slot_of-same, record_at-is}
 use Rattle.pe_base.proofs.Walk.Families.{read-put_records, hangs-put_records, beside-put_records}

@@ -1,7 +1,7 @@
 -- A corner is loaded by model and machine alike.
 
 -- what a load does to places
-pub mod Places
+pub mod OnStacks
 -- what it puts under a place, or under a cell
 pub mod Records
 -- how the record comes to hand

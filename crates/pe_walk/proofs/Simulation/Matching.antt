@@ -1,9 +1,10 @@
--- Steps of a model and of a machine that match: they add one text, and end alike, where the machine is an image of the
+-- Alike of a model and of a machine that match: they add one text, and end alike, where the machine is an image of the
 -- model's state. What the machine logs has room.
+use Rattle.std.specs.List.{AllByRecursion as Each}
 use Rattle.std.proofs.Common.{◌≡◌, List, [], ◌∷◌, ◌++◌, refl, sym, ap, ap₂, subst, ◌∙◌, Option, Some, None}
 use Rattle.std.specs.Option.{option_and_then}
 use Rattle.std.proofs.lemmas.List.{append_assoc, append-nil}
-use Rattle.pe_base.proofs.Lists.{Each, Each-append}
+use Rattle.pe_base.proofs.Lists.{Each-append}
 pub use Rattle.pe_base.proofs.Walk.Courses.{done_same, mapped-done, then-done}
 use Rattle.pe_walk.specs.Tokens.{each_some}
 use Rattle.pe_base.specs.Walk.Course.{Ending, done, halts, stuck, Push, Course, ends, at_once, behind, from, and_then, course_map, each}
@@ -17,7 +18,7 @@ ending_map f stuck = stuck
 pub some_same : {X : Type 0} (a b : X) → Some a ≡ Some b → a ≡ b
 some_same a b e = cc
 
--- what tokens give in two steps
+-- what tokens give in two moves
 pub both_some : {T U : Type 0} (first : Option T) (next : T → Option U) (u : U) → option_and_then next first ≡ Some u → (t : T) × (first ≡ Some t) × (next t ≡ Some u)
 both_some None next u h = absurd cc
 both_some (Some t) next u h = (t, refl, h)
@@ -59,7 +60,7 @@ module _ (room : Push → Type 0) where
     from-matches f g (halts cause) em h next = subst (λ x. Matches image' (ends (halts cause)) (from x g)) (sym h) (record { text = refl; ending = refl; log = tt })
     from-matches f g stuck em h next = subst (λ x. Matches image' (ends stuck) (from x g)) (sym h) (record { text = refl; ending = refl; log = tt })
 
-    -- two steps that match, and then two that match from every result
+    -- two moves that match, and then two that match from every result
     pub then-matches : (model : Course W) (machine : Course M) (f : W → Course V) (g : M → Course N) → Matches image model machine
         → ((w : W) → model.ending ≡ done w → Matches image' (f w) (g (image w))) → Matches image' (and_then model f) (and_then machine g)
     then-matches model machine f g first next =
@@ -92,7 +93,7 @@ module _ (room : Push → Type 0) where
       go (halts cause) h = record { text = refl; ending = refl; log = logged [] refl }
       go stuck h = record { text = refl; ending = refl; log = logged [] refl }
 
-  -- one core, whose result is put back at once, and by a step that matches
+  -- one core, whose result is put back at once, and by a move that matches
   pub core-then-matches : {R W M : Type 0} (image : W → M) (core : Course R) (a : R → W) (b : R → Course M) → core.log ≡ [] → ((r : R) → core.ending ≡ done r → Matches image (at_once (a r)) (b r))
       → Matches image (course_map a core) (and_then core b)
   core-then-matches {R = R} image core a b silent same = go core.ending refl
@@ -105,17 +106,17 @@ module _ (room : Push → Type 0) where
       go (halts cause) h = record { text = refl; ending = refl; log = logged [] tt }
       go stuck h = record { text = refl; ending = refl; log = logged [] tt }
 
-  -- A step of the model, of the machine and of the tokens: where it holds and the tokens go on, model and machine match, and
+  -- A move of the model, of the machine and of the tokens: where it holds and the tokens go on, model and machine match, and
   -- what holds goes on.
-  pub record Steps {V U N : Type 0} (image' : V → U → N) (holds' : V → U → Type 0) (model : Course V) (machine : Course N) (t' : U) : Type 0 where
+  pub record Alike {V U N : Type 0} (image' : V → U → N) (holds' : V → U → Type 0) (model : Course V) (machine : Course N) (t' : U) : Type 0 where
     pub same : Matches (λ v. image' v t') model machine
     pub holds : (v : V) → model.ending ≡ done v → holds' v t'
 
   abbrev pub Sim : {W T M V U N : Type 0} → (W → T → Type 0) → (W → T → M) → (V → U → Type 0) → (V → U → N) → (W → Course V) → (M → Course N) → (T → Option U) → Type 0
   Sim {W} {T} {M} {V} {U} {N} holds image holds' image' model machine tokens =
-      (w : W) (t : T) (t' : U) → holds w t → tokens t ≡ Some t' → Steps image' holds' (model w) (machine (image w t)) t'
+      (w : W) (t : T) (t' : U) → holds w t → tokens t ≡ Some t' → Alike image' holds' (model w) (machine (image w t)) t'
 
-  -- steps one after another
+  -- moves one after another
   pub sim-then : {W T M V U N X S P : Type 0} (holds : W → T → Type 0) (image : W → T → M) (holds' : V → U → Type 0) (image' : V → U → N) (holds'' : X → S → Type 0) (image'' : X → S → P)
       (model : W → Course V) (machine : M → Course N) (tokens : T → Option U) (model' : V → Course X) (machine' : N → Course P) (tokens' : U → Option S)
       → Sim holds image holds' image' model machine tokens → Sim holds' image' holds'' image'' model' machine' tokens'
@@ -129,10 +130,10 @@ module _ (room : Push → Type 0) where
         holds = λ x e. let at = then-done (model w) model' x e in (next at.0 mid.0 t'' (one.holds at.0 at.1) mid.2).holds x at.2;
       }
 
-  -- a step that changes nothing
+  -- a move that changes nothing
   pub sim-nothing : {W T M : Type 0} (holds : W → T → Type 0) (image : W → T → M) → Sim holds image holds image (λ w. at_once w) (λ m. at_once m) (λ t. Some t)
   sim-nothing holds image w t t' h k =
-      subst (λ x. Steps image holds (at_once w) (at_once (image w t)) x) (some_same t t' k)
+      subst (λ x. Alike image holds (at_once w) (at_once (image w t)) x) (some_same t t' k)
       (record { same = record { text = refl; ending = refl; log = tt }; holds = λ v e. subst (λ x. holds x t) (done_same w v e) h })
 
   -- a machine that does the same with another image of the state
@@ -151,7 +152,7 @@ module _ (room : Push → Type 0) where
       let steps = sim w t t' (to w t h) k in
       record { same = steps.same; holds = λ v e. from_ v t' (steps.holds v e) }
 
-  -- a step for each item of a list, where what holds depends on the items that are left
+  -- a move for each item of a list, where what holds depends on the items that are left
   abbrev pub Along : {A W T M : Type 0} → (List A → W → T → Type 0) → (W → T → M) → (A → W → Course W) → (A → M → Course M) → (A → T → Option T) → List A → Type 0
   Along holds image model machine tokens [] = Unit {0}
   Along holds image model machine tokens (a ∷ items) =

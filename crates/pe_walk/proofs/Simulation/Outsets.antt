@@ -2,7 +2,7 @@
 use Rattle.std.proofs.Common.{◌≡◌, ℕ, zero, suc, ◌+◌, ◌-◌, ◌^◌, ◌<◌, ◌≤◌, Bool, true, false, not, ◌&&◌, ◌||◌, ◌==◌, Option, Some, None, refl, sym, ap, ap₂, subst, ◌∙◌, inl, inr, arith, is_some, true≢false, if◌then◌else◌}
 use Rattle.std.specs.Prelude.{nat_lt}
 use Rattle.std.specs.Option.{option_map, unwrap_or}
-use Rattle.std.specs.List.{list_any}
+use Rattle.std.specs.List.{list_any, AllByRecursion as Each}
 use Rattle.std.proofs.lemmas.Bool.{lt-ltb, ne_eqb}
 use Rattle.pe_base.specs.declared.place.Place.{Place}
 use Rattle.pe_base.specs.declared.state.State.TheVariants.{Unrefined}
@@ -19,14 +19,14 @@ use Rattle.pe_base.specs.Walk.Maps.{at}
 use Rattle.pe_base.specs.Walk.Core.{Setting, way}
 use Rattle.pe_base.specs.Walk.Grids.{Grid, StoredVertex, state_in, is_stored_vertex}
 use Rattle.pe_base.specs.Walk.Foreseen.{next_traversal, was, touched_state, will_on, will, kind_foreseen, old_foreseen, new_foreseen, below}
-use Rattle.pe_base.proofs.Lists.{Each, Each-weaker, Each-all, Each-In, list_any_none, list_any_same}
+use Rattle.pe_base.proofs.Lists.{Each-weaker, Each-all, Each-In, list_any_none, list_any_same}
 use Rattle.pe_walk.specs.Laws.{IsCell}
 use Rattle.pe_walk.specs.Outlooks.{outlook, was_stored}
 use Rattle.pe_walk.specs.Standing.{Foresight, IsForeseen, StartsFinest, Foresees}
 use Rattle.pe_walk.specs.Gridded.{IsTraversalOf}
 use Rattle.pe_base.specs.Tree.Curve.{order}
 use Rattle.pe_base.specs.Tree.Ways.{way_of}
-use Rattle.pe_base.proofs.Steps.Counts.{OnGrid}
+use Rattle.pe_base.proofs.Steps.VertexTouches.{OnGrid}
 use Rattle.pe_base.proofs.Steps.CornerPlaces.{corner_on_grid}
 use Rattle.pe_walk.proofs.GridCells.{was-from, will-from}
 use Rattle.pe_walk.proofs.Steps.{order_on_grid}

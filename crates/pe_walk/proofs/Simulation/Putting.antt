@@ -1,4 +1,5 @@
 -- What putting back the records in hand changes in the working state, and what it leaves.
+use Rattle.std.specs.List.{AllByRecursion as Each}
 use Rattle.std.proofs.Common.{◌≡◌, ℕ, ◌^◌, ◌<◌, ◌≤◌, Bool, true, false, List, [], ◌∷◌, map, length, Some, refl, ap, ◌∙◌, arith}
 use Rattle.std.specs.Prelude.{if◌then◌else◌, sum_by, count_by}
 use Rattle.std.specs.Option.{unwrap_or}
@@ -9,8 +10,8 @@ use Rattle.pe_base.specs.Acts.Effects.{VertexRecord}
 use Rattle.pe_base.specs.Walk.Maps.{at}
 use Rattle.pe_base.specs.Walk.Core.{Family}
 use Rattle.pe_base.specs.Walk.Working.{Working, cell_at, put_cell, put_records, family_of, put_family}
-use Rattle.pe_base.proofs.Lists.{Each, map_same}
-use Rattle.pe_base.proofs.Steps.Counts.{is_same_itself}
+use Rattle.pe_base.proofs.Lists.{map_same}
+use Rattle.pe_base.proofs.Steps.VertexTouches.{is_same_itself}
 use Rattle.pe_base.proofs.Walk.MapLaws.{at-put}
 use Rattle.pe_base.proofs.Walk.Slots.{Slot, stored, hangs, write, is_slot, slot_if, is_hung, write_all}
 use Rattle.pe_base.proofs.Walk.Families.{slots, slots_from, put_records-is, hangs-put_records, beside-put_records, family_of-put_family, Each-slots}

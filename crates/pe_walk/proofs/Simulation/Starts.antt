@@ -29,10 +29,10 @@ use Rattle.pe_walk.specs.CellsAhead.{times, cells_below}
 use Rattle.pe_walk.specs.Laws.{IsCell}
 use Rattle.pe_walk.specs.Outlooks.{outlook, stored_outlook, stored_walked, IsNew}
 use Rattle.pe_walk.specs.Standing.{Outset, Stage, IsOutset, Foresees, Stands, Fair, Owes, Holds}
-use Rattle.pe_walk.specs.Gridded.{IsTraversalOf, MayTurn}
+use Rattle.pe_walk.specs.Gridded.{IsTraversalOf, MachineMayTraverse}
 use Rattle.pe_base.specs.Tree.Ways.{way_of}
 use Rattle.pe_base.specs.Walk.Foreseen.{next_traversal, walked}
-use Rattle.pe_base.proofs.Steps.Counts.{is_same_itself}
+use Rattle.pe_base.proofs.Steps.VertexTouches.{is_same_itself}
 use Rattle.pe_base.proofs.Lists.{map_same, Each-all, Each-weaker, Each-filter}
 use Rattle.pe_base.proofs.Walk.MapLaws.{at-put}
 use Rattle.pe_base.proofs.Walk.MapLaws.{found-turned_by}
@@ -108,7 +108,7 @@ stored_walks grid swapped old x some =
     let up = grown.walks_within (parent_of x) (ap (λ b. b || goes_below grid (parent_of x)) (sym (ne_eqb x.level 0 (λ e. absurd (let deep = place.1 in omega (arith, e, deep))))) ∙ walked_so) in
     walked_here (stored_outlook grid swapped) (stored_walked grid) grid.greatest old.axes grown x place.0 walked_so (let deep = place.1 in omega (arith, up, deep))
 
-module _ {Plan : Type 0} (set : Setting Plan) (grid : Grid) (swapped : Bool) (m : Machine) (may : MayTurn set grid swapped m) where
+module _ {Plan : Type 0} (set : Setting Plan) (grid : Grid) (swapped : Bool) (m : Machine) (may : MachineMayTraverse set grid swapped m) where
   abbrev o : Outlook
   o = outlook set.start_level grid swapped
 

@@ -3,7 +3,7 @@
 -- the last store of a vertex
 pub mod Lasts
 -- what it does to the places
-pub mod Places
+pub mod OnStacks
 -- after it the places stand well, and counts stay small
 pub mod Standing
 -- where the place of the vertex goes

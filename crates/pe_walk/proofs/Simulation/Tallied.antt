@@ -1,7 +1,7 @@
 -- The tally of the walk by address is the one that is foreseen.
 
 -- each step
-pub mod Steps
+pub mod Parts
 -- the walk of a cell
 pub mod Walks
 -- depots that have counted alike

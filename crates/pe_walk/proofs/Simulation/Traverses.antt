@@ -1,7 +1,7 @@
 -- A traversal of the machine is the walk by address.
 use Rattle.std.proofs.Common.{◌≡◌, ℕ, suc, ◌+◌, ◌-◌, ◌^◌, ◌≤◌, Bool, true, List, [], ◌∷◌, ◌++◌, map, length, Some, refl, sym, ap, subst, ◌∙◌, arith, if◌then◌else◌}
 use Rattle.std.specs.Option.{unwrap_or}
-use Rattle.std.specs.List.{range_with_len}
+use Rattle.std.specs.List.{range_with_len, AllByRecursion as Each}
 use Rattle.std.proofs.Math.Nat.{mul-le-mul_left}
 use Rattle.std.proofs.lemmas.Bool.{ne_eqb}
 use Rattle.std.proofs.lemmas.List.{append-nil}
@@ -18,8 +18,7 @@ use Rattle.pe_base.specs.Walk.Grids.{Grid}
 use Rattle.pe_base.specs.Walk.Foreseen.{walked}
 use Rattle.pe_base.specs.Walk.Working.{Working, cell_at, records_of, record_at, begun as begun_of, ended as ended_of}
 use Rattle.pe_base.specs.Walk.Walk as model
-use Rattle.pe_base.proofs.Lists.{Each}
-use Rattle.pe_base.proofs.Steps.Counts.{is_same_itself}
+use Rattle.pe_base.proofs.Alike.VertexTouches.{is_same_itself}
 use Rattle.pe_base.proofs.Walk.MapLaws.{at-put}
 use Rattle.pe_base.proofs.Tree.PlaceLaws.{few_corners}
 use Rattle.pe_stacks.specs.Holdings.{Holdings, len_at, lent}
@@ -35,7 +34,7 @@ use Rattle.pe_walk.specs.Takings.{HasTraversed}
 use Rattle.pe_walk.specs.Outlooks.{outlook}
 use Rattle.pe_walk.specs.Standing.{Outset, Holds, HasRoom}
 use Rattle.pe_walk.specs.CellsAhead.{times}
-use Rattle.pe_walk.specs.Gridded.{MayTurn, HasTurned, EndAlike, IsShort, IsWalked, ports_of}
+use Rattle.pe_walk.specs.Gridded.{MachineMayTraverse, MachineHasTraversed, EndAlike, IsShort, IsWalked, ports_of}
 use Rattle.pe_walk.proofs.Tests.{some_power, times_one}
 use Rattle.pe_walk.proofs.Tokens.Short.{stacks_are_short}
 use Rattle.pe_walk.proofs.Tokens.Apart.{map_some}
@@ -56,7 +55,7 @@ lent-image f (k ∷ ks) held lent_all none some = ap (map_holdings f) (some k ks
 
 -- what a course ends in, where it ends in what is put back in two ways
 pub end-alike : {W : Type 0} (swapped : Bool) (room : Push → Type 0) (image : W → Machine) (course : Course W) (machine : Course Machine) (after : W → Grid × Tally) (close : Machine → Course Machine)
-    → Fits course → Matches room image course machine → ((w : W) → course.ending ≡ done w → (m : Machine) × (close (image w) ≡ at_once m) × HasTurned swapped (after w) m)
+    → Fits course → Matches room image course machine → ((w : W) → course.ending ≡ done w → (m : Machine) × (close (image w) ≡ at_once m) × MachineHasTraversed swapped (after w) m)
     → ((and_then machine close).text ≡ (course_map after course).text) × EndAlike swapped (course_map after course).ending (and_then machine close).ending × Each room (and_then machine close).log
 end-alike {W = W} swapped room image course machine after close fits same closes = go course.ending refl fits machine.ending same.ending
   where
@@ -72,7 +71,7 @@ end-alike {W = W} swapped room image course machine after close fits same closes
         (ap (λ x. x ++ []) same.text, refl, subst (λ x. Each room x) (sym (append-nil machine.log)) same.log)
     go stuck p fit em q = absurd cc
 
-module _ {Plan : Type 0} (set : Setting Plan) (grid : Grid) (swapped : Bool) (m : Machine) (may : MayTurn set grid swapped m) where
+module _ {Plan : Type 0} (set : Setting Plan) (grid : Grid) (swapped : Bool) (m : Machine) (may : MachineMayTraverse set grid swapped m) where
   abbrev e : Outset
   e = outset_of set grid swapped m
 
@@ -164,7 +163,7 @@ module _ {Plan : Type 0} (set : Setting Plan) (grid : Grid) (swapped : Bool) (m 
   Closes room = (w : Working) (t : Tokens) → Holds set (outset_of set grid swapped m) (at_root set (outset_of set grid swapped m) room []) w t
       → HasTraversed (outlook set.start_level grid swapped) grid.greatest (tokens_of grid swapped m) (ended (outlook set.start_level grid swapped) t)
       → (after : Machine) × (machine.give_up_all set (ports_of swapped) (records_of set.axes w root) (with_parents [] (image_of set (outset_of set grid swapped m) root w t)) ≡ at_once after)
-      × HasTurned swapped (ended_of w grid, w.tally) after
+      × MachineHasTraversed swapped (ended_of w grid, w.tally) after
 
   -- each push leaves its stack short
   room_of : HasRoom set (outset_of set grid swapped m) (IsShort set grid swapped)

@@ -1,4 +1,5 @@
 -- A place that counts is on one stack once, or held, or nowhere.
+use Rattle.std.specs.List.{AllByRecursion as Each}
 use Rattle.std.proofs.Common.{◌≡◌, ◌≢◌, ◌⊎◌, inl, inr, ℕ, zero, suc, ◌+◌, ◌-◌, ◌^◌, ◌<◌, ◌≤◌, Bool, true, false, cond, ◌&&◌, ◌==◌, List, [], ◌∷◌, map, filter, length, set, get_or, drop, Option, Some, None, refl, sym, ap, ap₂, ◌∙◌, subst, arith}
 use Rattle.std.specs.Prelude.{nat_lt, is_none, if◌then◌else◌, sum_by, count_by}
 use Rattle.std.specs.Option.{option_map}
@@ -13,9 +14,9 @@ use Rattle.pe_base.specs.Tree.Places.{root, is_same}
 use Rattle.pe_base.specs.Steps.Around.{around}
 use Rattle.pe_base.specs.Steps.Routes.{stack_in}
 use Rattle.pe_base.specs.Steps.Faces.{Touch}
-use Rattle.pe_base.proofs.Lists.{Each, Each-all, Each-weaker, Each-filter, In, filter-map, filter-filter, filter_same, filter_none}
+use Rattle.pe_base.proofs.Lists.{Each-all, Each-weaker, Each-filter, In, filter-map, filter-filter, filter_same, filter_none}
 use Rattle.pe_base.proofs.Tree.Ranks.{Rising, Rising-above, rank, rank_of, top, around_rises, is_same-true, same_places}
-use Rattle.pe_base.proofs.Steps.Counts.{same_itself}
+use Rattle.pe_base.proofs.Steps.VertexTouches.{same_itself}
 use Rattle.pe_base.proofs.Faces.Quiet.{false_unless}
 use Rattle.pe_stacks.specs.Holdings.{Holdings, Stack, new_stack, stack_count, stack_at, items_at, lent, given_up, pushed, popped, pushed_on, popped_from}
 use Rattle.pe_stacks.specs.Grid.{input_stack}

@@ -8,7 +8,7 @@ use Rattle.pe_base.specs.declared.place.Place.{Place}
 use Rattle.pe_base.specs.Tree.Places.{root, is_same}
 use Rattle.pe_base.specs.Tree.Curve.{children}
 use Rattle.pe_base.specs.Walk.Streams.{if_walks, walked_children, walked_cells}
-use Rattle.pe_base.proofs.Steps.Counts.{is_same_itself}
+use Rattle.pe_base.proofs.Steps.VertexTouches.{is_same_itself}
 use Rattle.pe_base.proofs.Faces.Quiet.{false_unless}
 use Rattle.pe_base.proofs.Tree.Ranks.{same_places}
 use Rattle.pe_stacks.specs.Holdings.{Holdings, stack_count, stack_at, pushed, pushed_on}
@@ -21,7 +21,7 @@ use Rattle.pe_walk.proofs.Trees.{root_is_cell}
 use Rattle.pe_walk.proofs.Tokens.Dues.{root_walks}
 use Rattle.pe_walk.proofs.Tokens.Keeping.{given_some}
 use Rattle.pe_walk.proofs.Tokens.Apart.{one_if, there, set_past, lies_only}
-use Rattle.pe_walk.proofs.Tokens.StepFrames.{pushed_once, store_by, after_load, after_enter}
+use Rattle.pe_walk.proofs.Tokens.MoveFrames.{pushed_once, store_by, after_load, after_enter}
 use Rattle.pe_walk.proofs.Tokens.CountLists.{count-cons, count-append}
 use Rattle.pe_walk.proofs.Tokens.CellsApart.{walked_cells_differ}
 use Rattle.pe_walk.proofs.Tokens.Bounds.{few_cell_input_stacks}

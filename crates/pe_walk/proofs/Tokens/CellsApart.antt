@@ -1,16 +1,16 @@
 -- The cells of a walk differ: each lies below just one child of each cell above it.
 use Rattle.std.proofs.Common.{◌≡◌, ℕ, zero, suc, ◌+◌, ◌-◌, ◌<◌, ◌≤◌, Bool, true, false, List, [], ◌∷◌, refl, sym, ap, ap₂, ◌∙◌, subst, true≢false, arith}
-use Rattle.std.specs.List.{flat_map}
+use Rattle.std.specs.List.{flat_map, AllByRecursion as Each}
 use Rattle.pe_base.specs.declared.place.Place.{Place}
 use Rattle.pe_base.specs.declared.way.Way.{Way}
 use Rattle.pe_base.specs.Tree.Places.{parent_of, is_same}
 use Rattle.pe_base.specs.Tree.Curve.{digit_lists, children}
 use Rattle.pe_base.specs.Walk.Streams.{if_walks, walked_cells}
-use Rattle.pe_base.proofs.Lists.{Each, Each-weaker, Each-map, Each-flat_map}
+use Rattle.pe_base.proofs.Lists.{Each-weaker, Each-map, Each-flat_map}
 use Rattle.pe_base.proofs.Tree.Mirrors.{Digits3, digit_lists_below}
 use Rattle.pe_base.proofs.Tree.Children.{child_of, children_are}
 use Rattle.pe_base.proofs.Tree.Ranks.{Rising, Rising-above, rank, rank_of, thirds-child, children_rise, is_same-true, same_places}
-use Rattle.pe_base.proofs.Steps.Counts.{is_same_itself}
+use Rattle.pe_base.proofs.Steps.VertexTouches.{is_same_itself}
 use Rattle.pe_base.proofs.Faces.Quiet.{false_unless}
 use Rattle.pe_walk.specs.Laws.{IsCell}
 use Rattle.pe_walk.specs.Tokens.{Outlook}

@@ -1,9 +1,9 @@
 -- Counts over lists made from others.
 use Rattle.std.proofs.Common.{◌≡◌, ℕ, ◌+◌, ◌≤◌, Bool, true, false, not, cond, ◌&&◌, List, [], ◌∷◌, ◌++◌, map, filter, reverse, length, refl, ap, ◌∙◌, arith}
 use Rattle.std.specs.Prelude.{sum_by, count_by}
-use Rattle.std.specs.List.{flat_map}
+use Rattle.std.specs.List.{flat_map, AllByRecursion as Each}
 use Rattle.std.proofs.lemmas.List.Sums.{sum_by-cons, sum_by-append}
-use Rattle.pe_base.proofs.Lists.{Each, reverse-cons}
+use Rattle.pe_base.proofs.Lists.{reverse-cons}
 use Rattle.pe_walk.proofs.Tokens.Apart.{one_if}
 
 pub count-cons : {X : Type 0} (p : X → Bool) (x : X) (xs : List X) → count_by p (x ∷ xs) ≡ one_if (p x) + count_by p xs

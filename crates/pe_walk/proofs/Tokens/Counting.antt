@@ -13,7 +13,7 @@ use Rattle.pe_base.specs.Steps.Routes.{axis_of, waiting_stack, stack_in, stack_o
 use Rattle.pe_base.proofs.Lists.{Each-weaker, Each-In, In, In-map, list_any_none}
 use Rattle.pe_base.proofs.Tree.Ranks.{Rising, rank, rank_of, top, around_rises, is_same-true}
 use Rattle.pe_base.proofs.Tree.Corners.{same_tests}
-use Rattle.pe_base.proofs.Steps.Counts.{is_same_itself, other_back, later_steps}
+use Rattle.pe_base.proofs.Steps.VertexTouches.{is_same_itself, other_back, later_steps}
 use Rattle.pe_walk.specs.Tokens.{before}
 use Rattle.pe_walk.specs.Apart.{CornersByCounting}
 use Rattle.pe_walk.proofs.Outlooks.{around_corners, in_range}

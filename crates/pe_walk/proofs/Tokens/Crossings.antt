@@ -2,7 +2,7 @@
 use Rattle.std.proofs.Common.{◌≡◌, ◌≢◌, inl, inr, ℕ, ◌+◌, ◌*◌, ◌%◌, ◌^◌, ◌<◌, ◌≤◌, Bool, true, false, cond, ◌&&◌, ◌==◌, List, [], ◌∷◌, map, filter, length, slice_index, Option, Some, None, refl, sym, ap, ap₂, ◌∙◌, subst, true≢false, arith}
 use Rattle.std.specs.Prelude.{is_none, if◌then◌else◌, sum_by, count_by}
 use Rattle.std.specs.Option.{option_map}
-use Rattle.std.specs.List.{flat_map}
+use Rattle.std.specs.List.{flat_map, AllByRecursion as Each}
 use Rattle.std.proofs.lemmas.List.{take_all}
 use Rattle.std.proofs.lemmas.List.Sums.{sum_by-cons, length-filter}
 use Rattle.std.proofs.lemmas.Bool.{and_parts, eq-eqb, ne_eqb, eqb-true}
@@ -15,8 +15,8 @@ use Rattle.pe_base.specs.Steps.Around.{around, steps, crossings}
 use Rattle.pe_base.specs.Steps.Routes.{axis_of, waiting_stack, stack_in}
 use Rattle.pe_base.specs.Steps.Faces.{Touch, steps_to}
 use Rattle.pe_base.specs.Steps.Stacks.{is_stack}
-use Rattle.pe_base.proofs.Lists.{Each, Each-all, Each-weaker, Each-map, Each-filter, In, filter_same, filter-filter}
-use Rattle.pe_base.proofs.Steps.Counts.{is_same_itself, steps_to_cells}
+use Rattle.pe_base.proofs.Lists.{Each-all, Each-weaker, Each-map, Each-filter, In, filter_same, filter-filter}
+use Rattle.pe_base.proofs.Steps.VertexTouches.{is_same_itself, steps_to_cells}
 use Rattle.pe_base.proofs.Steps.Turned.{find_none, find_first, one_step_to}
 use Rattle.pe_base.proofs.Steps.SlowerLaws.{length-around, crossings-count}
 use Rattle.pe_base.proofs.Tree.Ranks.{same_places}
@@ -33,7 +33,7 @@ use Rattle.pe_walk.proofs.Tokens.Streams.{fits_turned}
 use Rattle.pe_walk.proofs.Tokens.DepotCounts.{count_none}
 use Rattle.pe_walk.proofs.Tokens.CountLists.{count-flat_map, count-reverse, count-map, count-both, count-not}
 use Rattle.pe_walk.proofs.Tokens.Traffic.{loads_length}
-use Rattle.pe_walk.proofs.Tokens.Short.{sum-both, sum-same, sum-times, turn_same, touches_of}
+use Rattle.pe_walk.proofs.Tokens.Short.{sum-both, sum-same, sum-times, is_same-symmetric, touches_of}
 use Rattle.pe_walk.proofs.Tests.{and_twice, some_power}
 
 -- each touch that passes a test is of one of the places
@@ -104,7 +104,7 @@ module _ (o : Outlook) (walked : Place → Bool) (greatest : ℕ) (dim : IsDim o
       ∙ sum-same (λ t. one_if (takes_from o s t)) (λ t. one_if (is_stack s (stack_in o.axes o.way v t.cell))) here
       (Each-weaker _ _ (λ t h. ap one_if (from_axis t (same_places v t.vertex h.1))) here (Each-filter (λ t. Unit {0}) (λ t. is_same v t.vertex) all (Each-all _ (λ t. tt) all)))
       ∙ sym (count-map (λ cell. is_stack s (stack_in o.axes o.way v cell)) (λ t. t.cell) here)
-      ∙ ap (λ ts. count_by (λ cell. is_stack s (stack_in o.axes o.way v cell)) (map (λ t. t.cell) ts)) (filter_same (λ t. is_same v t.vertex) (λ t. is_same t.vertex v) all (Each-all _ (λ t. turn_same v t.vertex) all))
+      ∙ ap (λ ts. count_by (λ cell. is_stack s (stack_in o.axes o.way v cell)) (map (λ t. t.cell) ts)) (filter_same (λ t. is_same v t.vertex) (λ t. is_same t.vertex v) all (Each-all _ (λ t. is_same-symmetric v t.vertex) all))
       ∙ ap (count_by (λ cell. is_stack s (stack_in o.axes o.way v cell))) (loaded_around o walked greatest dim grown v c)
       ∙ steps_on o.axes o.way v axis parity dim.1 a b (grown.is_walk.inside v c)
     where

@@ -1,4 +1,5 @@
 -- The counts of a depot after each step.
+use Rattle.std.specs.List.{AllByRecursion as Each}
 use Rattle.std.proofs.Common.{◌≡◌, inl, inr, ℕ, zero, suc, ◌+◌, ◌-◌, ◌<◌, ◌≤◌, Bool, true, false, cond, ◌==◌, List, [], ◌∷◌, length, Option, Some, None, refl, sym, ap, ◌∙◌, subst, arith}
 use Rattle.std.specs.Prelude.{max, is_none, count_by}
 use Rattle.std.proofs.lemmas.List.{get_or-set_same, get_or-set_other}
@@ -6,8 +7,7 @@ use Rattle.std.proofs.lemmas.List.Sums.{sum_by-cons}
 use Rattle.std.proofs.lemmas.Bool.{ne_eqb, cases_eq}
 use Rattle.pe_base.specs.declared.place.Place.{Place}
 use Rattle.pe_base.specs.Steps.Stacks.{is_stack}
-use Rattle.pe_base.proofs.Lists.{Each}
-use Rattle.pe_base.proofs.Steps.Counts.{same_itself}
+use Rattle.pe_base.proofs.Steps.VertexTouches.{same_itself}
 use Rattle.pe_stacks.specs.Holdings.{Holdings, Stack, new_stack, stack_count, stack_at, items_at, lent, given_up, pushed, popped, pushed_on, popped_from}
 use Rattle.pe_walk.specs.Tokens.{is_top, given, taken, put, lent_for, given_up_for}
 use Rattle.pe_walk.proofs.Tokens.Stacks.{is_stack_of, popped_count, pushed_count}

@@ -1,11 +1,11 @@
 -- How deep the walk of a cell goes.
 use Rattle.std.proofs.Common.{◌≡◌, ℕ, zero, suc, ◌+◌, ◌-◌, ◌≤◌, List, [], ◌∷◌, ◌∙◌, arith}
 use Rattle.std.specs.Prelude.{max}
-use Rattle.std.specs.List.{flat_map}
+use Rattle.std.specs.List.{flat_map, AllByRecursion as Each}
 use Rattle.pe_base.specs.declared.place.Place.{Place}
 use Rattle.pe_base.specs.Tree.Curve.{children}
 use Rattle.pe_base.specs.Walk.Streams.{walked_children, walked_cells}
-use Rattle.pe_base.proofs.Lists.{Each, Each-all}
+use Rattle.pe_base.proofs.Lists.{Each-all}
 use Rattle.pe_walk.specs.Tokens.{Outlook}
 use Rattle.pe_walk.specs.Traffic.{tallest, height}
 use Rattle.pe_walk.specs.Tallies.{deepest_of}

@@ -1,7 +1,7 @@
 -- Each load of a walk of the whole tree is due: the cells around its vertex that come before were met, and no others.
 use Rattle.std.proofs.Common.{◌≡◌, ℕ, zero, suc, ◌+◌, ◌^◌, ◌<◌, ◌≤◌, Bool, true, false, cond, ◌&&◌, List, [], ◌∷◌, ◌++◌, map, filter, reverse, drop, length, refl, sym, ap, ap₂, ◌∙◌, subst, true≢false, inl, arith}
 use Rattle.std.specs.Prelude.{if◌then◌else◌}
-use Rattle.std.specs.List.{flat_map, range_with_len, Contains}
+use Rattle.std.specs.List.{flat_map, range_with_len, Contains, AllByRecursion as Each}
 use Rattle.std.proofs.lemmas.List.Elements.{filter-append}
 use Rattle.std.proofs.Math.Nat.{pow-le-pow_right}
 use Rattle.std.proofs.Math.Bool.{and_comm}
@@ -12,10 +12,10 @@ use Rattle.pe_base.specs.Tree.Curve.{children}
 use Rattle.pe_base.specs.Steps.Around.{around}
 use Rattle.pe_base.specs.Steps.Faces.{Touch, corner_touches, loads, touched_for}
 use Rattle.pe_base.specs.Walk.Streams.{if_walks}
-use Rattle.pe_base.proofs.Lists.{Each, Each-all, Each-weaker, Each-map, Each-reverse, flat_map_none, filter_none, filter-filter, filter_same, filter-map, filter-flat_map, filter_all}
+use Rattle.pe_base.proofs.Lists.{Each-all, Each-weaker, Each-map, Each-reverse, flat_map_none, filter_none, filter-filter, filter_same, filter-map, filter-flat_map, filter_all}
 use Rattle.pe_base.proofs.Tree.CurveLaws.{length-children}
 use Rattle.pe_base.proofs.Tree.Ranks.{Rising, rank, rank_of, top, around_rises, is_same-true, same_places}
-use Rattle.pe_base.proofs.Steps.Counts.{is_same_itself, loaded_for_around}
+use Rattle.pe_base.proofs.Steps.VertexTouches.{is_same_itself, loaded_for_around}
 use Rattle.pe_base.proofs.Faces.Quiet.{false_unless}
 use Rattle.pe_walk.specs.Laws.{IsCell}
 use Rattle.pe_walk.specs.Tokens.{Outlook, before, one_more}

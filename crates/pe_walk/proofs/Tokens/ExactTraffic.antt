@@ -19,7 +19,7 @@ use Rattle.pe_base.specs.Steps.Stacks.{is_stack}
 use Rattle.pe_base.specs.Walk.Working.{no_tally}
 use Rattle.pe_base.specs.Walk.Streams.{if_walks, walked_cells}
 use Rattle.pe_base.proofs.Lists.{Each-all, Each-weaker}
-use Rattle.pe_base.proofs.Steps.Counts.{same_itself}
+use Rattle.pe_base.proofs.Steps.VertexTouches.{same_itself}
 use Rattle.pe_base.proofs.Steps.Turned.{stack-opposite}
 use Rattle.pe_stacks.specs.Holdings.{stack_at}
 use Rattle.pe_stacks.specs.Grid.{input_stack, output_stack, cell_input_stack, cell_output_stack}

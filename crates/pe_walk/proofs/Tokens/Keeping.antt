@@ -1,10 +1,11 @@
 -- What each step keeps, the walk of a cell keeps.
+use Rattle.std.specs.List.{AllByRecursion as Each}
 use Rattle.std.proofs.Common.{◌≡◌, ℕ, zero, suc, ◌^◌, ◌<◌, ◌≤◌, Bool, true, false, not, List, [], ◌∷◌, reverse, Option, Some, refl, subst}
 use Rattle.std.specs.Prelude.{if◌then◌else◌}
 use Rattle.std.proofs.lemmas.Option.{option_and_then_some}
 use Rattle.pe_base.specs.declared.place.Place.{Place}
 use Rattle.pe_base.specs.Tree.Curve.{children}
-use Rattle.pe_base.proofs.Lists.{Each, Each-all, Each-weaker, Each-reverse}
+use Rattle.pe_base.proofs.Lists.{Each-all, Each-weaker, Each-reverse}
 use Rattle.pe_walk.specs.Laws.{IsCell}
 use Rattle.pe_walk.specs.Tokens.{Outlook, Tokens, given, each_some, load, store, enter, leave, numbers, around_below, walk}
 use Rattle.pe_walk.proofs.Unwalked.{in_contains}

@@ -1,8 +1,9 @@
 -- The loads of a cell's corners take what comes off all stacks at once, and its stores put on what goes.
+use Rattle.std.specs.List.{AllByRecursion as Each}
 use Rattle.std.proofs.Common.{◌≡◌, ℕ, ◌+◌, ◌-◌, ◌<◌, ◌≤◌, inl, inr, Bool, true, false, cond, ◌&&◌, List, [], ◌∷◌, ◌++◌, map, filter, reverse, Option, Some, None, refl, sym, ap, ◌∙◌, subst, append_assoc, arith}
 use Rattle.std.proofs.lemmas.List.{map-append}
 use Rattle.std.proofs.lemmas.List.Elements.{filter-append}
-use Rattle.pe_base.proofs.Lists.{Each, reverse-cons}
+use Rattle.pe_base.proofs.Lists.{reverse-cons}
 use Rattle.std.specs.Prelude.{nat_lt, if◌then◌else◌}
 use Rattle.std.specs.Option.{option_map, option_and_then}
 use Rattle.std.proofs.lemmas.Bool.Decides.{nat_tests}
@@ -11,7 +12,7 @@ use Rattle.pe_base.specs.declared.place.Place.{Place}
 use Rattle.pe_base.specs.Tree.Places.{is_same}
 use Rattle.pe_base.specs.Steps.Faces.{Touch}
 use Rattle.pe_base.specs.Steps.Stacks.{is_stack}
-use Rattle.pe_base.proofs.Steps.Counts.{is_same_itself}
+use Rattle.pe_base.proofs.Steps.VertexTouches.{is_same_itself}
 use Rattle.pe_stacks.specs.Holdings.{Holdings, stack_count, items_at, lent, given_up, pushed, popped}
 use Rattle.pe_walk.specs.Tokens.{Outlook, Tokens, one_more, one_less, cells_before, is_top, given, each_some, taken, put, source, target, touch_of, load_it, load, store_it, store}
 use Rattle.pe_walk.specs.Takings.{met_more, met_after, Due}

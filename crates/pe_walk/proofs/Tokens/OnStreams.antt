@@ -1,5 +1,6 @@
 -- What is in the streams that a traversal reads: each vertex that counts, and each cell that is walked, where it is read. So
 -- each vertex that counts is loaded first once.
+use Rattle.std.specs.List.{AllByRecursion as Each}
 use Rattle.std.proofs.Common.{◌≡◌, ℕ, ◌+◌, ◌≤◌, Bool, true, false, cond, ◌&&◌, ◌==◌, List, [], ◌∷◌, map, filter, length, refl, sym, ap, ap₂, ◌∙◌, subst, inl, inr, true≢false, arith}
 use Rattle.std.specs.Prelude.{is_none, if◌then◌else◌}
 use Rattle.pe_base.specs.declared.place.Place.{Place}
@@ -9,8 +10,8 @@ use Rattle.pe_base.specs.Steps.Around.{around}
 use Rattle.pe_base.specs.Steps.Routes.{stack_in}
 use Rattle.pe_base.specs.Steps.Faces.{Touch}
 use Rattle.pe_base.specs.Walk.Streams.{walked_cells}
-use Rattle.pe_base.proofs.Lists.{Each, Each-filter, Each-weaker, Each-In, In, filter_none}
-use Rattle.pe_base.proofs.Steps.Counts.{is_same_itself}
+use Rattle.pe_base.proofs.Lists.{Each-filter, Each-weaker, Each-In, In, filter_none}
+use Rattle.pe_base.proofs.Steps.VertexTouches.{is_same_itself}
 use Rattle.pe_base.proofs.Steps.SlowerLaws.{length-around}
 use Rattle.pe_base.proofs.Tree.Ranks.{same_places}
 use Rattle.pe_walk.specs.Laws.{IsCell}

@@ -1,7 +1,7 @@
 -- What the walk of a cell does on one stack: what the cell's own corners take and give there, and its walked children.
 use Rattle.std.proofs.Common.{◌≡◌, ◌≢◌, ℕ, suc, ◌*◌, ◌/◌, ◌%◌, ◌^◌, ◌<◌, ◌≤◌, ◌⊎◌, inl, inr, Bool, true, false, ◌&&◌, ◌==◌, List, [], ◌∷◌, ◌++◌, map, filter, reverse, Option, Some, None, refl, sym, ap, ap₂, ◌∙◌, subst, append-nil, append_assoc, arith}
 use Rattle.std.specs.Prelude.{nat_lt, if◌then◌else◌, is_none}
-use Rattle.std.specs.List.{flat_map, Contains}
+use Rattle.std.specs.List.{flat_map, Contains, AllByRecursion as Each}
 use Rattle.std.proofs.lemmas.List.{map-append}
 use Rattle.std.proofs.lemmas.List.Elements.{filter-append}
 use Rattle.std.proofs.lemmas.List.Concat.{flat_map-append}
@@ -11,13 +11,13 @@ use Rattle.pe_base.specs.declared.place.Place.{Place}
 use Rattle.pe_base.specs.Tree.Places.{IsPosition}
 use Rattle.pe_base.specs.Tree.Curve.{children}
 use Rattle.pe_base.specs.Steps.Routes.{stack_in}
-use Rattle.pe_base.specs.Steps.Faces.{Touch, Turn, Turns, arriving, leaving, face_on, stack_of, corner_touches, child_turn, corner_turn, in_corners, out_corners}
+use Rattle.pe_base.specs.Steps.Faces.{Touch, Stretch, Stretches, arriving, leaving, face_on, stack_of, corner_touches, child_stretch, corner_stretch, in_corners, out_corners}
 use Rattle.pe_base.specs.Steps.Stacks.{is_stack, comes_by, on_stack}
 use Rattle.pe_base.specs.Walk.Streams.{if_walks, walked_children}
-use Rattle.pe_base.proofs.Lists.{Each, Each-all, Each-map, Each-weaker, Each-reverse, reverse-cons, flat_map_same, flat_map_none, filter_same, filter-flat_map, map-flat_map}
+use Rattle.pe_base.proofs.Lists.{Each-all, Each-map, Each-weaker, Each-reverse, reverse-cons, flat_map_same, flat_map_none, filter_same, filter-flat_map, map-flat_map}
 use Rattle.pe_base.proofs.Tree.Corners.{IsBits, bit_lists, bit_lists_below, touch_at, corner_touches_are}
 use Rattle.pe_base.proofs.Steps.Turned.{stack-opposite}
-use Rattle.pe_base.proofs.Faces.Composition.{composes_any, Turns-split}
+use Rattle.pe_base.proofs.Faces.Composition.{composes_any, Stretches-split}
 use Rattle.pe_base.proofs.Faces.Bridge.{one_across, come_by_faces, corner_at}
 use Rattle.pe_base.proofs.Faces.TurnedLists.{leaving-opposite}
 use Rattle.pe_stacks.specs.Grid.{input_stack, output_stack}
@@ -43,25 +43,25 @@ pub each_corner : (axes : ℕ) (cell : Place) (P : Touch → Type 0) → axes �
 each_corner axes cell P four h = Each-reverse P (corner_touches axes cell)
     (subst (Each P) (sym (corner_touches_are axes cell four)) (Each-map P (touch_at cell) (bit_lists axes) (Each-weaker (IsBits axes) (λ bs. P (touch_at cell bs)) h (bit_lists axes) (bit_lists_below axes))))
 
-turn_same : (f g : Place → Turn) → ((c : Place) → (f c).takes ≡ (g c).takes) → ((c : Place) → (f c).gives ≡ (g c).gives) → (cs before after : List Place) → Turns (map f cs) before after → Turns (map g cs) before after
-turn_same f g h k [] before after s = s
-turn_same f g h k (c ∷ cs) before after s = (s.0, s.1 ∙ ap (λ xs. xs ++ s.0) (h c), subst (λ xs. Turns (map g cs) (xs ++ s.0) after) (k c) (turn_same f g h k cs ((f c).gives ++ s.0) after s.2))
+stretches_same : (f g : Place → Stretch) → ((c : Place) → (f c).takes ≡ (g c).takes) → ((c : Place) → (f c).gives ≡ (g c).gives) → (cs before after : List Place) → Stretches (map f cs) before after → Stretches (map g cs) before after
+stretches_same f g h k [] before after s = s
+stretches_same f g h k (c ∷ cs) before after s = (s.0, s.1 ∙ ap (λ xs. xs ++ s.0) (h c), subst (λ xs. Stretches (map g cs) (xs ++ s.0) after) (k c) (stretches_same f g h k cs ((f c).gives ++ s.0) after s.2))
 
--- turns that only take, and turns that only give
-pub take_all : (f : Place → Turn) (cs z : List Place) → Each (λ c. (f c).gives ≡ []) cs → Turns (map f cs) (flat_map (λ c. (f c).takes) cs ++ z) z
+-- stretches that only take, and stretches that only give
+pub take_all : (f : Place → Stretch) (cs z : List Place) → Each (λ c. (f c).gives ≡ []) cs → Stretches (map f cs) (flat_map (λ c. (f c).takes) cs ++ z) z
 take_all f [] z e = refl
 take_all f (c ∷ cs) z e = (
   flat_map (λ c. (f c).takes) cs ++ z,
   append_assoc (f c).takes (flat_map (λ c. (f c).takes) cs) z,
-  subst (λ xs. Turns (map f cs) (xs ++ (flat_map (λ c. (f c).takes) cs ++ z)) z) (sym e.0) (take_all f cs z e.1),
+  subst (λ xs. Stretches (map f cs) (xs ++ (flat_map (λ c. (f c).takes) cs ++ z)) z) (sym e.0) (take_all f cs z e.1),
 )
 
-pub give_all : (f : Place → Turn) (cs z : List Place) → Each (λ c. (f c).takes ≡ []) cs → Turns (map f cs) z (flat_map (λ c. (f c).gives) (reverse cs) ++ z)
+pub give_all : (f : Place → Stretch) (cs z : List Place) → Each (λ c. (f c).takes ≡ []) cs → Stretches (map f cs) z (flat_map (λ c. (f c).gives) (reverse cs) ++ z)
 give_all f [] z e = refl
 give_all f (c ∷ cs) z e = (
   z,
   ap (λ xs. xs ++ z) (sym e.0),
-  subst (Turns (map f cs) ((f c).gives ++ z)) (sym (ap (λ xs. flat_map (λ c. (f c).gives) xs ++ z) (reverse-cons c cs) ∙ ap (λ xs. xs ++ z) (flat_map-append (λ c. (f c).gives) (reverse cs) (c ∷ []) ∙ ap (λ xs. flat_map (λ c. (f c).gives) (reverse cs) ++ xs) (append-nil (f c).gives))
+  subst (Stretches (map f cs) ((f c).gives ++ z)) (sym (ap (λ xs. flat_map (λ c. (f c).gives) xs ++ z) (reverse-cons c cs) ∙ ap (λ xs. xs ++ z) (flat_map-append (λ c. (f c).gives) (reverse cs) (c ∷ []) ∙ ap (λ xs. flat_map (λ c. (f c).gives) (reverse cs) ++ xs) (append-nil (f c).gives))
       ∙ append_assoc (flat_map (λ c. (f c).gives) (reverse cs)) (f c).gives z)) (give_all f cs ((f c).gives ++ z) e.1),
 )
 
@@ -144,17 +144,17 @@ own_gives o four s cell is =
     ap (map (λ t. t.vertex)) (filter_same (gives_by o s) (takes_by (turned o) s) (reverse (corner_touches o.axes cell)) (Each-all _ (λ t. gives_by-turned o four s t) (reverse (corner_touches o.axes cell))))
     ∙ own_takes (turned o) four s cell is ∙ sym (gives-turned o four 0 s cell)
 
--- the turn of a child on a stack
-abbrev pub token_turn : Outlook → ℕ → ℕ → Place → Turn
-token_turn o levels s child = record { takes = takes o levels s child; gives = gives o levels s child; touches = λ place. false }
+-- the stretch of a child on a stack
+abbrev pub token_stretch : Outlook → ℕ → ℕ → Place → Stretch
+token_stretch o levels s child = record { takes = takes o levels s child; gives = gives o levels s child; touches = λ place. false }
 
 -- what the walk of a cell does on one stack: its own corners before and after, and in between what is walked below it
-pub record Passage (o : Outlook) (levels s : ℕ) (cell : Place) (turn : Place → Turn) (kids beneath : List Place) : Type 0 where
+pub record Passage (o : Outlook) (levels s : ℕ) (cell : Place) (stretch : Place → Stretch) (kids beneath : List Place) : Type 0 where
   pub inner : List Place
   pub outer : List Place
   pub own_takes : takes o levels s cell ++ beneath ≡ takes o 0 s cell ++ inner
   pub own_gives : gives o levels s cell ++ beneath ≡ gives o 0 s cell ++ outer
-  pub turns : Turns (map turn kids) inner outer
+  pub stretches : Stretches (map stretch kids) inner outer
 
 gives-axes : (o : Outlook) → o.axes ≤ 4 → (levels s : ℕ) (cell : Place) → s < 2 * o.axes → gives o levels s cell ≡ leaving o.axes o.way o.counts levels (face_on (s / 2) (s % 2) cell) cell
 gives-axes o four levels s cell h = gives-turned o four levels s cell ∙ takes-axes (turned o) four levels s cell h ∙ sym (leaving-opposite o.axes o.way o.counts levels (face_on (s / 2) (s % 2) cell) cell)
@@ -175,19 +175,19 @@ module _ (o : Outlook) (walked : Place → Bool) (walk : IsWalk o.axes o.way wal
   kids = walked_children o.axes o.way o.walks cell
 
   -- on a stack of the axes
-  on_axes : (levels s : ℕ) (beneath : List Place) → s < 2 * o.axes → (b : Bool) → o.walks cell ≡ b → Passage o (suc levels) s cell (token_turn o levels s) (if_walks o.axes o.way o.walks b (children o.axes o.way cell)) beneath
+  on_axes : (levels s : ℕ) (beneath : List Place) → s < 2 * o.axes → (b : Bool) → o.walks cell ≡ b → Passage o (suc levels) s cell (token_stretch o levels s) (if_walks o.axes o.way o.walks b (children o.axes o.way cell)) beneath
   on_axes levels s beneath h true e =
       let face = face_on (s / 2) (s % 2) cell in
       let at = λ (z : List Place). takes-axes o dim.1 0 s cell h in
-      let turns = composes_any o.axes o.way o.counts (suc levels) (s / 2) (s % 2) cell dim.1 (omega arith) (cell_four o.axes o.way cell dim.1 is_cell) (contains_in _ cell is_cell) beneath in
-      let parts = Turns-split (map (child_turn o.axes o.way o.counts levels (s / 2) (s % 2)) (children o.axes o.way cell)) (corner_turn o.axes o.way cell [] (out_corners o.axes o.way o.counts face cell) ∷ []) turns.0 (leaving o.axes o.way o.counts (suc levels) face cell ++ beneath) turns.2 in
+      let stretches = composes_any o.axes o.way o.counts (suc levels) (s / 2) (s % 2) cell dim.1 (omega arith) (cell_four o.axes o.way cell dim.1 is_cell) (contains_in _ cell is_cell) beneath in
+      let parts = Stretches-split (map (child_stretch o.axes o.way o.counts levels (s / 2) (s % 2)) (children o.axes o.way cell)) (corner_stretch o.axes o.way cell [] (out_corners o.axes o.way o.counts face cell) ∷ []) stretches.0 (leaving o.axes o.way o.counts (suc levels) face cell ++ beneath) stretches.2 in
       record {
-        inner = turns.0;
+        inner = stretches.0;
         outer = parts.2.0;
-        own_takes = ap (λ xs. xs ++ beneath) (takes-axes o dim.1 (suc levels) s cell h) ∙ turns.1 ∙ ap (λ xs. xs ++ turns.0) (sym (takes-axes o dim.1 0 s cell h));
+        own_takes = ap (λ xs. xs ++ beneath) (takes-axes o dim.1 (suc levels) s cell h) ∙ stretches.1 ∙ ap (λ xs. xs ++ stretches.0) (sym (takes-axes o dim.1 0 s cell h));
         own_gives = ap (λ xs. xs ++ beneath) (gives-axes o dim.1 (suc levels) s cell h) ∙ sym parts.2.2 ∙ ap (λ xs. xs ++ parts.2.0) (sym (gives-axes o dim.1 0 s cell h));
-        turns = turn_same (child_turn o.axes o.way o.counts levels (s / 2) (s % 2)) (token_turn o levels s) (λ c. sym (takes-axes o dim.1 levels s c h)) (λ c. sym (gives-axes o dim.1 levels s c h)) (children o.axes o.way cell) turns.0 parts.2.0
-            (subst (Turns (map (child_turn o.axes o.way o.counts levels (s / 2) (s % 2)) (children o.axes o.way cell)) turns.0) parts.2.1 parts.1);
+        stretches = stretches_same (child_stretch o.axes o.way o.counts levels (s / 2) (s % 2)) (token_stretch o levels s) (λ c. sym (takes-axes o dim.1 levels s c h)) (λ c. sym (gives-axes o dim.1 levels s c h)) (children o.axes o.way cell) stretches.0 parts.2.0
+            (subst (Stretches (map (child_stretch o.axes o.way o.counts levels (s / 2) (s % 2)) (children o.axes o.way cell)) stretches.0) parts.2.1 parts.1);
       }
   on_axes levels s beneath h false e =
       let face = face_on (s / 2) (s % 2) cell in
@@ -197,11 +197,11 @@ module _ (o : Outlook) (walked : Place → Bool) (walk : IsWalk o.axes o.way wal
         outer = beneath;
         own_takes = ap (λ xs. xs ++ beneath) (takes-axes o dim.1 (suc levels) s cell h ∙ leaf.0 ∙ sym (takes-axes o dim.1 0 s cell h));
         own_gives = ap (λ xs. xs ++ beneath) (gives-axes o dim.1 (suc levels) s cell h ∙ leaf.1 ∙ sym (gives-axes o dim.1 0 s cell h));
-        turns = refl;
+        stretches = refl;
       }
 
   -- and behind them
-  off_axes : (levels s : ℕ) (beneath : List Place) → 2 * o.axes ≤ s → (s ≡ output_stack o.swapped) ⊎ (s ≢ output_stack o.swapped) → Passage o (suc levels) s cell (token_turn o levels s) kids beneath
+  off_axes : (levels s : ℕ) (beneath : List Place) → 2 * o.axes ≤ s → (s ≡ output_stack o.swapped) ⊎ (s ≢ output_stack o.swapped) → Passage o (suc levels) s cell (token_stretch o levels s) kids beneath
   off_axes levels s beneath h (inl e) =
       let k : s ≢ input_stack o.swapped = λ i. two_streams o.swapped (sym i ∙ e) in
       record {
@@ -209,17 +209,17 @@ module _ (o : Outlook) (walked : Place → Bool) (walk : IsWalk o.axes o.way wal
         outer = flat_map (gives o levels s) (reverse kids) ++ beneath;
         own_takes = ap (λ xs. xs ++ beneath) (takes-none o dim.1 (suc levels) s cell h k ∙ sym (takes-none o dim.1 0 s cell h k));
         own_gives = ap (λ xs. xs ++ beneath) (gives-split o dim.1 levels s cell h) ∙ append_assoc (gives o 0 s cell) (flat_map (gives o levels s) (reverse kids)) beneath;
-        turns = give_all (token_turn o levels s) kids beneath (Each-all _ (λ c. takes-none o dim.1 levels s c h k) kids);
+        stretches = give_all (token_stretch o levels s) kids beneath (Each-all _ (λ c. takes-none o dim.1 levels s c h k) kids);
       }
   off_axes levels s beneath h (inr k) = record {
     inner = flat_map (takes o levels s) kids ++ beneath;
     outer = beneath;
     own_takes = ap (λ xs. xs ++ beneath) (takes-split o dim.1 levels s cell h) ∙ append_assoc (takes o 0 s cell) (flat_map (takes o levels s) kids) beneath;
     own_gives = ap (λ xs. xs ++ beneath) (gives-none o dim.1 (suc levels) s cell h k ∙ sym (gives-none o dim.1 0 s cell h k));
-    turns = take_all (token_turn o levels s) kids beneath (Each-all _ (λ c. gives-none o dim.1 levels s c h k) kids);
+    stretches = take_all (token_stretch o levels s) kids beneath (Each-all _ (λ c. gives-none o dim.1 levels s c h k) kids);
   }
 
-  pub passage : (levels s : ℕ) (beneath : List Place) → Passage o (suc levels) s cell (token_turn o levels s) kids beneath
+  pub passage : (levels s : ℕ) (beneath : List Place) → Passage o (suc levels) s cell (token_stretch o levels s) kids beneath
   passage levels s beneath = elim (cases_lt s (2 * o.axes)) [
     | inl h ↦ on_axes levels s beneath h (o.walks cell) refl
     | inr h ↦ off_axes levels s beneath h (cases_eq s (output_stack o.swapped))

@@ -1,7 +1,7 @@
 -- Vertices that count are at most as many as the walked cells, and so no stack is longer.
 use Rattle.std.proofs.Common.{◌≡◌, inl, inr, ℕ, zero, suc, ◌+◌, ◌-◌, ◌*◌, ◌^◌, ◌≤◌, Bool, true, false, ◌==◌, List, [], ◌∷◌, ◌++◌, filter, reverse, length, get_or, Option, Some, None, refl, sym, ap, ◌∙◌, subst, true≢false, arith}
 use Rattle.std.specs.Prelude.{nat_lt, if◌then◌else◌, sum_by, count_by}
-use Rattle.std.specs.List.{AllByRecursion, flat_map}
+use Rattle.std.specs.List.{flat_map, AllByRecursion as Each}
 use Rattle.std.proofs.lemmas.List.{length-map, length-append, length-reverse}
 use Rattle.std.proofs.lemmas.List.Sums.{sum_by-cons, length-filter}
 use Rattle.std.proofs.Math.Nat.{le_of_mul-le-mul_left, mul-suc, mul-zero}
@@ -12,8 +12,8 @@ use Rattle.pe_base.specs.Tree.Places.{root, is_same}
 use Rattle.pe_base.specs.Tree.Curve.{children}
 use Rattle.pe_base.specs.Steps.Faces.{Touch, corner_touches}
 use Rattle.pe_base.specs.Walk.Streams.{if_walks, walked_children, walked_loads, walked_cells}
-use Rattle.pe_base.proofs.Lists.{Each, Each-all, Each-weaker, Each-map, Each-filter, filter_same}
-use Rattle.pe_base.proofs.Steps.Counts.{is_same_itself}
+use Rattle.pe_base.proofs.Lists.{Each-all, Each-weaker, Each-map, Each-filter, filter_same}
+use Rattle.pe_base.proofs.Steps.VertexTouches.{is_same_itself}
 use Rattle.pe_base.proofs.Faces.Quiet.{false_unless}
 use Rattle.pe_base.proofs.Steps.SlowerLaws.{length-around}
 use Rattle.pe_base.proofs.Tree.Ranks.{same_places}
@@ -60,8 +60,8 @@ each_touch_once places once (t ∷ touches) =
       sum-same (λ p. count_by (λ u. is_same p u.vertex) (t ∷ touches)) (λ p. one_if (is_same p t.vertex) + count_by (λ u. is_same p u.vertex) touches) places (Each-all _ (λ p. sum_by-cons (λ u. one_if (is_same p u.vertex)) t touches) places),
     )
 
-pub turn_same : (a b : Place) → is_same a b ≡ is_same b a
-turn_same a b = go (is_same a b) refl
+pub is_same-symmetric : (a b : Place) → is_same a b ≡ is_same b a
+is_same-symmetric a b = go (is_same a b) refl
   where
     go : (c : Bool) → is_same a b ≡ c → is_same a b ≡ is_same b a
     go true e = e ∙ sym (ap (λ z. is_same b z) (same_places a b e) ∙ is_same_itself b)
@@ -73,7 +73,7 @@ touches_of o walked greatest dim grown p c =
     sym (length-around o.axes o.way p dim.1 (grown.is_walk.inside p c))
     ∙ ap length (sym (loaded_around o walked greatest dim grown p c))
     ∙ length-map (filter (λ t. is_same t.vertex p) (loads_of o greatest root)) (λ t. t.cell)
-    ∙ ap length (filter_same (λ t. is_same t.vertex p) (λ t. is_same p t.vertex) (loads_of o greatest root) (Each-all _ (λ t. turn_same t.vertex p) (loads_of o greatest root)))
+    ∙ ap length (filter_same (λ t. is_same t.vertex p) (λ t. is_same p t.vertex) (loads_of o greatest root) (Each-all _ (λ t. is_same-symmetric t.vertex p) (loads_of o greatest root)))
     ∙ length-filter (λ t. is_same p t.vertex) (loads_of o greatest root)
 
 -- the loads of a traversal are those of the root's corners, and 2^d for each cell below
@@ -119,7 +119,7 @@ few_vertices o walked greatest places dim grown once counting =
 -- all places of each stack count
 module _ (o : Outlook) where
   abbrev Counting : List Place → Type 0
-  Counting xs = AllByRecursion (λ place. o.counts place ≡ true) xs
+  Counting xs = Each (λ place. o.counts place ≡ true) xs
 
   popped_counting : (held : Holdings Place) (w : ℕ) → ((s : ℕ) → Counting (items_at held s)) → (x : Place) (xs : List Place) → items_at held w ≡ x ∷ xs → (s : ℕ) → Counting (items_at (popped held w) s)
   popped_counting held w only x xs e s = elim (cases_eq s w) [
@@ -206,17 +206,17 @@ stacks_are_short o walked greatest t dim grown apart only s = few_vertices o wal
     once q true c = omega (arith, one_of_all (there q) t.vertices.stacks s new_stack refl, apart.once q c)
     once q false c = omega (arith, count_none (λ other. is_same other q) (items_at t.vertices s) (none (items_at t.vertices s) (only s)))
       where
-        none : (xs : List Place) → AllByRecursion (λ place. o.counts place ≡ true) xs → Each (λ x. is_same x q ≡ false) xs
+        none : (xs : List Place) → Each (λ place. o.counts place ≡ true) xs → Each (λ x. is_same x q ≡ false) xs
         none [] e = tt
         none (x ∷ xs) e = (false_unless (is_same x q) (λ k. absurd (true≢false (sym e.0 ∙ ap o.counts (same_places x q k) ∙ c))), none xs e.1)
 
 pub begins_counting : BeginsCounting
-begins_counting o greatest t may s = subst (AllByRecursion (λ place. o.counts place ≡ true)) (sym (lent_items (numbers o) t.vertices s ∙ may.reads_vertices s)) (go (s == input_stack o.swapped))
+begins_counting o greatest t may s = subst (Each (λ place. o.counts place ≡ true)) (sym (lent_items (numbers o) t.vertices s ∙ may.reads_vertices s)) (go (s == input_stack o.swapped))
   where
-    reads : AllByRecursion (λ place. o.counts place ≡ true) (reads_of o greatest root)
+    reads : Each (λ place. o.counts place ≡ true) (reads_of o greatest root)
     reads = Each-map (λ place. o.counts place ≡ true) (λ t. t.vertex) (filter (is_read o) (loads_of o greatest root))
         (Each-weaker _ (λ t. o.counts t.vertex ≡ true) (λ t h. (and_parts (o.counts t.vertex) _ h.1).0) (filter (is_read o) (loads_of o greatest root)) (Each-filter (λ t. Unit {0}) (is_read o) (loads_of o greatest root) (Each-all _ (λ t. tt) (loads_of o greatest root))))
 
-    go : (b : Bool) → AllByRecursion (λ place. o.counts place ≡ true) (if b then reads_of o greatest root else [])
+    go : (b : Bool) → Each (λ place. o.counts place ≡ true) (if b then reads_of o greatest root else [])
     go true = reads
     go false = tt

@@ -4,7 +4,7 @@ use Rattle.std.proofs.lemmas.Bool.{and_parts}
 use Rattle.std.proofs.lemmas.List.Elements.{All-from_recursion}
 use Rattle.std.proofs.Math.Bool.{and_assoc}
 use Rattle.std.specs.Prelude.{is_none}
-use Rattle.std.specs.List.{flat_map}
+use Rattle.std.specs.List.{flat_map, AllByRecursion as Each}
 use Rattle.pe_base.specs.declared.place.Place.{Place}
 use Rattle.pe_base.specs.declared.way.Way.{Way}
 use Rattle.pe_base.specs.Tree.Dim.{IsDim}
@@ -15,7 +15,7 @@ use Rattle.pe_base.specs.Steps.Around.{around}
 use Rattle.pe_base.specs.Steps.Routes.{stack_in}
 use Rattle.pe_base.specs.Steps.Faces.{Touch, loads}
 use Rattle.pe_base.specs.Walk.Streams.{if_walks, walked_cells}
-use Rattle.pe_base.proofs.Lists.{Each, Each-all, Each-weaker, Each-reverse, Each-flat_map, Each-In, flat_map_none, flat_map_same, filter_same, filter-filter, filter-flat_map}
+use Rattle.pe_base.proofs.Lists.{Each-all, Each-weaker, Each-reverse, Each-flat_map, Each-In, flat_map_none, flat_map_same, filter_same, filter-filter, filter-flat_map}
 use Rattle.pe_base.proofs.Steps.Turned.{around-opposite}
 use Rattle.pe_base.proofs.Faces.Quiet.{false_unless}
 use Rattle.pe_base.proofs.Faces.Waits.{Touched, loads_touched}

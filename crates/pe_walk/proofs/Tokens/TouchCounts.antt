@@ -2,7 +2,7 @@
 use Rattle.std.proofs.Common.{◌≡◌, inl, inr, ℕ, zero, suc, ◌+◌, ◌*◌, ◌^◌, ◌<◌, ◌≤◌, Bool, true, false, not, ◌&&◌, List, [], ◌∷◌, reverse, Option, Some, None, refl, sym, ap, ◌∙◌, arith}
 use Rattle.std.proofs.lemmas.Bool.{ne_eqb}
 use Rattle.std.specs.Prelude.{is_none, count_by}
-use Rattle.std.specs.List.{flat_map, range_with_len}
+use Rattle.std.specs.List.{flat_map, range_with_len, AllByRecursion as Each}
 use Rattle.pe_base.specs.declared.place.Place.{Place}
 use Rattle.pe_base.specs.Tree.Dim.{IsDim}
 use Rattle.pe_base.specs.Tree.Places.{corner}
@@ -11,8 +11,8 @@ use Rattle.pe_base.specs.Steps.Routes.{stack_in, stack_out}
 use Rattle.pe_base.specs.Steps.Faces.{Touch, stack_of, corner_touches}
 use Rattle.pe_base.specs.Steps.Stacks.{is_stack}
 use Rattle.pe_base.specs.Walk.Streams.{walked_children, walked_cells}
-use Rattle.pe_base.proofs.Lists.{Each, Each-all, Each-weaker, Each-append, Each-map, Each-reverse, Each-flat_map}
-use Rattle.pe_base.proofs.Steps.Counts.{same_itself}
+use Rattle.pe_base.proofs.Lists.{Each-all, Each-weaker, Each-append, Each-map, Each-reverse, Each-flat_map}
+use Rattle.pe_base.proofs.Steps.VertexTouches.{same_itself}
 use Rattle.pe_stacks.specs.Grid.{input_stack, output_stack}
 use Rattle.pe_walk.specs.Laws.{IsCell}
 use Rattle.pe_walk.specs.Tokens.{Outlook, given, first_of, touch_of}

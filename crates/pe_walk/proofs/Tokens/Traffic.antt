@@ -1,7 +1,7 @@
 -- What the walk over places moves, makes and gives up.
 use Rattle.std.proofs.Common.{◌≡◌, ◌⊎◌, inl, inr, ℕ, zero, suc, ◌+◌, ◌-◌, ◌*◌, ◌^◌, ◌<◌, ◌≤◌, Bool, true, false, not, cond, ◌&&◌, List, [], ◌∷◌, ◌++◌, map, reverse, length, Option, Some, None, refl, sym, ap, ap₂, ◌∙◌, subst, append-nil, length-append, arith}
 use Rattle.std.specs.Prelude.{max, nat_lt, is_none, if◌then◌else◌, count_by}
-use Rattle.std.specs.List.{flat_map, range_with_len}
+use Rattle.std.specs.List.{flat_map, range_with_len, AllByRecursion as Each}
 use Rattle.std.proofs.lemmas.List.{length-reverse, length-map}
 use Rattle.pe_base.specs.Tree.Places.{corner}
 use Rattle.std.proofs.lemmas.List.Sums.{sum_by-append, sum_by-cons, count_by-le-length}
@@ -14,7 +14,6 @@ use Rattle.pe_base.specs.Tree.Curve.{children}
 use Rattle.pe_base.specs.Steps.Faces.{Touch, corner_touches}
 use Rattle.pe_base.specs.Steps.Stacks.{is_stack}
 use Rattle.pe_base.specs.Walk.Streams.{if_walks, walked_children, walked_cells}
-use Rattle.pe_base.proofs.Lists.{Each}
 use Rattle.pe_stacks.specs.Holdings.{stack_count, stack_at, lent, given_up}
 use Rattle.pe_walk.specs.Laws.{IsCell}
 use Rattle.pe_walk.specs.Tokens.{Outlook, Tokens, given, each_some, taken, put, source, target, cell_source, cell_target, one_less, touch_of, load_it, load, store_it, store, enter, numbers, around_below, walk}

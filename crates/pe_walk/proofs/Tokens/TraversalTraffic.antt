@@ -1,7 +1,7 @@
 -- What a traversal over places moves, makes and gives up.
 use Rattle.std.proofs.Common.{◌≡◌, ℕ, suc, ◌+◌, ◌-◌, ◌*◌, ◌^◌, ◌≤◌, Bool, true, false, not, cond, ◌&&◌, List, ◌++◌, reverse, length, get_or, Some, sym, ap, ap₂, ◌∙◌, subst, arith}
 use Rattle.std.specs.Prelude.{max, is_none, count_by}
-use Rattle.std.specs.List.{flat_map}
+use Rattle.std.specs.List.{flat_map, AllByRecursion as Each}
 use Rattle.std.proofs.lemmas.List.{length-reverse, reverse-reverse}
 use Rattle.pe_base.specs.Tree.Places.{root}
 use Rattle.std.proofs.lemmas.List.Sums.{sum_by-append}
@@ -13,7 +13,7 @@ use Rattle.pe_base.specs.Tree.Curve.{children}
 use Rattle.pe_base.specs.Steps.Faces.{Touch, corner_touches}
 use Rattle.pe_base.specs.Steps.Stacks.{is_stack}
 use Rattle.pe_base.specs.Walk.Streams.{if_walks, walked_children}
-use Rattle.pe_base.proofs.Lists.{Each, Each-weaker, Each-reverse}
+use Rattle.pe_base.proofs.Lists.{Each-weaker, Each-reverse}
 use Rattle.pe_stacks.specs.Holdings.{new_stack, stack_count}
 use Rattle.pe_walk.specs.Tokens.{Outlook, Tokens, each_some, source, target, numbers, begun, ended, walk, traverse}
 use Rattle.pe_walk.specs.Takings.{loads_of, stores_of, Grown}

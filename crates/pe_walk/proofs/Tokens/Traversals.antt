@@ -2,7 +2,7 @@
 use Rattle.std.proofs.Common.{◌≡◌, ℕ, zero, suc, ◌+◌, ◌-◌, ◌*◌, ◌/◌, ◌%◌, ◌^◌, ◌<◌, ◌≤◌, Bool, true, false, cond, ◌&&◌, ◌==◌, List, [], ◌∷◌, ◌++◌, map, filter, reverse, length, drop, slice_index, Some, refl, sym, ap, ◌∙◌, subst, true≢false, append-nil, arith}
 use Rattle.std.specs.Prelude.{nat_lt, if◌then◌else◌}
 use Rattle.std.specs.Option.{option_map}
-use Rattle.std.specs.List.{flat_map, range_with_len}
+use Rattle.std.specs.List.{flat_map, range_with_len, AllByRecursion as Each}
 use Rattle.std.proofs.lemmas.Bool.Decides.{nat_tests}
 use Rattle.std.proofs.lemmas.List.{get_or-set_same}
 use Rattle.pe_base.specs.declared.place.Place.{Place}
@@ -11,10 +11,10 @@ use Rattle.pe_base.specs.Tree.Dim.{IsDim}
 use Rattle.pe_base.specs.Tree.Places.{IsInside, root, corner, is_same}
 use Rattle.pe_base.specs.Tree.Curve.{children}
 use Rattle.pe_base.specs.Steps.Around.{around}
-use Rattle.pe_base.specs.Steps.Faces.{Face, IsFace, facing, ShareFace, Touch, Turns, across, beside, face_on, arriving, leaving, corner_touches, touched_for}
+use Rattle.pe_base.specs.Steps.Faces.{Face, IsFace, facing, ShareFace, Touch, Stretches, across, beside, face_on, arriving, leaving, corner_touches, touched_for}
 use Rattle.pe_base.specs.Steps.Stacks.{on_stack}
 use Rattle.pe_base.specs.Walk.Streams.{if_walks, walked_children}
-use Rattle.pe_base.proofs.Lists.{Each, Each-all, Each-weaker, Each-map, Each-reverse, filter_none}
+use Rattle.pe_base.proofs.Lists.{Each-all, Each-weaker, Each-map, Each-reverse, filter_none}
 use Rattle.pe_base.proofs.Faces.Quiet.{false_unless}
 use Rattle.pe_base.proofs.Faces.Bridge.{apart}
 use Rattle.pe_base.proofs.Tree.Ranks.{same_places}
@@ -27,8 +27,8 @@ use Rattle.pe_walk.specs.TokenLaws.{WalkOfACell, LoadsAreDue, LoadedAround, Whol
 use Rattle.pe_walk.proofs.Trees.{root_is_cell, cell_position}
 use Rattle.pe_walk.proofs.Derived.{faces_are_one_way}
 use Rattle.pe_walk.proofs.Tokens.Loads.{due-split, met-append}
-use Rattle.pe_walk.proofs.Tokens.Passages.{passage, token_turn}
-use Rattle.pe_walk.proofs.Tokens.Walks.{cell_passage, cell_turn, walk_each, walks, kids_are_cells}
+use Rattle.pe_walk.proofs.Tokens.Passages.{passage, token_stretch}
+use Rattle.pe_walk.proofs.Tokens.Walks.{cell_passage, cell_stretch, walk_each, walks, kids_are_cells}
 use Rattle.pe_walk.proofs.Tokens.Dues.{due_from, loaded_around, all_due, root_walks}
 
 -- the faces of the root have no neighbour
@@ -162,8 +162,8 @@ module _ (o : Outlook) (walked : Place → Bool) (greatest : ℕ) (dim : IsDim o
       (λ s. lent_items (numbers o) t.vertices s ∙ may.reads_vertices s ∙ sym (root_takes o dim greatest s) ∙ ap (λ n. takes o n s root) e
       ∙ sym (rest_is (takes o (suc l) s root) (takes o 0 s root) (pass s).inner (own_takes_none s) (pass s).own_takes))
       (λ s. may.reads_cells s ∙ ap (λ n. cell_takes o n s root) e ∙ sym (rest_is (cell_takes o (suc l) s root) (cell_takes o 0 s root) (cell_pass s).inner (own_cell_takes_none s) (cell_pass s).own_takes))
-      (λ s. subst (λ cs. Turns (map (token_turn o l s) cs) (pass s).inner (pass s).outer) kids (pass s).turns)
-      (λ s. subst (λ cs. Turns (map (cell_turn o l s) cs) (cell_pass s).inner (cell_pass s).outer) kids (cell_pass s).turns)
+      (λ s. subst (λ cs. Stretches (map (token_stretch o l s) cs) (pass s).inner (pass s).outer) kids (pass s).stretches)
+      (λ s. subst (λ cs. Stretches (map (cell_stretch o l s) cs) (cell_pass s).inner (cell_pass s).outer) kids (cell_pass s).stretches)
       due_below in (
         ended o run.0,
         ap (option_map (ended o)) run.1,

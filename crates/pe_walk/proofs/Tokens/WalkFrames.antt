@@ -1,7 +1,7 @@
 -- What the walk of a cell leaves as it was.
 use Rattle.std.proofs.Common.{◌≡◌, ℕ, zero, suc, ◌+◌, ◌^◌, ◌≤◌, Bool, true, false, not, ◌&&◌, List, [], ◌∷◌, ◌++◌, map, reverse, Option, Some, refl, sym, ap, ◌∙◌, subst, true≢false, append-nil, arith}
 use Rattle.std.specs.Prelude.{if◌then◌else◌, count_by}
-use Rattle.std.specs.List.{flat_map, range_with_len}
+use Rattle.std.specs.List.{flat_map, range_with_len, AllByRecursion as Each}
 use Rattle.std.proofs.lemmas.Option.{option_and_then_some}
 use Rattle.pe_base.specs.declared.place.Place.{Place}
 use Rattle.pe_base.specs.Tree.Dim.{IsDim}
@@ -9,7 +9,7 @@ use Rattle.pe_base.specs.Tree.Places.{corner, is_same}
 use Rattle.pe_base.specs.Tree.Curve.{children}
 use Rattle.pe_base.specs.Steps.Faces.{Touch, corner_touches}
 use Rattle.pe_base.specs.Walk.Streams.{if_walks, walked_children}
-use Rattle.pe_base.proofs.Lists.{Each, Each-all, Each-weaker, Each-append, Each-map, Each-reverse, Each-flat_map}
+use Rattle.pe_base.proofs.Lists.{Each-all, Each-weaker, Each-append, Each-map, Each-reverse, Each-flat_map}
 use Rattle.pe_base.proofs.Tree.Ranks.{is_same-true, same_places}
 use Rattle.pe_walk.specs.Laws.{IsCell}
 use Rattle.pe_walk.specs.Tokens.{Outlook, Tokens, one_more, given, each_some, put, cell_target, touch_of, load, store, leave, numbers, around_below, walk}
@@ -23,7 +23,7 @@ use Rattle.pe_walk.proofs.Tokens.DepotCounts.{count_none}
 use Rattle.pe_walk.proofs.Tokens.Traffic.{traffic_of_a_cell}
 use Rattle.pe_walk.proofs.Tokens.CountLists.{count-cons, count-reverse}
 use Rattle.pe_walk.proofs.Tokens.CellsApart.{ChildOf, children_of, walked_cells_differ}
-use Rattle.pe_walk.proofs.Tokens.StepFrames.{load_by, store_by, after_enter}
+use Rattle.pe_walk.proofs.Tokens.MoveFrames.{load_by, store_by, after_enter}
 use Rattle.pe_walk.proofs.Tokens.CellsAhead.{moves_its_cells}
 
 module _ (o : Outlook) where

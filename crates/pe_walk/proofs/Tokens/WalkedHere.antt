@@ -1,13 +1,13 @@
 -- Each cell of the tree that is walked is among the cells of the walk.
 use Rattle.std.proofs.Common.{◌≡◌, ◌⊎◌, ℕ, zero, suc, ◌+◌, ◌<◌, ◌≤◌, Bool, true, false, List, [], ◌∷◌, ◌++◌, refl, sym, ap, subst, ◌∙◌, inl, inr, arith}
-use Rattle.std.specs.List.{flat_map, Contains}
+use Rattle.std.specs.List.{flat_map, Contains, AllByRecursion as Each}
 use Rattle.pe_base.specs.declared.place.Place.{Place}
 use Rattle.pe_base.specs.Tree.Dim.{IsDim}
 use Rattle.pe_base.specs.Tree.Places.{root, is_same}
 use Rattle.pe_base.specs.Tree.Curve.{children, order}
 use Rattle.pe_base.specs.Walk.Streams.{if_walks, walked_cells}
-use Rattle.pe_base.proofs.Lists.{Each, Each-flat_map, Each-In, In, In-flat_map}
-use Rattle.pe_base.proofs.Steps.Counts.{is_same_itself}
+use Rattle.pe_base.proofs.Lists.{Each-flat_map, Each-In, In, In-flat_map}
+use Rattle.pe_base.proofs.Steps.VertexTouches.{is_same_itself}
 use Rattle.pe_walk.specs.Laws.{IsCell}
 use Rattle.pe_walk.specs.Tokens.{Outlook}
 use Rattle.pe_walk.specs.Takings.{Grown}
@@ -15,7 +15,7 @@ use Rattle.pe_walk.specs.CellsAhead.{times}
 use Rattle.pe_walk.proofs.Unwalked.{contains_in, in_contains}
 use Rattle.pe_walk.proofs.Tokens.Apart.{one_if}
 use Rattle.pe_walk.proofs.Tokens.CountLists.{count-cons}
-use Rattle.pe_base.proofs.Steps.Counts.{OnGrid}
+use Rattle.pe_base.proofs.Steps.VertexTouches.{OnGrid}
 use Rattle.pe_walk.proofs.Steps.{order_on_grid}
 use Rattle.pe_walk.proofs.Trees.{root_is_cell}
 use Rattle.pe_walk.proofs.Tokens.CellsApart.{ChildOf, children_of}

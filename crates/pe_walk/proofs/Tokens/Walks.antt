@@ -2,7 +2,7 @@
 use Rattle.std.proofs.Common.{◌≡◌, ℕ, zero, suc, ◌+◌, ◌^◌, ◌<◌, ◌≤◌, inl, inr, Bool, true, false, not, cond, ◌==◌, List, [], ◌∷◌, ◌++◌, map, filter, reverse, Option, Some, refl, sym, ap, ap₂, ◌∙◌, subst, append_assoc, append-nil, arith}
 use Rattle.std.specs.Prelude.{if◌then◌else◌}
 use Rattle.std.specs.Option.{option_map, option_and_then}
-use Rattle.std.specs.List.{flat_map, range_with_len}
+use Rattle.std.specs.List.{flat_map, range_with_len, AllByRecursion as Each}
 use Rattle.std.proofs.lemmas.List.Elements.{filter-append}
 use Rattle.std.proofs.lemmas.Bool.{ne_eqb, eqb-true}
 use Rattle.pe_base.specs.declared.place.Place.{Place}
@@ -13,10 +13,10 @@ use Rattle.pe_base.proofs.Faces.Quiet.{false_unless}
 use Rattle.pe_base.specs.Tree.Dim.{IsDim}
 use Rattle.pe_base.specs.Tree.Curve.{children}
 use Rattle.pe_base.specs.Tree.Places.{corner}
-use Rattle.pe_base.specs.Steps.Faces.{Touch, Turn, Turns, stack_of, corner_touches}
+use Rattle.pe_base.specs.Steps.Faces.{Touch, Stretch, Stretches, stack_of, corner_touches}
 use Rattle.pe_base.specs.Steps.Stacks.{is_stack}
 use Rattle.pe_base.specs.Walk.Streams.{if_walks, walked_children, walked_cells}
-use Rattle.pe_base.proofs.Lists.{Each, Each-all, Each-weaker, Each-map, In, flat_map_same, flat_map_none, filter-flat_map, map-reverse}
+use Rattle.pe_base.proofs.Lists.{Each-all, Each-weaker, Each-map, In, flat_map_same, flat_map_none, filter-flat_map, map-reverse}
 use Rattle.pe_stacks.specs.Holdings.{stack_count, items_at}
 use Rattle.pe_stacks.specs.Grid.{output_stack, cell_input_stack, cell_output_stack}
 use Rattle.pe_walk.specs.Laws.{IsCell}
@@ -27,7 +27,7 @@ use Rattle.pe_walk.proofs.Trees.{cell_position, child_is_cell}
 use Rattle.pe_walk.proofs.Derived.{corners_cross_once}
 use Rattle.pe_walk.proofs.Tokens.Loads.{taken_from, put_to, vertices_of, takes_by, touched, touched-reverse, all_loads, all_stores, GoesWithin, met-append, due-split}
 use Rattle.pe_walk.proofs.Tokens.Turning.{children-turned, cell_writes-turned}
-use Rattle.pe_walk.proofs.Tokens.Passages.{own_takes, own_gives, take_all, give_all, token_turn, passage}
+use Rattle.pe_walk.proofs.Tokens.Passages.{own_takes, own_gives, take_all, give_all, token_stretch, passage}
 use Rattle.pe_walk.proofs.Tokens.Bounds.{few_stacks, few_cell_stacks}
 
 -- what a cell takes for itself, and what its children take
@@ -66,17 +66,17 @@ own_cell_gives : (o : Outlook) (s : ℕ) (cell : Place) (rest : List Place) → 
 own_cell_gives o s cell rest = sym (own_cell (turned o) s cell rest) ∙ ap (λ xs. xs ++ rest) (sym (cell_gives-turned o 0 s cell))
 
 -- what the walk of a cell does on one stack of cells
-pub record CellPassage (o : Outlook) (levels s : ℕ) (cell : Place) (turn : Place → Turn) (kids beneath : List Place) : Type 0 where
+pub record CellPassage (o : Outlook) (levels s : ℕ) (cell : Place) (stretch : Place → Stretch) (kids beneath : List Place) : Type 0 where
   pub inner : List Place
   pub outer : List Place
   pub own_takes : cell_takes o levels s cell ++ beneath ≡ cell_takes o 0 s cell ++ inner
   pub own_gives : cell_gives o levels s cell ++ beneath ≡ cell_gives o 0 s cell ++ outer
-  pub turns : Turns (map turn kids) inner outer
+  pub stretches : Stretches (map stretch kids) inner outer
 
-abbrev pub cell_turn : Outlook → ℕ → ℕ → Place → Turn
-cell_turn o levels s child = record { takes = cell_takes o levels s child; gives = cell_gives o levels s child; touches = λ place. false }
+abbrev pub cell_stretch : Outlook → ℕ → ℕ → Place → Stretch
+cell_stretch o levels s child = record { takes = cell_takes o levels s child; gives = cell_gives o levels s child; touches = λ place. false }
 
-pub cell_passage : (o : Outlook) (levels s : ℕ) (cell : Place) (beneath : List Place) → CellPassage o (suc levels) s cell (cell_turn o levels s) (walked_children o.axes o.way o.walks cell) beneath
+pub cell_passage : (o : Outlook) (levels s : ℕ) (cell : Place) (beneath : List Place) → CellPassage o (suc levels) s cell (cell_stretch o levels s) (walked_children o.axes o.way o.walks cell) beneath
 cell_passage o levels s cell beneath = go (s == cell_output_stack o.swapped) refl
   where
     kids : List Place
@@ -92,20 +92,20 @@ cell_passage o levels s cell beneath = go (s == cell_output_stack o.swapped) ref
     no_gives : (s == cell_output_stack o.swapped) ≡ false → (n : ℕ) (c : Place) → cell_gives o n s c ≡ []
     no_gives e n c = ap (λ b. if b then cell_writes_of o n c else []) e
 
-    go : (b : Bool) → (s == cell_output_stack o.swapped) ≡ b → CellPassage o (suc levels) s cell (cell_turn o levels s) (walked_children o.axes o.way o.walks cell) beneath
+    go : (b : Bool) → (s == cell_output_stack o.swapped) ≡ b → CellPassage o (suc levels) s cell (cell_stretch o levels s) (walked_children o.axes o.way o.walks cell) beneath
     go true e = record {
       inner = beneath;
       outer = flat_map (cell_gives o levels s) (reverse (walked_children o.axes o.way o.walks cell)) ++ beneath;
       own_takes = ap (λ xs. xs ++ beneath) (no_takes e (suc levels) cell ∙ sym (no_takes e 0 cell));
       own_gives = ap (λ xs. xs ++ beneath) (cell_gives-split o levels s cell) ∙ append_assoc (cell_gives o 0 s cell) (flat_map (cell_gives o levels s) (reverse (walked_children o.axes o.way o.walks cell))) beneath;
-      turns = give_all (cell_turn o levels s) (walked_children o.axes o.way o.walks cell) beneath (Each-all _ (λ c. no_takes e levels c) (walked_children o.axes o.way o.walks cell));
+      stretches = give_all (cell_stretch o levels s) (walked_children o.axes o.way o.walks cell) beneath (Each-all _ (λ c. no_takes e levels c) (walked_children o.axes o.way o.walks cell));
     }
     go false e = record {
       inner = flat_map (cell_takes o levels s) (walked_children o.axes o.way o.walks cell) ++ beneath;
       outer = beneath;
       own_takes = ap (λ xs. xs ++ beneath) (cell_takes-split o levels s cell) ∙ append_assoc (cell_takes o 0 s cell) (flat_map (cell_takes o levels s) (walked_children o.axes o.way o.walks cell)) beneath;
       own_gives = ap (λ xs. xs ++ beneath) (no_gives e (suc levels) cell ∙ sym (no_gives e 0 cell));
-      turns = take_all (cell_turn o levels s) (walked_children o.axes o.way o.walks cell) beneath (Each-all _ (λ c. no_gives e levels c) (walked_children o.axes o.way o.walks cell));
+      stretches = take_all (cell_stretch o levels s) (walked_children o.axes o.way o.walks cell) beneath (Each-all _ (λ c. no_gives e levels c) (walked_children o.axes o.way o.walks cell));
     }
 
 -- some part of a walk has ended, with these lists on the stacks
@@ -202,31 +202,31 @@ WalksAt o greatest levels = (cell : Place) → IsCell o.axes o.way cell → grea
 -- some cells one after another
 pub walk_each : (o : Outlook) (greatest levels : ℕ) → WalksAt o greatest levels → (cs : List Place) → Each (λ c. IsCell o.axes o.way c × (greatest ≤ c.level + levels)) cs
     → (t : Tokens) (a b ca cb : ℕ → List Place) → stack_count t.vertices ≡ 10 → stack_count t.cells ≡ 2 → ((s : ℕ) → items_at t.vertices s ≡ a s) → ((s : ℕ) → items_at t.cells s ≡ ca s)
-    → ((s : ℕ) → Turns (map (token_turn o levels s) cs) (a s) (b s)) → ((s : ℕ) → Turns (map (cell_turn o levels s) cs) (ca s) (cb s)) → Due o (flat_map (loads_of o levels) cs) t.met
+    → ((s : ℕ) → Stretches (map (token_stretch o levels s) cs) (a s) (b s)) → ((s : ℕ) → Stretches (map (cell_stretch o levels s) cs) (ca s) (cb s)) → Due o (flat_map (loads_of o levels) cs) t.met
     → (after : Tokens) × (each_some (walk o levels) cs t ≡ Some after) × Went b cb (met_after o (flat_map (loads_of o levels) cs) t.met) t.held after
-walk_each o greatest levels law [] each t a b ca cb n m its cells turns cell_turns due = (
+walk_each o greatest levels law [] each t a b ca cb n m its cells stretches cell_stretches due = (
   t,
   refl,
   record {
     stacks = n;
     cell_stacks = m;
-    its_vertices = λ s. its s ∙ turns s;
-    its_cells = λ s. cells s ∙ cell_turns s;
+    its_vertices = λ s. its s ∙ stretches s;
+    its_cells = λ s. cells s ∙ cell_stretches s;
     its_met = refl;
     its_held = λ place. refl;
   },
 )
-walk_each o greatest levels law (c ∷ cs) each t a b ca cb n m its cells turns cell_turns due =
+walk_each o greatest levels law (c ∷ cs) each t a b ca cb n m its cells stretches cell_stretches due =
     let parts = due-split o (loads_of o levels c) (flat_map (loads_of o levels) cs) t.met due in
-    let one = law c each.0.0 each.0.1 (λ s. (turns s).0) (λ s. (cell_turns s).0) t (record {
+    let one = law c each.0.0 each.0.1 (λ s. (stretches s).0) (λ s. (cell_stretches s).0) t (record {
       stacks = n;
       cell_stacks = m;
-      takes_vertices = λ s. its s ∙ (turns s).1;
-      takes_cells = λ s. cells s ∙ (cell_turns s).1;
+      takes_vertices = λ s. its s ∙ (stretches s).1;
+      takes_cells = λ s. cells s ∙ (cell_stretches s).1;
       due = parts.0;
     }) in
-    let more = walk_each o greatest levels law cs each.1 one.0 (λ s. gives o levels s c ++ (turns s).0) b (λ s. cell_gives o levels s c ++ (cell_turns s).0) cb one.2.stacks one.2.cell_stacks one.2.gives_vertices one.2.gives_cells
-    (λ s. (turns s).2) (λ s. (cell_turns s).2) (subst (Due o (flat_map (loads_of o levels) cs)) (sym one.2.met) parts.1) in (
+    let more = walk_each o greatest levels law cs each.1 one.0 (λ s. gives o levels s c ++ (stretches s).0) b (λ s. cell_gives o levels s c ++ (cell_stretches s).0) cb one.2.stacks one.2.cell_stacks one.2.gives_vertices one.2.gives_cells
+    (λ s. (stretches s).2) (λ s. (cell_stretches s).2) (subst (Due o (flat_map (loads_of o levels) cs)) (sym one.2.met) parts.1) in (
       more.0,
       ap (option_and_then (each_some (walk o levels) cs)) one.1 ∙ more.1,
       record {
@@ -282,7 +282,7 @@ module _ (o : Outlook) (walked : Place → Bool) (greatest : ℕ) (dim : IsDim o
       let run = around_run o dim cell is_cell loads (λ t. if o.walks cell then each_some (walk o levels) (children o.axes o.way cell) t else (Some t))
       (λ s. (pass s).inner) (λ s. (pass s).outer) (λ s. (cell_pass s).inner) (λ s. (cell_pass s).outer)
       (λ t n m its cells due. below_run levels cell is_cell deep (walks levels) (o.walks cell) refl (λ s. (pass s).inner) (λ s. (pass s).outer) (λ s. (cell_pass s).inner) (λ s. (cell_pass s).outer)
-      (λ s. (pass s).turns) (λ s. (cell_pass s).turns) t n m its cells due)
+      (λ s. (pass s).stretches) (λ s. (cell_pass s).stretches) t n m its cells due)
       t begins.stacks begins.cell_stacks (λ s. begins.takes_vertices s ∙ (pass s).own_takes) (λ s. begins.takes_cells s ∙ (cell_pass s).own_takes) begins.due in (
         run.0,
         run.1,
@@ -297,14 +297,14 @@ module _ (o : Outlook) (walked : Place → Bool) (greatest : ℕ) (dim : IsDim o
       )
     where
       below_run : (levels : ℕ) (cell : Place) → IsCell o.axes o.way cell → greatest ≤ cell.level + suc levels → WalksAt o greatest levels → (b : Bool) → o.walks cell ≡ b → (inner outer cells_inner cells_outer : ℕ → List Place)
-          → ((s : ℕ) → Turns (map (token_turn o levels s) (if_walks o.axes o.way o.walks b (children o.axes o.way cell))) (inner s) (outer s))
-          → ((s : ℕ) → Turns (map (cell_turn o levels s) (if_walks o.axes o.way o.walks b (children o.axes o.way cell))) (cells_inner s) (cells_outer s))
+          → ((s : ℕ) → Stretches (map (token_stretch o levels s) (if_walks o.axes o.way o.walks b (children o.axes o.way cell))) (inner s) (outer s))
+          → ((s : ℕ) → Stretches (map (cell_stretch o levels s) (if_walks o.axes o.way o.walks b (children o.axes o.way cell))) (cells_inner s) (cells_outer s))
           → (t : Tokens) → stack_count t.vertices ≡ 10 → stack_count t.cells ≡ 2 → ((s : ℕ) → items_at t.vertices s ≡ inner s) → ((s : ℕ) → items_at t.cells s ≡ cells_inner s)
           → Due o (flat_map (loads_of o levels) (if_walks o.axes o.way o.walks b (children o.axes o.way cell))) t.met
           → (after : Tokens) × ((if b then each_some (walk o levels) (children o.axes o.way cell) t else (Some t)) ≡ Some after)
           × Went outer cells_outer (met_after o (flat_map (loads_of o levels) (if_walks o.axes o.way o.walks b (children o.axes o.way cell))) t.met) t.held after
-      below_run levels cell is_cell deep law true e inner outer cells_inner cells_outer turns cell_turns t n m its cells due =
+      below_run levels cell is_cell deep law true e inner outer cells_inner cells_outer stretches cell_stretches t n m its cells due =
           walk_each o greatest levels law (children o.axes o.way cell) (Each-weaker _ _ (λ c i. (i.0, omega (arith, i.1))) (children o.axes o.way cell) (kids_are_cells cell is_cell))
-          t inner outer cells_inner cells_outer n m its cells turns cell_turns due
-      below_run levels cell is_cell deep law false e inner outer cells_inner cells_outer turns cell_turns t n m its cells due =
-          (t, refl, record { stacks = n; cell_stacks = m; its_vertices = λ s. its s ∙ turns s; its_cells = λ s. cells s ∙ cell_turns s; its_met = refl; its_held = λ place. refl })
+          t inner outer cells_inner cells_outer n m its cells stretches cell_stretches due
+      below_run levels cell is_cell deep law false e inner outer cells_inner cells_outer stretches cell_stretches t n m its cells due =
+          (t, refl, record { stacks = n; cell_stacks = m; its_vertices = λ s. its s ∙ stretches s; its_cells = λ s. cells s ∙ cell_stretches s; its_met = refl; its_held = λ place. refl })

@@ -7,8 +7,8 @@ use Rattle.pe_check.specs.Resolving.{reach_in, context_at}
 use Rattle.pe_check.specs.Wider.{IsWider}
 use Rattle.pe_eval.proofs.rows.run_text.Goals as goal
 
-plain_wider : (dim : ℕ) (names : Names) → IsWider (reach_in (context_at event.BeginIteration dim (names_view names))) (record { sort = sort.Plain; dim = 2; vertex_fields = 8; cell_fields = 8; global_fields = 8 })
-plain_wider dim names = record { sort = refl; dim = λ placed. absurd cc; vertex = names.few_of_vertices; cell = names.few_of_cells; global = names.few_of_all }
+plain_wider : (axes : ℕ) (names : Names) → IsWider (reach_in (context_at event.BeginIteration axes (names_view names))) (record { sort = sort.Plain; dim = 2; vertex_fields = 8; cell_fields = 8; global_fields = 8 })
+plain_wider axes names = record { sort = refl; dim = λ placed. absurd cc; vertex = names.few_of_vertices; cell = names.few_of_cells; global = names.few_of_all }
 
 pub eval-answer-requires-clause-fits : goal.eval-answer-requires-clause-fits
 eval-answer-requires-clause-fits c =

@@ -3,7 +3,7 @@ use Rattle.std.specs.Prelude.{MatchResult, IfErr, List, [], ◌∷◌}
 use Rattle.pe_parse.specs.declared.fault.ParseFault.{ParseFault}
 use Rattle.pe_parse.specs.declared.tree.Stmt.{Stmt}
 use Rattle.pe_parse.specs.Lexemes.{Lexeme}
-use Rattle.pe_parse.specs.Places.{Sequence}
+use Rattle.pe_parse.specs.Frames.{Sequence}
 use Rattle.pe_parse.specs.Faults.{fault_from}
 use Rattle.pe_parse.specs.Reading.{IsFault}
 use Rattle.pe_parse.specs.Bodies.{Refused}

@@ -2,7 +2,7 @@ use Rattle.std.proofs.Common.{Ok, Err, subst}
 use Rattle.pe_scene.specs.Said.{scenario_of}
 use Rattle.pe_scene.specs.SaidView.{said_of}
 use Rattle.pe_scene.specs.declared.scenario.Scenario.{Scenario}
-use Rattle.pe_run.specs.declared.refusal.Refusal.TheVariants.{Scene}
+use Rattle.pe_run.specs.declared.refusal.Refusal.TheVariants.{Unreadable}
 use Rattle.pe_run.specs.Run.{read_as}
 use Rattle.pe_run.specs.Stages.{IsAsked}
 use Rattle.pe_run.proofs.Asking.{IsAsked-read, IsAsked-refused, Asks-whole, Asks-longer, Asks-not_given, Asks-memory}
@@ -19,8 +19,8 @@ returns-in-Ok-clause-few g c = few_traversals c.deref.result.now (said_of c.in-O
 
 pub returns-in-Whole-clause-asked : goal.returns-in-Whole-clause-asked
 returns-in-Whole-clause-asked g c =
-    Asks-whole _ _ _ (Err (Scene c.in-Err.fault)) (g.H.Shelf.contents c.args.shelf.now) c.args.name.now c.in-Whole.bytes.items c.in-Whole.ensures.told
-    (subst (λ bytes. IsAsked {S = Scenario} said_of (Err (Scene c.in-Err.fault)) (read_as (scenario_of bytes))) c.deref.ensures.value (IsAsked-refused c.in-Err.fault (scenario_of c.deref.result.now) c.in-Err.ensures.said))
+    Asks-whole _ _ _ (Err (Unreadable c.in-Err.fault)) (g.H.Shelf.contents c.args.shelf.now) c.args.name.now c.in-Whole.bytes.items c.in-Whole.ensures.told
+    (subst (λ bytes. IsAsked {S = Scenario} said_of (Err (Unreadable c.in-Err.fault)) (read_as (scenario_of bytes))) c.deref.ensures.value (IsAsked-refused c.in-Err.fault (scenario_of c.deref.result.now) c.in-Err.ensures.said))
 
 pub returns-in-Longer-clause-asked : goal.returns-in-Longer-clause-asked
 returns-in-Longer-clause-asked g c = Asks-longer _ _ _ (g.H.Shelf.contents c.args.shelf.now) c.args.name.now c.in-Longer.ensures.told

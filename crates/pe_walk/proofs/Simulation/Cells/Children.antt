@@ -1,7 +1,7 @@
 -- The walks of the children of a cell, in model and machine alike.
 use Rattle.std.proofs.Common.{◌≡◌, ℕ, suc, ◌+◌, ◌-◌, ◌<◌, Bool, true, false, not, ◌==◌, List, [], ◌∷◌, ◌++◌, Option, Some, refl, sym, ap, subst, ◌∙◌, append_assoc, arith}
 use Rattle.std.specs.Prelude.{if◌then◌else◌}
-use Rattle.std.specs.List.{flat_map}
+use Rattle.std.specs.List.{flat_map, AllByRecursion as Each}
 use Rattle.std.proofs.lemmas.Bool.{ne_eqb}
 use Rattle.pe_base.specs.declared.place.Place.{Place}
 use Rattle.pe_base.specs.declared.kind.Kind.{Kind}
@@ -17,7 +17,7 @@ use Rattle.pe_base.specs.Walk.Touches.{kind_below}
 use Rattle.pe_base.specs.Walk.Touches as model
 use Rattle.pe_base.specs.Walk.Walk as walks
 use Rattle.pe_base.specs.Walk.Streams.{if_walks, walked_children, walked_cells}
-use Rattle.pe_base.proofs.Lists.{Each, Each-weaker}
+use Rattle.pe_base.proofs.Lists.{Each-weaker}
 use Rattle.pe_base.proofs.Walk.Frames.{KeepsAbove, KeepsUp, up-each, walk_cell-keeps}
 use Rattle.pe_walk.specs.Machine.{Machine}
 use Rattle.pe_walk.specs.Laws.{IsCell}
@@ -31,7 +31,7 @@ use Rattle.pe_walk.proofs.Trees.{child_is_cell}
 use Rattle.pe_walk.proofs.Outlooks.{kids_parent}
 use Rattle.pe_walk.proofs.Tokens.Walks.{each_with}
 use Rattle.pe_walk.proofs.Tokens.WalkFrames.{what_walks_leave}
-use Rattle.pe_walk.proofs.Simulation.Matching.{Steps, Sim, Along, some_same, done_same, sim-along, sim-weaker, mapped-matches}
+use Rattle.pe_walk.proofs.Simulation.Matching.{Alike, Sim, Along, some_same, done_same, sim-along, sim-weaker, mapped-matches}
 use Rattle.pe_walk.proofs.Simulation.Below.{below_by_marks, mine_marked}
 use Rattle.pe_walk.proofs.Simulation.Leaves.{image_of, own_in_hand, ports, WalkSim}
 use Rattle.pe_walk.proofs.Simulation.Cells.Corners.{stage_of}
@@ -91,7 +91,7 @@ module _ {Plan : Type 0} (set : Setting Plan) (e : Outset) (walked : Place → B
     -- the children are walked, and the machine comes back from them
     walked_steps : (st : Stage) (rest cells : List Place) → Each (λ c. IsStage set.axes e.outlook (at_child set.axes st c)) cells → IsOpen st → st.ahead ≡ cells_of cells ++ rest
         → (w : Working) (t t' : Tokens) → Holds set e st w t → each_some (tokens.walk e.outlook levels) cells t ≡ Some t' → LeavesAbove e.outlook (suc st.cell.level) t t'
-        → Steps room (own_in_hand set e (with_ahead rest st)) (Holds set e (with_ahead rest st)) (each (walks.walk_cell set levels st.cell) cells w)
+        → Alike room (own_in_hand set e (with_ahead rest st)) (Holds set e (with_ahead rest st)) (each (walks.walk_cell set levels st.cell) cells w)
         (course_map (machine.outside set (ports set e room) (image_of set e st.parent w t)) (each (machine.walk_cell set (ports set e room) (suc levels)) cells (image_of set e st.cell w t))) t'
     walked_steps st rest cells stages full ahead w t t' h k places =
         let inside = subst (λ a. Holds set e (at_child set.axes (with_ahead a st) st.cell) w t) ahead (down-holds set e st st.cell w t full h) in
@@ -124,21 +124,21 @@ module _ {Plan : Type 0} (set : Setting Plan) (e : Outset) (walked : Place → B
 
   -- nothing is done where no children are walked
   nothing_below : (st : Stage) (rest : List Place) (w : Working) (t t' : Tokens) → st.ahead ≡ rest → Holds set e st w t → Some t ≡ Some t'
-      → Steps room (own_in_hand set e (with_ahead rest st)) (Holds set e (with_ahead rest st)) (at_once w) (at_once (own_in_hand set e st w t)) t'
+      → Alike room (own_in_hand set e (with_ahead rest st)) (Holds set e (with_ahead rest st)) (at_once w) (at_once (own_in_hand set e st w t)) t'
   nothing_below st rest w t t' ahead h k =
-      subst (λ x. Steps room (own_in_hand set e (with_ahead rest st)) (Holds set e (with_ahead rest st)) (at_once w) (at_once (own_in_hand set e st w t)) x) (some_same t t' k)
+      subst (λ x. Alike room (own_in_hand set e (with_ahead rest st)) (Holds set e (with_ahead rest st)) (at_once w) (at_once (own_in_hand set e st w t)) x) (some_same t t' k)
       (record { same = record { text = refl; ending = refl; log = tt }; holds = λ v q. subst (λ x. Holds set e (with_ahead rest st) x t) (done_same w v q) (subst (λ a. Holds set e (with_ahead a st) w t) ahead h) })
 
   -- as the kinds are found, so it goes on
   as_found : (st : Stage) (rest : List Place) (w : Working) (t t' : Tokens) → IsStage set.axes e.outlook st → IsOpen st → Holds set e st w t
       → (walk : Working → Course Working) (walk_machine : Own × Machine → Course (Own × Machine))
-      → Steps room (own_in_hand set e (with_ahead rest st)) (Holds set e (with_ahead rest st)) (walks.if_walked set (e.foresight.below st.cell) walk w) (machine.if_walked set (ports set e room) (e.foresight.below st.cell) walk_machine (own_in_hand set e st w t)) t'
-      → Steps room (own_in_hand set e (with_ahead rest st)) (Holds set e (with_ahead rest st)) (walks.if_walked set (model.kind_of_children set w st.cell) walk w)
+      → Alike room (own_in_hand set e (with_ahead rest st)) (Holds set e (with_ahead rest st)) (walks.if_walked set (e.foresight.below st.cell) walk w) (machine.if_walked set (ports set e room) (e.foresight.below st.cell) walk_machine (own_in_hand set e st w t)) t'
+      → Alike room (own_in_hand set e (with_ahead rest st)) (Holds set e (with_ahead rest st)) (walks.if_walked set (model.kind_of_children set w st.cell) walk w)
       (machine.if_walked set (ports set e room) (kind_below (records_of set.axes w st.cell)) walk_machine (own_in_hand set e st w t)) t'
   as_found st rest w t t' stage full h walk walk_machine steps =
-      subst (λ kind. Steps room (own_in_hand set e (with_ahead rest st)) (Holds set e (with_ahead rest st)) (walks.if_walked set kind walk w)
+      subst (λ kind. Alike room (own_in_hand set e (with_ahead rest st)) (Holds set e (with_ahead rest st)) (walks.if_walked set kind walk w)
       (machine.if_walked set (ports set e room) (kind_below (records_of set.axes w st.cell)) walk_machine (own_in_hand set e st w t)) t') (sym (model_found st w t stage full h))
-      (subst (λ kind. Steps room (own_in_hand set e (with_ahead rest st)) (Holds set e (with_ahead rest st)) (walks.if_walked set (e.foresight.below st.cell) walk w)
+      (subst (λ kind. Alike room (own_in_hand set e (with_ahead rest st)) (Holds set e (with_ahead rest st)) (walks.if_walked set (e.foresight.below st.cell) walk w)
       (machine.if_walked set (ports set e room) kind walk_machine (own_in_hand set e st w t)) t') (sym (below_found st w t stage full h)) steps)
 
   -- the walks of the children, within the machine
@@ -154,11 +154,11 @@ module _ {Plan : Type 0} (set : Setting Plan) (e : Outset) (walked : Place → B
   pub below_none : (st : Stage) (rest : List Place) → IsStage set.axes e.outlook st → IsOpen st → st.ahead ≡ rest
       → BelowSim st rest at_once 0 (λ t. given (not (e.outlook.walks st.cell)) (Some t))
   below_none st rest stage full ahead w t t' h k =
-      subst (λ kind. Steps room (own_in_hand set e (with_ahead rest st)) (Holds set e (with_ahead rest st)) (at_once w) (machine.if_walked set (ports set e room) kind (within 0 st.cell) (own_in_hand set e st w t)) t')
+      subst (λ kind. Alike room (own_in_hand set e (with_ahead rest st)) (Holds set e (with_ahead rest st)) (at_once w) (machine.if_walked set (ports set e room) kind (within 0 st.cell) (own_in_hand set e st w t)) t')
       (sym (below_found st w t stage full h)) (go (e.foresight.below st.cell) (e.outlook.walks st.cell) (is.foresees.walks st.cell) k)
     where
       go : (kind : Kind) (b : Bool) → b ≡ not (is_hanging kind) → given (not b) (Some t) ≡ Some t'
-          → Steps room (own_in_hand set e (with_ahead rest st)) (Holds set e (with_ahead rest st)) (at_once w) (machine.if_walked set (ports set e room) kind (within 0 st.cell) (own_in_hand set e st w t)) t'
+          → Alike room (own_in_hand set e (with_ahead rest st)) (Holds set e (with_ahead rest st)) (at_once w) (machine.if_walked set (ports set e room) kind (within 0 st.cell) (own_in_hand set e st w t)) t'
       go Hanging false n k = nothing_below st rest w t t' ahead h k
       go Hanging true n k = absurd cc
       go Kept true n k = absurd cc
@@ -181,12 +181,12 @@ module _ {Plan : Type 0} (set : Setting Plan) (e : Outset) (walked : Place → B
 
       after_children : e.outlook.walks st.cell ≡ true → st.ahead ≡ flat_map (walked_cells e.outlook.axes e.outlook.way e.outlook.walks levels) (children e.outlook.axes e.outlook.way st.cell) ++ rest
           → each_some (tokens.walk e.outlook levels) (children e.outlook.axes e.outlook.way st.cell) t ≡ Some t'
-          → Steps room (own_in_hand set e (with_ahead rest st)) (Holds set e (with_ahead rest st)) (walk w) (within (suc levels) st.cell (own_in_hand set e st w t)) t'
+          → Alike room (own_in_hand set e (with_ahead rest st)) (Holds set e (with_ahead rest st)) (walk w) (within (suc levels) st.cell (own_in_hand set e st w t)) t'
       after_children goes ahead k =
           let same : children e.outlook.axes e.outlook.way st.cell ≡ kids st.cell = ap (λ axes. children axes e.outlook.way st.cell) is.foresees.axes in
           let dim = subst IsDim (sym is.foresees.axes) is.foresees.dim in
           let cell = subst (λ axes. IsCell axes e.outlook.way st.cell) (sym is.foresees.axes) stage.cell in
-          subst (λ cells. Steps room (own_in_hand set e (with_ahead rest st)) (Holds set e (with_ahead rest st)) (each (walks.walk_cell set levels st.cell) cells w)
+          subst (λ cells. Alike room (own_in_hand set e (with_ahead rest st)) (Holds set e (with_ahead rest st)) (each (walks.walk_cell set levels st.cell) cells w)
           (course_map (machine.outside set (ports set e room) (image_of set e st.parent w t)) (each (machine.walk_cell set (ports set e room) (suc levels)) cells (image_of set e st.cell w t))) t')
           (ap (λ way. children set.axes way st.cell) is.foresees.ways)
           (walked_steps levels sim st rest (kids st.cell) (kids_stages st stage.cell goes) full
@@ -196,7 +196,7 @@ module _ {Plan : Type 0} (set : Setting Plan) (e : Outset) (walked : Place → B
       go : (kind : Kind) (b : Bool) → e.outlook.walks st.cell ≡ b → b ≡ not (is_hanging kind)
           → st.ahead ≡ flat_map (walked_cells e.outlook.axes e.outlook.way e.outlook.walks levels) (if_walks e.outlook.axes e.outlook.way e.outlook.walks b (children e.outlook.axes e.outlook.way st.cell)) ++ rest
           → (if b then each_some (tokens.walk e.outlook levels) (children e.outlook.axes e.outlook.way st.cell) t else (Some t)) ≡ Some t'
-          → Steps room (own_in_hand set e (with_ahead rest st)) (Holds set e (with_ahead rest st)) (walks.if_walked set kind walk w) (machine.if_walked set (ports set e room) kind (within (suc levels) st.cell) (own_in_hand set e st w t)) t'
+          → Alike room (own_in_hand set e (with_ahead rest st)) (Holds set e (with_ahead rest st)) (walks.if_walked set kind walk w) (machine.if_walked set (ports set e room) kind (within (suc levels) st.cell) (own_in_hand set e st w t)) t'
       go Kept true c n ahead k = after_children c ahead k
       go Born true c n ahead k = after_children c ahead k
       go Dying true c n ahead k = after_children c ahead k

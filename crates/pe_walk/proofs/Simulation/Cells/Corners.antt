@@ -15,7 +15,7 @@ use Rattle.pe_walk.specs.Machine as machine
 use Rattle.pe_walk.specs.Tokens.{Tokens, each_some}
 use Rattle.pe_walk.specs.Tokens as tokens
 use Rattle.pe_walk.specs.Standing.{Outset, Stage, Holds, IsStage}
-use Rattle.pe_walk.proofs.Simulation.Matching.{Sim, Steps, sim-nothing, sim-then, sim-alike, turned-then}
+use Rattle.pe_walk.proofs.Simulation.Matching.{Sim, Alike, sim-nothing, sim-then, sim-alike, turned-then}
 use Rattle.pe_walk.proofs.Simulation.Leaves.{image_of, in_hand, ports, after_load, load_before, LoadLeaf, after_store, store_first, StoreLeaf}
 
 -- the numbers below one, descending
@@ -107,7 +107,7 @@ module _ {Plan : Type 0} (set : Setting Plan) (e : Outset) (room : Push → Type
   pub stores_sim : StoreLeaf set e room → (n : ℕ) (st : Stage) → IsStage set.axes e.outlook st → st.from + n ≡ 2 ^ set.axes → n ≤ st.owed → n ≤ st.unstored → StoresSim n st
   stores_sim leaf zero st is all owed unstored = λ w t t' h k.
       let none : 2 ^ set.axes - st.from ≡ 0 = omega (arith, all) in
-      subst (λ n. Steps room (image_of set e st.parent) (Holds set e st) (at_once w) (machine.store_all set (ports set e room) st.cell st.from (map (record_at set.axes w st.cell) (range_with_len st.from n)) (image_of set e st.parent w t)) t')
+      subst (λ n. Alike room (image_of set e st.parent) (Holds set e st) (at_once w) (machine.store_all set (ports set e room) st.cell st.from (map (record_at set.axes w st.cell) (range_with_len st.from n)) (image_of set e st.parent w t)) t')
       (sym none) (sim-nothing room (Holds set e st) (image_of set e st.parent) w t t' h k)
   stores_sim leaf (suc n) st is all owed unstored =
       let next : Stage = after_store st.from st in

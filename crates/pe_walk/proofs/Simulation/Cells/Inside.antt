@@ -11,7 +11,7 @@ use Rattle.pe_base.specs.Acts.Effects.{VertexRecord}
 use Rattle.pe_base.specs.Walk.Core.{Setting}
 use Rattle.pe_base.specs.Walk.Working.{Working, no_vertex, cell_at, record_at, records_of}
 use Rattle.pe_base.proofs.Lists.{Each-all, map_same}
-use Rattle.pe_base.proofs.Steps.Counts.{is_same_itself}
+use Rattle.pe_base.proofs.Steps.VertexTouches.{is_same_itself}
 use Rattle.pe_base.proofs.Walk.Frames.{levels_differ, KeepsAbove}
 use Rattle.pe_base.proofs.Walk.Slots.{is_hung}
 use Rattle.pe_stacks.specs.Holdings.{len_at}

@@ -5,7 +5,7 @@ use Rattle.pe_base.specs.Walk.Course.{Push}
 use Rattle.pe_base.specs.Walk.Core.{Setting}
 use Rattle.pe_walk.specs.Standing.{Outset, IsOutset, HasRoom}
 use Rattle.pe_walk.proofs.Simulation.Leaves.{WalkSim, RootSim}
-use Rattle.pe_walk.proofs.Simulation.Counts.{count_leaf, plain_leaf}
+use Rattle.pe_walk.proofs.Simulation.CellsCounted.{count_leaf, plain_leaf}
 use Rattle.pe_walk.proofs.Simulation.Loads.Leaf.{load_leaf}
 use Rattle.pe_walk.proofs.Simulation.Stores.Leaf.{store_leaf}
 use Rattle.pe_walk.proofs.Simulation.Visits.Entering.{enter_leaf}

@@ -33,7 +33,7 @@ use Rattle.pe_walk.specs.Apart.{lies}
 use Rattle.pe_walk.specs.Outlooks.{outlook}
 use Rattle.pe_walk.specs.StreamLaws.{IsNext}
 use Rattle.pe_walk.specs.Standing.{Foresight, IsWritten, Holds}
-use Rattle.pe_walk.specs.Gridded.{stored_of, MayTurn}
+use Rattle.pe_walk.specs.Gridded.{stored_of, MachineMayTraverse}
 use Rattle.pe_walk.proofs.Tests.{some_power}
 use Rattle.pe_walk.proofs.Trees.{cell_position}
 use Rattle.pe_walk.proofs.StreamOrders.{cell_test, stored_not_hanging, next_is_formed, writes_are_streams}
@@ -64,7 +64,7 @@ none_there : {X : Type 0} (found : Option X) → is_some found ≡ false → fou
 none_there None e = refl
 none_there (Some x) e = absurd (true≢false e)
 
-module _ {Plan : Type 0} (set : Setting Plan) (grid : Grid) (swapped : Bool) (m : Machine) (may : MayTurn set grid swapped m) (room : Push → Type 0) (w : Working) (t : Tokens)
+module _ {Plan : Type 0} (set : Setting Plan) (grid : Grid) (swapped : Bool) (m : Machine) (may : MachineMayTraverse set grid swapped m) (room : Push → Type 0) (w : Working) (t : Tokens)
     (holds : Holds set (outset_of set grid swapped m) (at_root set (outset_of set grid swapped m) room []) w t)
     (all : HasTraversed (outlook set.start_level grid swapped) grid.greatest (tokens_of grid swapped m) (tokens.ended (outlook set.start_level grid swapped) t)) where
   abbrev o : Outlook

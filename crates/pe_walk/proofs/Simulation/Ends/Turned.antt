@@ -27,7 +27,7 @@ use Rattle.pe_walk.specs.Tokens as tokens
 use Rattle.pe_walk.specs.Takings.{writes_of, cell_writes_of, HasTraversed}
 use Rattle.pe_walk.specs.Outlooks.{outlook}
 use Rattle.pe_walk.specs.Standing.{Outset, Holds}
-use Rattle.pe_walk.specs.Gridded.{stored_of, HoldsGrid, MayTurn, HasTurned, ports_of}
+use Rattle.pe_walk.specs.Gridded.{stored_of, HoldsGrid, MachineMayTraverse, MachineHasTraversed, ports_of}
 use Rattle.pe_walk.proofs.Tokens.DepotCounts.{given_up_counts}
 use Rattle.pe_walk.proofs.Simulation.Leaves.{record_of, image_of, at_root}
 use Rattle.pe_walk.proofs.Simulation.Starts.{tokens_of, outset_of}
@@ -52,7 +52,7 @@ last_of set e w t = record {
   tally = w.tally;
 }
 
-module _ {Plan : Type 0} (set : Setting Plan) (grid : Grid) (swapped : Bool) (m : Machine) (may : MayTurn set grid swapped m) (room : Push → Type 0) (w : Working) (t : Tokens)
+module _ {Plan : Type 0} (set : Setting Plan) (grid : Grid) (swapped : Bool) (m : Machine) (may : MachineMayTraverse set grid swapped m) (room : Push → Type 0) (w : Working) (t : Tokens)
     (holds : Holds set (outset_of set grid swapped m) (at_root set (outset_of set grid swapped m) room []) w t)
     (all : HasTraversed (outlook set.start_level grid swapped) grid.greatest (tokens_of grid swapped m) (tokens.ended (outlook set.start_level grid swapped) t)) where
   abbrev o : Outlook
@@ -131,7 +131,7 @@ module _ {Plan : Type 0} (set : Setting Plan) (grid : Grid) (swapped : Bool) (m 
 
   pub turned_of : (after : Machine)
       × (machine.give_up_all set (ports_of swapped) (records_of set.axes w root) (with_parents [] (image_of set (outset_of set grid swapped m) root w t)) ≡ at_once after)
-      × HasTurned swapped (ended w grid, w.tally) after
+      × MachineHasTraversed swapped (ended w grid, w.tally) after
   turned_of =
       let count : length (records_of set.axes w root) ≡ 2 ^ set.axes = length-map-range_with_len (record_at set.axes w root) 0 (2 ^ set.axes) in (
         last,

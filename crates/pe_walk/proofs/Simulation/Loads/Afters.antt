@@ -14,7 +14,7 @@ use Rattle.pe_base.specs.Walk.Maps.{at, at_corner}
 use Rattle.pe_base.specs.Walk.Core.{Setting, Family}
 use Rattle.pe_base.specs.Walk.Working.{Working, no_vertex, vertex_at, cell_at, record_at}
 use Rattle.pe_base.proofs.Lists.{map_same}
-use Rattle.pe_base.proofs.Steps.Counts.{is_same_itself}
+use Rattle.pe_base.proofs.Steps.VertexTouches.{is_same_itself}
 use Rattle.pe_base.proofs.Walk.CellCorners.{corners_apart}
 use Rattle.pe_base.proofs.Walk.MapLaws.{is_key}
 use Rattle.pe_base.proofs.Walk.Families.{Each-range}
@@ -27,7 +27,7 @@ use Rattle.pe_walk.specs.Standing.{Foresight, Outset, Stage, Stands, Fair, IsFai
 use Rattle.pe_walk.proofs.Tokens.Apart.{one_if}
 use Rattle.pe_walk.proofs.Simulation.Leaves.{record_of}
 use Rattle.pe_walk.proofs.Simulation.Shared.{HasPut, lies_unheld, cells-image, vertices-image}
-use Rattle.pe_walk.proofs.Simulation.Loads.Places.{LoadsPlace}
+use Rattle.pe_walk.proofs.Simulation.Loads.OnStacks.{LoadsPlace}
 use Rattle.pe_walk.proofs.Simulation.Loads.Records.{LoadsRecord}
 
 -- a corner was loaded: from places and records as they stood, to those after it

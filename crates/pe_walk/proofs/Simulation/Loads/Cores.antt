@@ -8,8 +8,8 @@ use Rattle.pe_base.specs.declared.kind.Kind.{Kind}
 use Rattle.pe_base.specs.declared.kind.Kind.TheVariants.{Kept, Born, Dying, Hanging}
 use Rattle.pe_base.specs.Tree.Places.{corner}
 use Rattle.pe_base.specs.Life.Kinds.{is_hanging, is_inside}
-use Rattle.pe_base.specs.Steps.Around.{around}
-use Rattle.pe_base.specs.Steps.Routes.{stack_in}
+use Rattle.pe_base.specs.Alike.Around.{around}
+use Rattle.pe_base.specs.Alike.Routes.{stack_in}
 use Rattle.pe_base.specs.Acts.Effects.{VertexRecord}
 use Rattle.pe_base.specs.Walk.Course.{Push, Course, at_once, course_map}
 use Rattle.pe_base.specs.Walk.Core.{Setting, way, Family, read_vertex, load_touch}
@@ -28,9 +28,9 @@ use Rattle.pe_walk.specs.Standing.{Outset, Stage, Holds, IsOutset, IsStage}
 use Rattle.pe_walk.proofs.Tokens.Counting.{corners_by_counting}
 use Rattle.pe_walk.proofs.Simulation.Matching.{turned-then}
 use Rattle.pe_walk.proofs.Simulation.LoadedKinds.{kinds_are_found, hangs_if}
-use Rattle.pe_walk.proofs.Simulation.Counts.{small_rises, tally_rises}
+use Rattle.pe_walk.proofs.Simulation.CellsCounted.{small_rises, tally_rises}
 use Rattle.pe_walk.proofs.Simulation.Leaves.{record_of, records_from, in_hand, load_before}
-use Rattle.pe_walk.proofs.Simulation.Loads.Places.{LoadsPlace}
+use Rattle.pe_walk.proofs.Simulation.Loads.OnStacks.{LoadsPlace}
 use Rattle.pe_walk.proofs.Simulation.Loads.Comes.{MayTake, Comes, comes-hanging, comes-counting, load_as-is}
 
 -- the corner that is loaded, and the stack from which it comes, if it was loaded before

@@ -8,7 +8,7 @@ use Rattle.pe_base.specs.declared.tally.Tally.{Tally}
 use Rattle.pe_base.specs.Tree.Dim.{IsDim}
 use Rattle.pe_base.specs.Tree.Places.{corner}
 use Rattle.pe_base.specs.Life.Kinds.{is_hanging}
-use Rattle.pe_base.specs.Steps.Routes.{stack_in}
+use Rattle.pe_base.specs.Alike.Routes.{stack_in}
 use Rattle.pe_base.specs.Acts.Effects.{VertexRecord}
 use Rattle.pe_base.specs.Walk.Maps.{at}
 use Rattle.pe_base.specs.Walk.Course.{Push, Course, done, course_map}
@@ -32,7 +32,7 @@ use Rattle.pe_walk.proofs.Simulation.Levels.{levels_differ}
 use Rattle.pe_walk.proofs.Simulation.Silent.{load-silent}
 use Rattle.pe_walk.proofs.Simulation.Leaves.{in_hand, after_load, load_before, LoadLeaf}
 use Rattle.pe_walk.proofs.Simulation.Shared.{idle-alike, fair-alike, PutsBack, has_put}
-use Rattle.pe_walk.proofs.Simulation.Loads.Places.{LoadsPlace, loads_place}
+use Rattle.pe_walk.proofs.Simulation.Loads.OnStacks.{LoadsPlace, loads_place}
 use Rattle.pe_walk.proofs.Simulation.Loads.Records.{LoadsRecord, loads_record, hung_elsewhere}
 use Rattle.pe_walk.proofs.Simulation.Loads.Cores.{vertex_of, source_of, core_of, working_after, hand_after, met_first, stays_if, model_is, machine_is}
 use Rattle.pe_walk.proofs.Simulation.Loads.Foreseen.{loads_idle, loads_first, loads_later, waited}

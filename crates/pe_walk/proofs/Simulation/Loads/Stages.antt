@@ -15,7 +15,7 @@ use Rattle.pe_base.specs.Walk.Maps.{at, at_corner}
 use Rattle.pe_base.specs.Walk.Core.{Family}
 use Rattle.pe_base.specs.Walk.Working.{Working, loads_of, record_at}
 use Rattle.pe_base.specs.Walk.Touches.{tally_load}
-use Rattle.pe_base.proofs.Steps.Counts.{is_same_itself}
+use Rattle.pe_base.proofs.Steps.VertexTouches.{is_same_itself}
 use Rattle.pe_base.proofs.Walk.MapLaws.{is_key}
 use Rattle.pe_base.proofs.Walk.CellCorners.{corners_apart}
 use Rattle.pe_base.proofs.Walk.Slots.{is_hung}
@@ -28,7 +28,7 @@ use Rattle.pe_walk.specs.Standing.{Foresight, Outset, Stage, Stands, Fair, Owes,
 use Rattle.pe_walk.proofs.Tokens.Apart.{one_if}
 use Rattle.pe_walk.proofs.Simulation.Leaves.{after_load}
 use Rattle.pe_walk.proofs.Simulation.Shared.{on_one, lies_unheld, OneMore, owes-more}
-use Rattle.pe_walk.proofs.Simulation.Loads.Places.{HasTaken}
+use Rattle.pe_walk.proofs.Simulation.Loads.OnStacks.{HasTaken}
 use Rattle.pe_walk.proofs.Simulation.Loads.Records.{hung_elsewhere}
 use Rattle.pe_walk.proofs.Simulation.Loads.Afters.{HasLoaded, elsewhere, vertex_elsewhere, met_elsewhere, cell_elsewhere, record_here, record_later}
 

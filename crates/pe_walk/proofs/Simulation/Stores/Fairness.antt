@@ -19,7 +19,7 @@ use Rattle.pe_walk.specs.Apart.{lies, occurs}
 use Rattle.pe_walk.specs.Standing.{Foresight, Stage, Stands, Fair, IsFair, IsWritten, IsIdle, IsLive, times}
 use Rattle.pe_walk.proofs.Simulation.Leaves.{after_store}
 use Rattle.pe_walk.proofs.Simulation.Shared.{HasPut, on_one, lies_counts, lies_unheld}
-use Rattle.pe_walk.proofs.Simulation.Stores.Places.{stored, Within, IsOther, held-other, held-most, held-itself, times-other, lies-other, went, went_nowhere}
+use Rattle.pe_walk.proofs.Simulation.Stores.OnStacks.{stored, Within, IsOther, held-other, held-most, held-itself, times-other, lies-other, went, went_nowhere}
 use Rattle.pe_walk.proofs.Simulation.Stores.Fates.{Fate, fate-on, fate-off}
 use Rattle.pe_walk.proofs.Simulation.Stores.Leaving.{Leaves, leaves-hung}
 

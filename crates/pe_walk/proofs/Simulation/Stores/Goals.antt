@@ -17,7 +17,7 @@ use Rattle.pe_walk.proofs.Tokens.Walks.{goes_within}
 use Rattle.pe_walk.proofs.Tokens.Apart.{steps_keep_apart}
 use Rattle.pe_walk.proofs.Tokens.Short.{steps_keep_counting}
 use Rattle.pe_walk.proofs.Simulation.Shared.{across_apart}
-use Rattle.pe_walk.proofs.Simulation.Stores.Places.{stored}
+use Rattle.pe_walk.proofs.Simulation.Stores.OnStacks.{stored}
 
 -- to the next cell around it, or to the output if it is written; and nowhere if it does not count
 abbrev pub goal_if : Bool → Outlook → ℕ → Way → Place → Place → Option ℕ

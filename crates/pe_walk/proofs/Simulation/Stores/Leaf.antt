@@ -2,7 +2,7 @@
 use Rattle.std.proofs.Common.{◌≡◌, ℕ, suc, ◌+◌, ◌-◌, ◌*◌, ◌^◌, ◌<◌, ◌≤◌, Bool, true, false, ◌==◌, List, [], ◌∷◌, ◌++◌, Option, Some, None, refl, sym, ap, ap₂, subst, ◌∙◌, arith}
 use Rattle.std.specs.Prelude.{is_none, if◌then◌else◌}
 use Rattle.std.specs.Option.{unwrap_or}
-use Rattle.std.specs.List.{range_with_len}
+use Rattle.std.specs.List.{range_with_len, AllByRecursion as Each}
 use Rattle.std.proofs.lemmas.Bool.{ne_eqb, and_from}
 use Rattle.std.proofs.lemmas.List.{append-nil}
 use Rattle.pe_base.specs.declared.place.Place.{Place}
@@ -13,7 +13,7 @@ use Rattle.pe_base.specs.Walk.Course.{Push, Course, done, at_once, and_then, cou
 use Rattle.pe_base.specs.Walk.Core.{Setting, Family, way}
 use Rattle.pe_base.specs.Walk.Working.{Working, no_vertex, vertex_at, cell_at, record_at, family_of}
 use Rattle.pe_base.specs.Walk.Touches.{tally_store, store_corner}
-use Rattle.pe_base.proofs.Lists.{Each, map_same}
+use Rattle.pe_base.proofs.Lists.{map_same}
 use Rattle.pe_base.proofs.Walk.Families.{Each-range}
 use Rattle.pe_stacks.specs.Holdings.{Holdings, len_at}
 use Rattle.pe_stacks.specs.Grid.{input_stack, output_stack}
@@ -24,12 +24,12 @@ use Rattle.pe_adapt.specs.Touches as corners
 use Rattle.pe_walk.specs.Machine.{Machine, desk_of, with_desk, tally_may_rise, is_placed}
 use Rattle.pe_walk.specs.Tokens.{Tokens, store, put}
 use Rattle.pe_walk.specs.Standing.{Outset, Stage, Holds, HasRoom, IsOutset, IsStage}
-use Rattle.pe_walk.proofs.Simulation.Counts.{tally_rises}
+use Rattle.pe_walk.proofs.Simulation.CellsCounted.{tally_rises}
 use Rattle.pe_walk.proofs.Simulation.Leaves.{StoreLeaf, after_store, record_of, image_of, records_from, in_hand, store_first}
-use Rattle.pe_walk.proofs.Simulation.Matching.{Matches, Steps, then-grouped, core-then-matches, matches-same, mapped-done}
+use Rattle.pe_walk.proofs.Simulation.Matching.{Matches, Alike, then-grouped, core-then-matches, matches-same, mapped-done}
 use Rattle.pe_walk.proofs.Simulation.Shared.{cells-image, vertices-image}
 use Rattle.pe_walk.proofs.Simulation.Silent.{store-silent}
-use Rattle.pe_walk.proofs.Simulation.Stores.Places.{len-pushed}
+use Rattle.pe_walk.proofs.Simulation.Stores.OnStacks.{len-pushed}
 use Rattle.pe_walk.specs.Laws.{IsCell}
 use Rattle.pe_walk.proofs.Simulation.Stores.Goals.{goal_if, goal_apart}
 use Rattle.pe_walk.proofs.Simulation.Stores.InHand.{stored_by}
@@ -182,12 +182,12 @@ module _ {Plan : Type 0} (set : Setting Plan) (e : Outset) (walked : Place → B
       ∙ then-grouped (core_of set st k w) _ _
 
   pub stored_steps : (room : Push → Type 0) → HasRoom set e room → 1 ≤ st.owed → 1 ≤ st.unstored
-      → Steps room (in_hand set e (after_store k st)) (Holds set e (after_store k st)) (store_corner set st.parent st.cell k w) (store_first set e room st.cell k (in_hand set e st w t)) t'
+      → Alike room (in_hand set e (after_store k st)) (Holds set e (after_store k st)) (store_corner set st.parent st.cell k w) (store_first set e room st.cell k (in_hand set e st w t)) t'
   stored_steps room rooms owed unstored =
       let its_hand = hand set e walked is st stage w t h k from below t' run in
       let last = is_none (to_of set st k) in
-      subst (λ (c : Course Working). Steps room (in_hand set e (after_store k st)) (Holds set e (after_store k st)) c (store_first set e room st.cell k (in_hand set e st w t)) t') (sym its_hand.same)
-      (subst (λ x. Steps room (in_hand set e (after_store k st)) (Holds set e (after_store k st)) (stored_by set st k w last) (store_first set e room st.cell k (in_hand set e st w t)) x)
+      subst (λ (c : Course Working). Alike room (in_hand set e (after_store k st)) (Holds set e (after_store k st)) c (store_first set e room st.cell k (in_hand set e st w t)) t') (sym its_hand.same)
+      (subst (λ x. Alike room (in_hand set e (after_store k st)) (Holds set e (after_store k st)) (stored_by set st k w last) (store_first set e room st.cell k (in_hand set e st w t)) x)
       (places_are set e walked is st stage w t h k from below t' run)
       (record {
         same = matches-same room (λ v. in_hand set e (after_store k st) v now) (stored_by set st k w last) _ _ (sym (machine_is room))

@@ -14,12 +14,12 @@ use Rattle.pe_base.specs.Walk.Maps.{at, at_corner}
 use Rattle.pe_base.specs.Walk.Core.{Setting}
 use Rattle.pe_base.specs.Walk.Working.{Working, no_vertex, vertex_at, record_at}
 use Rattle.pe_base.specs.Walk.Touches.{put_stored}
-use Rattle.pe_base.proofs.Steps.Counts.{is_same_itself}
+use Rattle.pe_base.proofs.Steps.VertexTouches.{is_same_itself}
 use Rattle.pe_base.proofs.Walk.MapLaws.{found-changed, at-put, at-removed}
 use Rattle.pe_base.proofs.Walk.Slots.{is_hung}
 use Rattle.pe_base.proofs.Walk.CellCorners.{corners_apart}
 use Rattle.pe_walk.proofs.Simulation.Levels.{levels_differ}
-use Rattle.pe_walk.proofs.Simulation.Stores.Places.{IsOther}
+use Rattle.pe_walk.proofs.Simulation.Stores.OnStacks.{IsOther}
 
 -- a corner that hangs is no longer there; one that counts is left, or is gone
 pub record Leaves (axes : ℕ) (cell : Place) (k : ℕ) (counts : Bool) (left : Option VertexRecord) (w after : Working) : Type 0 where

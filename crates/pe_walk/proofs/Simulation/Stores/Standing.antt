@@ -14,7 +14,7 @@ use Rattle.pe_walk.specs.Standing.{Outset, Stage, Stands, Owes}
 use Rattle.pe_walk.proofs.Simulation.Leaves.{after_store}
 use Rattle.pe_walk.proofs.Simulation.Levels.{levels_differ}
 use Rattle.pe_walk.proofs.Simulation.Shared.{owes-more}
-use Rattle.pe_walk.proofs.Simulation.Stores.Places.{stored, Within, held-other, held-most, out-put, fresh-put, count-put, stack-put, len-put}
+use Rattle.pe_walk.proofs.Simulation.Stores.OnStacks.{stored, Within, held-other, held-most, out-put, fresh-put, count-put, stack-put, len-put}
 
 -- the places
 pub stands-stored : (axes : ℕ) (o : Outlook) (st : Stage) (t : Tokens) (goal : Option ℕ) (k : ℕ) → Stands axes o st t → st.from ≡ k → k < 2 ^ axes → axes ≤ length st.cell.pos → st.parent.level + 1 ≡ st.cell.level

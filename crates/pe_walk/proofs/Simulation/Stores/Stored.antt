@@ -22,7 +22,7 @@ use Rattle.pe_walk.proofs.Simulation.LoadedKinds.{parent_long}
 use Rattle.pe_walk.proofs.Simulation.Leaves.{after_store}
 use Rattle.pe_walk.proofs.Simulation.Levels.{levels_differ}
 use Rattle.pe_walk.proofs.Simulation.Shared.{PutsBack, has_put}
-use Rattle.pe_walk.proofs.Simulation.Stores.Places.{stored, Within}
+use Rattle.pe_walk.proofs.Simulation.Stores.OnStacks.{stored, Within}
 use Rattle.pe_walk.proofs.Simulation.Stores.Standing.{stands-stored, owes-stored}
 use Rattle.pe_walk.proofs.Simulation.Stores.Goals.{Goes, goal_of, goes_by}
 use Rattle.pe_walk.proofs.Simulation.Stores.InHand.{InHand, in_hand}

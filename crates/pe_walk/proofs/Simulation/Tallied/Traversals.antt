@@ -27,9 +27,9 @@ use Rattle.pe_walk.specs.Tokens as tokens
 use Rattle.pe_walk.specs.Outlooks.{outlook}
 use Rattle.pe_walk.specs.Standing.{Outset, IsOutset, Holds}
 use Rattle.pe_walk.specs.Tallies.{each_counted, counted_walk, foreseen_tally, ExactTraffic}
-use Rattle.pe_walk.specs.Gridded.{MayTurn, ports_of}
+use Rattle.pe_walk.specs.Gridded.{MachineMayTraverse, ports_of}
 use Rattle.pe_walk.specs.FewCells.{most_cells}
-use Rattle.pe_walk.specs.TurnTraffic.{TallyIsForeseen, TurnsAreExact}
+use Rattle.pe_walk.specs.TraversalTraffic.{TallyIsForeseen, TraversalsAreExact}
 use Rattle.pe_walk.proofs.Trees.{root_is_cell}
 use Rattle.pe_walk.proofs.GridCells.{traffic_of_grids}
 use Rattle.pe_stacks.proofs.Raising.{raises_at_most}
@@ -39,14 +39,14 @@ use Rattle.pe_walk.proofs.Tokens.Rises.{counts_of_a_traversal}
 use Rattle.pe_walk.proofs.Tokens.Traversals.{whole_traversal}
 use Rattle.pe_walk.proofs.Simulation.Matching.{ending_map}
 use Rattle.pe_walk.proofs.Simulation.Leaves.{image_of, record_of, at_root}
-use Rattle.pe_walk.proofs.Simulation.Counts.{plain_leaf}
+use Rattle.pe_walk.proofs.Simulation.CellsCounted.{plain_leaf}
 use Rattle.pe_walk.proofs.Simulation.RootCorners.{has_corners}
 use Rattle.pe_walk.proofs.Simulation.Starts.{tokens_of, outset_of, dim_of, grown_of, may_traverse, image_vertices, image_cells, cornered, start, is_outset, starts}
 use Rattle.pe_walk.proofs.Simulation.Traverses.{machine_is, model_is}
 use Rattle.pe_walk.proofs.Simulation.Cells.Children.{kids, kids_stages, between}
 use Rattle.pe_walk.proofs.Simulation.Cells.Roots.{rooted, root_goes}
 use Rattle.pe_walk.proofs.Simulation.Cells.Simulated.{cell_simulated, traversal_simulated}
-use Rattle.pe_walk.proofs.Simulation.Tallied.Steps.{plain_counted}
+use Rattle.pe_walk.proofs.Simulation.Tallied.Parts.{plain_counted}
 use Rattle.pe_walk.proofs.Simulation.Tallied.Alike.{CountAlike, is_seen, exact-alike, raises-alike}
 use Rattle.pe_walk.proofs.Simulation.Tallied.Walks.{any_room, roomy, walk_counted, children_counted}
 
@@ -87,7 +87,7 @@ from_image f (done w) x h = (w, refl, done_same x (f w) h)
 from_image f (halts cause) x h = absurd cc
 from_image f stuck x h = absurd cc
 
-module _ {Plan : Type 0} (set : Setting Plan) (grid : Grid) (swapped : Bool) (m : Machine) (may : MayTurn set grid swapped m) where
+module _ {Plan : Type 0} (set : Setting Plan) (grid : Grid) (swapped : Bool) (m : Machine) (may : MachineMayTraverse set grid swapped m) where
   abbrev e : Outset
   e = outset_of set grid swapped m
 
@@ -160,7 +160,7 @@ record EndsAs {Plan : Type 0} (set : Setting Plan) (grid : Grid) (swapped : Bool
   cells : after.cells ≡ map_holdings seen_cell places.cells
   tally : after.tally ≡ foreseen_tally set.start_level grid swapped
 
-ends_as : {Plan : Type 0} (set : Setting Plan) (grid : Grid) (swapped : Bool) (m after : Machine) (may : MayTurn set grid swapped m) → (machine.traverse set (ports_of swapped) grid.greatest m).ending ≡ done after
+ends_as : {Plan : Type 0} (set : Setting Plan) (grid : Grid) (swapped : Bool) (m after : Machine) (may : MachineMayTraverse set grid swapped m) → (machine.traverse set (ports_of swapped) grid.greatest m).ending ≡ done after
     → EndsAs set grid swapped (whole set grid swapped m may).0 after
 ends_as set grid swapped m after may q =
     let e = outset_of set grid swapped m in
@@ -191,8 +191,8 @@ ends_as set grid swapped m after may q =
     }
 
 -- so does the machine
-pub turns_are_exact : {Plan : Type 0} → TurnsAreExact Plan
-turns_are_exact set grid swapped m after may q =
+pub traversals_are_exact : {Plan : Type 0} → TraversalsAreExact Plan
+traversals_are_exact set grid swapped m after may q =
     let o = outlook set.start_level grid swapped in
     let places = tokens_of grid swapped m in
     let places' = (whole set grid swapped m may).0 in

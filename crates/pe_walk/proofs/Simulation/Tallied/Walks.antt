@@ -2,7 +2,7 @@
 use Rattle.std.proofs.Common.{◌≡◌, ℕ, zero, suc, ◌+◌, ◌^◌, ◌≤◌, Bool, true, false, not, List, [], ◌∷◌, ◌++◌, map, reverse, Option, Some, refl, sym, ap, ap₂, subst, ◌∙◌, append_assoc, arith}
 use Rattle.std.specs.Prelude.{if◌then◌else◌}
 use Rattle.std.specs.Option.{option_and_then}
-use Rattle.std.specs.List.{range_with_len, flat_map}
+use Rattle.std.specs.List.{range_with_len, flat_map, AllByRecursion as Each}
 use Rattle.pe_base.specs.declared.place.Place.{Place}
 use Rattle.pe_base.specs.declared.kind.Kind.{Kind}
 use Rattle.pe_base.specs.declared.kind.Kind.TheVariants.{Kept, Born, Dying, Hanging}
@@ -17,7 +17,7 @@ use Rattle.pe_base.specs.Walk.Touches.{tally_cell}
 use Rattle.pe_base.specs.Walk.Touches as model
 use Rattle.pe_base.specs.Walk.Walk as walks
 use Rattle.pe_base.specs.Walk.Streams.{if_walks, walked_children, walked_cells}
-use Rattle.pe_base.proofs.Lists.{Each, map-reverse}
+use Rattle.pe_base.proofs.Lists.{map-reverse}
 use Rattle.pe_base.proofs.Walk.Courses.{done_same}
 use Rattle.pe_stacks.proofs.CornerSlots.{corners_range}
 use Rattle.pe_walk.specs.Tokens.{Outlook, Tokens, given, each_some, touch_of}
@@ -25,7 +25,7 @@ use Rattle.pe_walk.specs.Tokens as tokens
 use Rattle.pe_walk.specs.Standing.{Outset, Stage, IsStage, Holds, HasRoom, IsOutset}
 use Rattle.pe_walk.specs.Tallies.{each_counted, counted_load, counted_store, counted_around, counted_walk}
 use Rattle.pe_walk.proofs.Simulation.Leaves.{after_count, after_load, after_leave, after_store}
-use Rattle.pe_walk.proofs.Simulation.Counts.{count_leaf}
+use Rattle.pe_walk.proofs.Simulation.CellsCounted.{count_leaf}
 use Rattle.pe_walk.proofs.Simulation.Loads.Leaf.{load_leaf}
 use Rattle.pe_walk.proofs.Simulation.Stores.Leaf.{store_leaf}
 use Rattle.pe_walk.proofs.Simulation.Visits.Entering.{enter_leaf}
@@ -35,7 +35,7 @@ use Rattle.pe_walk.proofs.Simulation.Cells.Inside.{at_child, with_ahead, IsOpen,
 use Rattle.pe_walk.proofs.Simulation.Cells.Children.{kids, kids_stages, between, children_along, cells_of, model_found, below_none, below_some}
 use Rattle.pe_walk.proofs.Simulation.Cells.Walks.{all_loaded, opened, is_open, all_loads_sim}
 use Rattle.pe_walk.proofs.Simulation.Cells.Simulated.{cell_simulated}
-use Rattle.pe_walk.proofs.Simulation.Tallied.Steps.{Counted, Leads, counted-then, count_counted, enter_counted, leave_counted, load_counted, store_counted}
+use Rattle.pe_walk.proofs.Simulation.Tallied.Parts.{Counted, Leads, counted-then, count_counted, enter_counted, leave_counted, load_counted, store_counted}
 
 -- steps over a list made from another
 each-map : {A B : Type 0} (step : B → Tally → Tally) (f : A → B) (xs : List A) (tally : Tally) → each_counted step (map f xs) tally ≡ each_counted (λ x. step (f x)) xs tally

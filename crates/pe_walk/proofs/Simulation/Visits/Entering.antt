@@ -18,7 +18,7 @@ use Rattle.pe_stacks.specs.Holdings.{Holdings, stack_at, items_at, len_at, lent,
 use Rattle.pe_stacks.specs.Grid.{cell_input_stack}
 use Rattle.pe_hang.specs.InHand.{map_holdings}
 use Rattle.pe_hang.specs.Moves.{pop}
-use Rattle.pe_base.specs.Steps.Stacks.{is_stack}
+use Rattle.pe_base.specs.Alike.Stacks.{is_stack}
 use Rattle.pe_base.proofs.Tree.Ranks.{same_places}
 use Rattle.pe_walk.specs.Machine.{Machine, cell_comes}
 use Rattle.pe_walk.specs.Machine as machine
@@ -31,12 +31,12 @@ use Rattle.pe_walk.specs.Outlooks.{was_stored}
 use Rattle.pe_walk.specs.Standing.{Outset, Stage, per_cell, Stands, Fair, Owes, Holds, IsOutset, IsStage, times}
 use Rattle.pe_walk.proofs.Tokens.Apart.{map_some, one_if, at_most_one}
 use Rattle.pe_walk.proofs.Tokens.CellsAhead.{steps_keep_ahead}
-use Rattle.pe_walk.proofs.Tokens.StepFrames as frames
+use Rattle.pe_walk.proofs.Tokens.MoveFrames as frames
 use Rattle.pe_walk.proofs.Tokens.CountLists.{count-cons}
 use Rattle.pe_walk.proofs.Tokens.DepotCounts.{Took, take_counts}
 use Rattle.pe_walk.proofs.Tokens.Stacks.{popped_same, popped_other}
 use Rattle.pe_walk.proofs.Tokens.Keeping.{given_some}
-use Rattle.pe_walk.proofs.Simulation.Matching.{Steps, core-matches, mapped-done, matches-same}
+use Rattle.pe_walk.proofs.Simulation.Matching.{Alike, core-matches, mapped-done, matches-same}
 use Rattle.pe_walk.proofs.Simulation.Silent.{enter-silent}
 use Rattle.pe_walk.proofs.Simulation.CoreLaws.{core_keeps}
 use Rattle.pe_walk.proofs.Simulation.Below.{cell_found}
@@ -316,14 +316,14 @@ module _ {Plan : Type 0} (set : Setting Plan) (e : Outset) (walked : Place → B
   alike_after r ends = (core_keeps set is.foresees.lawful).enters kind (cell_at w st.cell) st.cell (records_of set.axes w st.cell) (family_of set.axes w st.parent) r ends
 
   pub entered_steps : (room : Push → Type 0)
-      → Steps room (own_in_hand set e (after_enter rest st)) (Holds set e (after_enter rest st)) (model.enter_cell set st.parent st.cell w)
+      → Alike room (own_in_hand set e (after_enter rest st)) (Holds set e (after_enter rest st)) (model.enter_cell set st.parent st.cell w)
       (machine.enter_cell set (ports set e room) st.cell (records_of set.axes w st.cell) (image_of set e st.parent w t)) t'
   entered_steps room =
       let found = cell_found set e walked is st w t h stage in
       let walked_kind : is_hanging kind ≡ false = is_walked (is_hanging kind) (sym (is.foresees.walks st.parent) ∙ stage.walked) in
       let come = comes room kind walked_kind (is.foresees.reads_cell st.cell stage.deep ∙ ap (λ p. was_stored (e.foresight.below p)) stage.above) in
       let m' : Machine = record (image_of set e st.parent w t) { cells = map_holdings (cell_at w) took.0 } in
-      subst (λ (c : Course Working). Steps room (own_in_hand set e (after_enter rest st)) (Holds set e (after_enter rest st)) c
+      subst (λ (c : Course Working). Alike room (own_in_hand set e (after_enter rest st)) (Holds set e (after_enter rest st)) c
       (machine.enter_cell set (ports set e room) st.cell (records_of set.axes w st.cell) (image_of set e st.parent w t)) t')
       (ap (λ k. course_map (λ it. after_cell set st.parent st.cell it w) (enter_touch set k (cell_at w st.cell) st.cell (records_of set.axes w st.cell) (family_of set.axes w st.parent))) (sym found.by_map))
       (record {
@@ -354,6 +354,6 @@ all_records set e w cell from all =
 
 pub enter_leaf : {Plan : Type 0} (set : Setting Plan) (e : Outset) (walked : Place → Bool) (room : Push → Type 0) → IsOutset set e walked → EnterLeaf set e room
 enter_leaf set e walked room is st rest stage all next owed counted w t t' h runs =
-    subst (λ records. Steps room (own_in_hand set e (after_enter rest st)) (Holds set e (after_enter rest st)) (model.enter_cell set st.parent st.cell w)
+    subst (λ records. Alike room (own_in_hand set e (after_enter rest st)) (Holds set e (after_enter rest st)) (model.enter_cell set st.parent st.cell w)
     (machine.enter_cell set (ports set e room) st.cell records (image_of set e st.parent w t)) t') (all_records set e w st.cell st.from all)
     (entered_steps set e walked is st rest stage all next owed counted w t t' h runs room)

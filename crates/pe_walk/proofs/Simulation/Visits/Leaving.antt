@@ -10,14 +10,14 @@ use Rattle.pe_base.specs.Tree.Dim.{IsDim}
 use Rattle.pe_base.specs.Tree.Places.{is_same}
 use Rattle.pe_base.specs.Life.States.{is_stored}
 use Rattle.pe_base.specs.Life.Kinds.{is_hanging}
-use Rattle.pe_base.specs.Steps.Stacks.{is_stack}
+use Rattle.pe_base.specs.Alike.Stacks.{is_stack}
 use Rattle.pe_base.specs.Walk.Maps.{Map, at, removed}
 use Rattle.pe_base.specs.Walk.Course.{Push, Course, done, at_once, and_then, course_map}
 use Rattle.pe_base.specs.Walk.Core.{Setting, Family, Own, leave_touch}
 use Rattle.pe_base.specs.Walk.Working.{Working, cell_at, records_of, family_of, own_of}
 use Rattle.pe_base.specs.Walk.Touches.{after_cell, put_left}
 use Rattle.pe_base.specs.Walk.Touches as model
-use Rattle.pe_base.proofs.Steps.Counts.{is_same_itself}
+use Rattle.pe_base.proofs.Alike.VertexTouches.{is_same_itself}
 use Rattle.pe_base.proofs.Walk.MapLaws.{at-removed}
 use Rattle.pe_base.proofs.Tree.Ranks.{same_places}
 use Rattle.pe_stacks.specs.Holdings.{Holdings, stack_count, stack_at, items_at, len_at, given_up, pushed}
@@ -35,9 +35,9 @@ use Rattle.pe_walk.specs.Frames.{AfterLeave}
 use Rattle.pe_walk.specs.Gridded.{ports_of}
 use Rattle.pe_walk.specs.Standing.{Outset, Stage, Stands, Fair, Owes, Holds, HasRoom, IsOutset, IsStage, times}
 use Rattle.pe_walk.proofs.Tokens.CellsAhead.{steps_keep_ahead}
-use Rattle.pe_walk.proofs.Tokens.StepFrames as frames
+use Rattle.pe_walk.proofs.Tokens.MoveFrames as frames
 use Rattle.pe_walk.proofs.Tokens.DepotCounts.{Gave, put_counts}
-use Rattle.pe_walk.proofs.Simulation.Matching.{Matches, Steps, core-then-matches, mapped-done, matches-same}
+use Rattle.pe_walk.proofs.Simulation.Matching.{Matches, Alike, core-then-matches, mapped-done, matches-same}
 use Rattle.pe_walk.proofs.Simulation.Silent.{leave-silent}
 use Rattle.pe_walk.proofs.Simulation.CoreLaws.{core_keeps}
 use Rattle.pe_walk.proofs.Simulation.Below.{cell_found}
@@ -398,11 +398,11 @@ module _ {Plan : Type 0} (set : Setting Plan) (e : Outset) (walked : Place → B
   alike_after r ends = (core_keeps set is.foresees.lawful).leaves kind st.cell (own_of set.axes w st.cell) (family_of set.axes w st.parent) r ends
 
   pub left_steps : (room : Push → Type 0) → HasRoom set e room
-      → Steps room (in_hand set e (after_leave outer st)) (Holds set e (after_leave outer st)) (model.leave_cell set st.parent st.cell w)
+      → Alike room (in_hand set e (after_leave outer st)) (Holds set e (after_leave outer st)) (model.leave_cell set st.parent st.cell w)
       (machine.leave_cell set (ports set e room) st.cell (own_of set.axes w st.cell, image_of set e st.parent w t)) t'
   left_steps room has =
       let finds = cell_found set e walked is st w t h stage in
-      subst (λ (c : Course Working). Steps room (in_hand set e (after_leave outer st)) (Holds set e (after_leave outer st)) c
+      subst (λ (c : Course Working). Alike room (in_hand set e (after_leave outer st)) (Holds set e (after_leave outer st)) c
       (machine.leave_cell set (ports set e room) st.cell (own_of set.axes w st.cell, image_of set e st.parent w t)) t')
       (ap (λ k. course_map (λ it. put_left set k st.cell (after_cell set st.parent st.cell it w)) (leave_touch set k st.cell (own_of set.axes w st.cell) (family_of set.axes w st.parent))) (sym finds.by_map))
       (record {

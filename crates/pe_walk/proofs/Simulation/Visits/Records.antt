@@ -9,7 +9,7 @@ use Rattle.pe_base.specs.Walk.Maps.{Map, at}
 use Rattle.pe_base.specs.Walk.Core.{Setting, Family, Own, way}
 use Rattle.pe_base.specs.Walk.Working.{Working, record_at, records_of, family_of, own_of, put_own}
 use Rattle.pe_base.specs.Walk.Touches.{after_cell}
-use Rattle.pe_base.proofs.Steps.Counts.{is_same_itself}
+use Rattle.pe_base.proofs.Steps.VertexTouches.{is_same_itself}
 use Rattle.pe_base.proofs.Walk.Slots.{is_hung}
 use Rattle.pe_walk.specs.Laws.{IsCell}
 use Rattle.pe_walk.specs.CoreKeeps.{AreAlike, KeepsParents}

@@ -24,7 +24,7 @@ use Rattle.pe_walk.specs.InHand.{IsWalked, ports_of, failure_in}
 use Rattle.pe_walk.specs.Machine.{Machine, enter_cell, outside, walk_cell}
 use Rattle.pe_walk.specs.Children.{IsAbove}
 use Rattle.pe_walk.specs.Visits.{walk_children, with_family}
-use Rattle.pe_walk.proofs.Walking.{hands, machine_of, found_in, set_in, Goes, goes-set, keeps-same, keeps-then, steps-may, steps-then, steps-err, steps-as}
+use Rattle.pe_walk.proofs.Walking.{hands, machine_of, found_in, set_in, Goes, goes-set, keeps-same, keeps-then, runs-may, runs-then, runs-err, runs-as}
 use Rattle.pe_walk.proofs.Markings.{kind_among-kept, kind_among-deep, kind_below-marks, any-kind, length-seen, few-corners, marks-kept}
 use Rattle.pe_walk.proofs.Children.{child-walked}
 use Rattle.pe_walk.proofs.Below.{below-hanging, below-walked, below-greatest}
@@ -60,7 +60,7 @@ visit_cell-walk_below-requires g t c κs within =
     let entered = λ (own : ACell g.row.M-C.Denot). (let it : Own × Machine = (own_in_hand numbers own c.enter_cell.new.corners, machine_of rules numbers s mid) in it) in
     let goes : Goes rules numbers s old mid = record { keeps = c.in-Ok.ensures.keeps; vertices = λ n. omega arith; cells = c.in-Ok.ensures.left.keeps } in
     let in_enter = c.in-Ok.ensures.follows old.vertices (held_by old.vertices old.room) in
-    let fits = steps-may rules numbers s enters (after_enter ports levels place) entered c.in-Ok.entered old mid c.requires.fits in_enter goes in
+    let fits = runs-may rules numbers s enters (after_enter ports levels place) entered c.in-Ok.entered old mid c.requires.fits in_enter goes in
     let outer = family_in_hand numbers c.enter_cell.new.parents c.enter_cell.new.parent mid.held.list in
     let walked : IsWalked mid.held.dim s c.args.cell.now = subst (λ d. IsWalked d s c.args.cell.now) (sym c.in-Ok.ensures.keeps.dim) c.requires.walked in
     let full : IsFull mid.held.dim c.enter_cell.new.corners = subst (λ d. IsFull d c.enter_cell.new.corners) (sym c.in-Ok.ensures.keeps.dim) c.in-Ok.ensures.own_full in
@@ -127,13 +127,13 @@ visit_cell-leave_cell-requires-clause-fits g t c =
     let entered = λ (own : ACell g.row.M-C.Denot). (let it : Own × Machine = (own_in_hand numbers own c.enter_cell.new.corners, machine_of rules numbers s mid) in it) in
     let goes : Goes rules numbers s old mid = record { keeps = c.in-Ok.ensures.keeps; vertices = λ n. omega arith; cells = c.in-Ok.ensures.left.keeps } in
     let in_enter = c.in-Ok.ensures.follows old.vertices (held_by old.vertices old.room) in
-    let fits = steps-may rules numbers s enters (after_enter ports levels place) entered c.in-Ok.entered old mid c.requires.fits in_enter goes in
+    let fits = runs-may rules numbers s enters (after_enter ports levels place) entered c.in-Ok.entered old mid c.requires.fits in_enter goes in
     let outer = family_in_hand numbers c.enter_cell.new.parents c.enter_cell.new.parent mid.held.list in
     let lowers = below ports levels place (entered c.in-Ok.entered) in
     let left = λ (u : Unit {0}). (let it : Own × Machine = (own_in_hand numbers c.walk_below.new.own c.walk_below.new.corners, machine_of rules numbers s low) in it) in
     let goes_low : Goes rules numbers s mid low = record { keeps = c.in-Ok-walk_below.ensures.keeps; vertices = c.in-Ok-walk_below.ensures.left.keeps; cells = c.in-Ok-walk_below.ensures.cells_left.keeps } in
     let in_below = c.in-Ok-walk_below.ensures.follows outer in
-    (low.vertices, steps-may rules numbers s lowers (leaving ports levels place) left tt mid low fits in_below goes_low)
+    (low.vertices, runs-may rules numbers s lowers (leaving ports levels place) left tt mid low fits in_below goes_low)
 
 pub visit_cell-returns-in-Ok-walk_below-clause-follows : goal.visit_cell-returns-in-Ok-walk_below-clause-follows
 visit_cell-returns-in-Ok-walk_below-clause-follows g t c =
@@ -152,7 +152,7 @@ visit_cell-returns-in-Ok-walk_below-clause-follows g t c =
     let entered = λ (own : ACell g.row.M-C.Denot). (let it : Own × Machine = (own_in_hand numbers own c.enter_cell.new.corners, machine_of rules numbers s mid) in it) in
     let goes : Goes rules numbers s old mid = record { keeps = c.in-Ok.ensures.keeps; vertices = λ n. omega arith; cells = c.in-Ok.ensures.left.keeps } in
     let in_enter = c.in-Ok.ensures.follows old.vertices (held_by old.vertices old.room) in
-    let fits = steps-may rules numbers s enters (after_enter ports levels place) entered c.in-Ok.entered old mid c.requires.fits in_enter goes in
+    let fits = runs-may rules numbers s enters (after_enter ports levels place) entered c.in-Ok.entered old mid c.requires.fits in_enter goes in
     let outer = family_in_hand numbers c.enter_cell.new.parents c.enter_cell.new.parent mid.held.list in
     let lowers = below ports levels place (entered c.in-Ok.entered) in
     let left = λ (u : Unit {0}). (let it : Own × Machine = (own_in_hand numbers c.walk_below.new.own c.walk_below.new.corners, machine_of rules numbers s low) in it) in
@@ -160,8 +160,8 @@ visit_cell-returns-in-Ok-walk_below-clause-follows g t c =
     let in_below = c.in-Ok-walk_below.ensures.follows outer in
     let after = λ (u : Unit {0}). (let it : List VertexRecord × Machine = (seen_corners numbers.vertex c.leave_cell.new.corners, machine_of rules numbers s new) in it) in
     let answer = read_by (failure_in c.leave_cell.new.progress) c.leave_cell.result in
-    steps-then rules numbers s enters (after_enter ports levels place) entered c.in-Ok.entered after answer old mid new in_enter goes
-    (steps-then rules numbers s lowers (leaving ports levels place) left tt after answer mid low new in_below goes_low
+    runs-then rules numbers s enters (after_enter ports levels place) entered c.in-Ok.entered after answer old mid new in_enter goes
+    (runs-then rules numbers s lowers (leaving ports levels place) left tt after answer mid low new in_below goes_low
     (c.leave_cell.ensures.follows low.vertices (held_by low.vertices low.room)))
 
 pub visit_cell-returns-in-Err-walk_below-clause-follows : goal.visit_cell-returns-in-Err-walk_below-clause-follows
@@ -180,14 +180,14 @@ visit_cell-returns-in-Err-walk_below-clause-follows g t c =
     let entered = λ (own : ACell g.row.M-C.Denot). (let it : Own × Machine = (own_in_hand numbers own c.enter_cell.new.corners, machine_of rules numbers s mid) in it) in
     let goes : Goes rules numbers s old mid = record { keeps = c.in-Ok.ensures.keeps; vertices = λ n. omega arith; cells = c.in-Ok.ensures.left.keeps } in
     let in_enter = c.in-Ok.ensures.follows old.vertices (held_by old.vertices old.room) in
-    let fits = steps-may rules numbers s enters (after_enter ports levels place) entered c.in-Ok.entered old mid c.requires.fits in_enter goes in
+    let fits = runs-may rules numbers s enters (after_enter ports levels place) entered c.in-Ok.entered old mid c.requires.fits in_enter goes in
     let outer = family_in_hand numbers c.enter_cell.new.parents c.enter_cell.new.parent mid.held.list in
     let lowers = below ports levels place (entered c.in-Ok.entered) in
     let left = λ (u : Unit {0}). (let it : Own × Machine = (own_in_hand numbers c.walk_below.new.own c.walk_below.new.corners, machine_of rules numbers s new) in it) in
     let after = λ (u : Unit {0}). (let it : List VertexRecord × Machine = (seen_corners numbers.vertex c.walk_below.new.corners, machine_of rules numbers s new) in it) in
     let failure = failure_in c.walk_below.new.progress c.in-Err-walk_below.halt in
-    steps-then rules numbers s enters (after_enter ports levels place) entered c.in-Ok.entered after (Err failure) old mid new in_enter goes
-    (steps-err rules numbers s lowers (leaving ports levels place) left after failure mid new (c.in-Err-walk_below.ensures.follows outer))
+    runs-then rules numbers s enters (after_enter ports levels place) entered c.in-Ok.entered after (Err failure) old mid new in_enter goes
+    (runs-err rules numbers s lowers (leaving ports levels place) left after failure mid new (c.in-Err-walk_below.ensures.follows outer))
 
 pub visit_cell-returns-in-Err-clause-follows : goal.visit_cell-returns-in-Err-clause-follows
 visit_cell-returns-in-Err-clause-follows g t c =
@@ -203,7 +203,7 @@ visit_cell-returns-in-Err-clause-follows g t c =
     let enters = entering ports levels place its (machine_of rules numbers s old) in
     let entered = λ (own : ACell g.row.M-C.Denot). (let it : Own × Machine = (own_in_hand numbers own c.enter_cell.new.corners, machine_of rules numbers s mid) in it) in
     let after = λ (u : Unit {0}). (let it : List VertexRecord × Machine = (seen_corners numbers.vertex c.enter_cell.new.corners, machine_of rules numbers s mid) in it) in
-    steps-err rules numbers s enters (after_enter ports levels place) entered after (failure_in c.enter_cell.new.progress c.in-Err.halt) old mid (c.in-Err.ensures.follows old.vertices (held_by old.vertices old.room))
+    runs-err rules numbers s enters (after_enter ports levels place) entered after (failure_in c.enter_cell.new.progress c.in-Err.halt) old mid (c.in-Err.ensures.follows old.vertices (held_by old.vertices old.room))
 
 pub walk_below-returns-then-levels-eq0-clause-follows : goal.walk_below-returns-then-levels-eq0-clause-follows
 walk_below-returns-then-levels-eq0-clause-follows g t c =
@@ -356,7 +356,7 @@ walk_cell-load_corners-requires-clause-fits g t c =
     let in_count = counts-to ports levels place (set_in rules numbers s old) (machine_of rules numbers s old) c.count_cell.new.progress.tally (found_in rules numbers s old)
     (and_then-fits (counts (set_in rules numbers s old)) (after_count ports levels place (set_in rules numbers s old)) c.requires.fits) c.count_cell.ensures.tally c.in-Ok.ensures.within in
     let goes_count : Goes rules numbers s old counted = record { keeps = keeps-same old.held; vertices = λ n. omega arith; cells = λ n. omega arith } in
-    let fits = steps-may rules numbers s counts (after_count ports levels place) to_count tt old counted c.requires.fits in_count goes_count in
+    let fits = runs-may rules numbers s counts (after_count ports levels place) to_count tt old counted c.requires.fits in_count goes_count in
     let loads = loading ports levels place (machine_of rules numbers s counted) in
     load_all-any_cells (set_in rules numbers s counted) ports place cells' (2 ^ counted.held.dim) [] (machine_of rules numbers s counted)
     (and_then-fits (loads (set_in rules numbers s counted)) (after_load ports levels place (set_in rules numbers s counted)) fits)
@@ -378,13 +378,13 @@ walk_cell-returns-in-Err-load_corners-clause-follows g t c =
     let in_count = counts-to ports levels place (set_in rules numbers s old) (machine_of rules numbers s old) c.count_cell.new.progress.tally (found_in rules numbers s old)
     (and_then-fits (counts (set_in rules numbers s old)) (after_count ports levels place (set_in rules numbers s old)) c.requires.fits) c.count_cell.ensures.tally c.in-Ok.ensures.within in
     let goes_count : Goes rules numbers s old counted = record { keeps = keeps-same old.held; vertices = λ n. omega arith; cells = λ n. omega arith } in
-    let fits = steps-may rules numbers s counts (after_count ports levels place) to_count tt old counted c.requires.fits in_count goes_count in
+    let fits = runs-may rules numbers s counts (after_count ports levels place) to_count tt old counted c.requires.fits in_count goes_count in
     let loads = loading ports levels place (machine_of rules numbers s counted) in
     let to_load = λ (u : Unit {0}). (let it : List VertexRecord × Machine = (seen_corners numbers.vertex c.load_corners.new.corners, machine_of rules numbers s loaded) in it) in
     let after = λ (u : Unit {0}). machine_of rules numbers s loaded in
     let failure = failure_in c.load_corners.new.progress c.in-Err-load_corners.halt in
-    steps-then rules numbers s counts (after_count ports levels place) to_count tt after (Err failure) old counted loaded in_count goes_count
-    (steps-err rules numbers s loads (after_load ports levels place) to_load after failure counted loaded (c.in-Err-load_corners.ensures.follows cells (held_by old.cells old.cell_room)))
+    runs-then rules numbers s counts (after_count ports levels place) to_count tt after (Err failure) old counted loaded in_count goes_count
+    (runs-err rules numbers s loads (after_load ports levels place) to_load after failure counted loaded (c.in-Err-load_corners.ensures.follows cells (held_by old.cells old.cell_room)))
 
 pub walk_cell-visit_cell-requires : goal.walk_cell-visit_cell-requires
 walk_cell-visit_cell-requires g t c κs within =
@@ -403,13 +403,13 @@ walk_cell-visit_cell-requires g t c κs within =
     let in_count = counts-to ports levels place (set_in rules numbers s old) (machine_of rules numbers s old) c.count_cell.new.progress.tally (found_in rules numbers s old)
     (and_then-fits (counts (set_in rules numbers s old)) (after_count ports levels place (set_in rules numbers s old)) c.requires.fits) c.count_cell.ensures.tally c.in-Ok.ensures.within in
     let goes_count : Goes rules numbers s old counted = record { keeps = keeps-same old.held; vertices = λ n. omega arith; cells = λ n. omega arith } in
-    let fits = steps-may rules numbers s counts (after_count ports levels place) to_count tt old counted c.requires.fits in_count goes_count in
+    let fits = runs-may rules numbers s counts (after_count ports levels place) to_count tt old counted c.requires.fits in_count goes_count in
     let loads = loading ports levels place (machine_of rules numbers s counted) in
     let its = seen_corners numbers.vertex c.load_corners.new.corners in
     let to_load = λ (u : Unit {0}). (let it : List VertexRecord × Machine = (its, machine_of rules numbers s loaded) in it) in
     let in_load = c.in-Ok-load_corners.ensures.follows cells (held_by old.cells old.cell_room) in
     let goes_load : Goes rules numbers s counted loaded = record { keeps = c.in-Ok-load_corners.ensures.keeps; vertices = c.in-Ok-load_corners.ensures.left.keeps; cells = λ n. omega arith } in
-    let fits_load = steps-may rules numbers s loads (after_load ports levels place) to_load tt counted loaded fits in_load goes_load in
+    let fits_load = runs-may rules numbers s loads (after_load ports levels place) to_load tt counted loaded fits in_load goes_load in
     let it = to_load tt in
     let fits_visit = subst Fits (sym (visit-grouped ports levels place (set_in rules numbers s loaded) it)) fits_load in
     let visits = visiting ports levels place it in
@@ -481,13 +481,13 @@ walk_cell-store_corners-requires-clause-fits g t c =
     let in_count = counts-to ports levels place (set_in rules numbers s old) (machine_of rules numbers s old) c.count_cell.new.progress.tally (found_in rules numbers s old)
     (and_then-fits (counts (set_in rules numbers s old)) (after_count ports levels place (set_in rules numbers s old)) c.requires.fits) c.count_cell.ensures.tally c.in-Ok.ensures.within in
     let goes_count : Goes rules numbers s old counted = record { keeps = keeps-same old.held; vertices = λ n. omega arith; cells = λ n. omega arith } in
-    let fits = steps-may rules numbers s counts (after_count ports levels place) to_count tt old counted c.requires.fits in_count goes_count in
+    let fits = runs-may rules numbers s counts (after_count ports levels place) to_count tt old counted c.requires.fits in_count goes_count in
     let loads = loading ports levels place (machine_of rules numbers s counted) in
     let its = seen_corners numbers.vertex c.load_corners.new.corners in
     let to_load = λ (u : Unit {0}). (let it : List VertexRecord × Machine = (its, machine_of rules numbers s loaded) in it) in
     let in_load = c.in-Ok-load_corners.ensures.follows cells (held_by old.cells old.cell_room) in
     let goes_load : Goes rules numbers s counted loaded = record { keeps = c.in-Ok-load_corners.ensures.keeps; vertices = c.in-Ok-load_corners.ensures.left.keeps; cells = λ n. omega arith } in
-    let fits_load = steps-may rules numbers s loads (after_load ports levels place) to_load tt counted loaded fits in_load goes_load in
+    let fits_load = runs-may rules numbers s loads (after_load ports levels place) to_load tt counted loaded fits in_load goes_load in
     let it = to_load tt in
     let fits_visit = subst Fits (sym (visit-grouped ports levels place (set_in rules numbers s loaded) it)) fits_load in
     let visits = visiting ports levels place it in
@@ -495,7 +495,7 @@ walk_cell-store_corners-requires-clause-fits g t c =
     let in_visit = c.in-Ok-visit_cell.ensures.follows in
     let goes_visit : Goes rules numbers s loaded visited = record { keeps = c.in-Ok-visit_cell.ensures.keeps; vertices = c.in-Ok-visit_cell.ensures.left.keeps; cells = c.in-Ok-visit_cell.ensures.cells_left.keeps } in
     store_all-any_cells (set_in rules numbers s visited) ports place cells' 0 (seen_corners numbers.vertex c.visit_cell.new.corners) (machine_of rules numbers s visited)
-    (steps-may rules numbers s visits (storing ports levels place) to_visit tt loaded visited fits_visit in_visit goes_visit)
+    (runs-may rules numbers s visits (storing ports levels place) to_visit tt loaded visited fits_visit in_visit goes_visit)
 
 pub walk_cell-returns-in-Ok-visit_cell-clause-follows : goal.walk_cell-returns-in-Ok-visit_cell-clause-follows
 walk_cell-returns-in-Ok-visit_cell-clause-follows g t c =
@@ -516,13 +516,13 @@ walk_cell-returns-in-Ok-visit_cell-clause-follows g t c =
     let in_count = counts-to ports levels place (set_in rules numbers s old) (machine_of rules numbers s old) c.count_cell.new.progress.tally (found_in rules numbers s old)
     (and_then-fits (counts (set_in rules numbers s old)) (after_count ports levels place (set_in rules numbers s old)) c.requires.fits) c.count_cell.ensures.tally c.in-Ok.ensures.within in
     let goes_count : Goes rules numbers s old counted = record { keeps = keeps-same old.held; vertices = λ n. omega arith; cells = λ n. omega arith } in
-    let fits = steps-may rules numbers s counts (after_count ports levels place) to_count tt old counted c.requires.fits in_count goes_count in
+    let fits = runs-may rules numbers s counts (after_count ports levels place) to_count tt old counted c.requires.fits in_count goes_count in
     let loads = loading ports levels place (machine_of rules numbers s counted) in
     let its = seen_corners numbers.vertex c.load_corners.new.corners in
     let to_load = λ (u : Unit {0}). (let it : List VertexRecord × Machine = (its, machine_of rules numbers s loaded) in it) in
     let in_load = c.in-Ok-load_corners.ensures.follows cells (held_by old.cells old.cell_room) in
     let goes_load : Goes rules numbers s counted loaded = record { keeps = c.in-Ok-load_corners.ensures.keeps; vertices = c.in-Ok-load_corners.ensures.left.keeps; cells = λ n. omega arith } in
-    let fits_load = steps-may rules numbers s loads (after_load ports levels place) to_load tt counted loaded fits in_load goes_load in
+    let fits_load = runs-may rules numbers s loads (after_load ports levels place) to_load tt counted loaded fits in_load goes_load in
     let it = to_load tt in
     let fits_visit = subst Fits (sym (visit-grouped ports levels place (set_in rules numbers s loaded) it)) fits_load in
     let visits = visiting ports levels place it in
@@ -531,10 +531,10 @@ walk_cell-returns-in-Ok-visit_cell-clause-follows g t c =
     let goes_visit : Goes rules numbers s loaded visited = record { keeps = c.in-Ok-visit_cell.ensures.keeps; vertices = c.in-Ok-visit_cell.ensures.left.keeps; cells = c.in-Ok-visit_cell.ensures.cells_left.keeps } in
     let after = λ (u : Unit {0}). machine_of rules numbers s new in
     let answer = read_by (failure_in c.store_corners.new.progress) c.store_corners.result in
-    steps-then rules numbers s counts (after_count ports levels place) to_count tt after answer old counted new in_count goes_count
-    (steps-then rules numbers s loads (after_load ports levels place) to_load tt after answer counted loaded new in_load goes_load
-    (steps-as rules numbers s (λ set. and_then (visits set) (storing ports levels place set)) (λ set. after_load ports levels place set it) after answer loaded new (visit-grouped ports levels place (set_in rules numbers s loaded) it)
-    (steps-then rules numbers s visits (storing ports levels place) to_visit tt after answer loaded visited new in_visit goes_visit
+    runs-then rules numbers s counts (after_count ports levels place) to_count tt after answer old counted new in_count goes_count
+    (runs-then rules numbers s loads (after_load ports levels place) to_load tt after answer counted loaded new in_load goes_load
+    (runs-as rules numbers s (λ set. and_then (visits set) (storing ports levels place set)) (λ set. after_load ports levels place set it) after answer loaded new (visit-grouped ports levels place (set_in rules numbers s loaded) it)
+    (runs-then rules numbers s visits (storing ports levels place) to_visit tt after answer loaded visited new in_visit goes_visit
     (c.store_corners.ensures.follows (cells_on_stacks numbers visited.cells) (held_by visited.cells visited.cell_room)))))
 
 pub walk_cell-returns-in-Err-visit_cell-clause-follows : goal.walk_cell-returns-in-Err-visit_cell-clause-follows
@@ -555,23 +555,23 @@ walk_cell-returns-in-Err-visit_cell-clause-follows g t c =
     let in_count = counts-to ports levels place (set_in rules numbers s old) (machine_of rules numbers s old) c.count_cell.new.progress.tally (found_in rules numbers s old)
     (and_then-fits (counts (set_in rules numbers s old)) (after_count ports levels place (set_in rules numbers s old)) c.requires.fits) c.count_cell.ensures.tally c.in-Ok.ensures.within in
     let goes_count : Goes rules numbers s old counted = record { keeps = keeps-same old.held; vertices = λ n. omega arith; cells = λ n. omega arith } in
-    let fits = steps-may rules numbers s counts (after_count ports levels place) to_count tt old counted c.requires.fits in_count goes_count in
+    let fits = runs-may rules numbers s counts (after_count ports levels place) to_count tt old counted c.requires.fits in_count goes_count in
     let loads = loading ports levels place (machine_of rules numbers s counted) in
     let its = seen_corners numbers.vertex c.load_corners.new.corners in
     let to_load = λ (u : Unit {0}). (let it : List VertexRecord × Machine = (its, machine_of rules numbers s loaded) in it) in
     let in_load = c.in-Ok-load_corners.ensures.follows cells (held_by old.cells old.cell_room) in
     let goes_load : Goes rules numbers s counted loaded = record { keeps = c.in-Ok-load_corners.ensures.keeps; vertices = c.in-Ok-load_corners.ensures.left.keeps; cells = λ n. omega arith } in
-    let fits_load = steps-may rules numbers s loads (after_load ports levels place) to_load tt counted loaded fits in_load goes_load in
+    let fits_load = runs-may rules numbers s loads (after_load ports levels place) to_load tt counted loaded fits in_load goes_load in
     let it = to_load tt in
     let fits_visit = subst Fits (sym (visit-grouped ports levels place (set_in rules numbers s loaded) it)) fits_load in
     let visits = visiting ports levels place it in
     let to_visit = λ (u : Unit {0}). (let it : List VertexRecord × Machine = (seen_corners numbers.vertex c.visit_cell.new.corners, machine_of rules numbers s new) in it) in
     let after = λ (u : Unit {0}). machine_of rules numbers s new in
     let failure = failure_in c.visit_cell.new.progress c.in-Err-visit_cell.halt in
-    steps-then rules numbers s counts (after_count ports levels place) to_count tt after (Err failure) old counted new in_count goes_count
-    (steps-then rules numbers s loads (after_load ports levels place) to_load tt after (Err failure) counted loaded new in_load goes_load
-    (steps-as rules numbers s (λ set. and_then (visits set) (storing ports levels place set)) (λ set. after_load ports levels place set it) after (Err failure) loaded new (visit-grouped ports levels place (set_in rules numbers s loaded) it)
-    (steps-err rules numbers s visits (storing ports levels place) to_visit after failure loaded new c.in-Err-visit_cell.ensures.follows)))
+    runs-then rules numbers s counts (after_count ports levels place) to_count tt after (Err failure) old counted new in_count goes_count
+    (runs-then rules numbers s loads (after_load ports levels place) to_load tt after (Err failure) counted loaded new in_load goes_load
+    (runs-as rules numbers s (λ set. and_then (visits set) (storing ports levels place set)) (λ set. after_load ports levels place set it) after (Err failure) loaded new (visit-grouped ports levels place (set_in rules numbers s loaded) it)
+    (runs-err rules numbers s visits (storing ports levels place) to_visit after failure loaded new c.in-Err-visit_cell.ensures.follows)))
 
 pub walk_children-loop-digits-init : goal.walk_children-loop-digits-init
 walk_children-loop-digits-init g t c =

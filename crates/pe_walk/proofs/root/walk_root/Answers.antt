@@ -4,7 +4,7 @@ use Rattle.pe_base.specs.declared.tally.Tally.{Tally}
 use Rattle.pe_hang.specs.Follows.{Follows, read_by, held_by}
 use Rattle.pe_hang.proofs.Leading.{and_then-fits}
 use Rattle.pe_walk.specs.InHand.{ports_of, failure_in}
-use Rattle.pe_walk.proofs.Walking.{hands, machine_of, found_in, set_in, Goes, steps-may, steps-then, steps-err}
+use Rattle.pe_walk.proofs.Walking.{hands, machine_of, found_in, set_in, Goes, runs-may, runs-then, runs-err}
 use Rattle.pe_walk.proofs.RootWalks.{beginning, walking, finishing, after_begin, plain-follows}
 use Rattle.pe_walk.proofs.root.walk_root.Goals as goal
 
@@ -19,7 +19,7 @@ returns-in-Err-clause-follows g c =
     let new = hands (g.M.Mapping.held c.fire_plain.new.m) old.vertices old.room old.cells old.cell_room old.parents old.parent c.fire_plain.new.progress in
     let after = λ (u : Unit {0}). machine_of rules numbers s new in
     let failure = failure_in c.fire_plain.new.progress c.in-Err.halt in
-    steps-err rules numbers s (beginning ports greatest (machine_of rules numbers s old)) (after_begin ports greatest) (λ (u : Unit {0}). machine_of rules numbers s old) after failure old new
+    runs-err rules numbers s (beginning ports greatest (machine_of rules numbers s old)) (after_begin ports greatest) (λ (u : Unit {0}). machine_of rules numbers s old) after failure old new
     (plain-follows ports greatest (set_in rules numbers s old) BeginIteration (machine_of rules numbers s old) old.held.list (Err failure) (found_in rules numbers s old) new.held.told
     (c.in-Err.ensures.follows (held_by old.vertices old.room) (held_by old.cells old.cell_room)))
 
@@ -41,7 +41,7 @@ walk_children-requires-clause-fits g c =
     (c.in-Ok.ensures.follows (held_by old.vertices old.room) (held_by old.cells old.cell_room)) in
     let begin = subst (λ (tally : Tally). Follows (begins set) (λ (u : Unit {0}). record (machine_of rules numbers s begun) { tally = tally }) (Ok tt) (found_in rules numbers s old) begun.held.told) (sym c.fire_plain.ensures.tally) fired in
     and_then-fits (walking ports greatest (to_begin tt) (set_in rules numbers s begun)) _
-    (steps-may rules numbers s begins (after_begin ports greatest) to_begin tt old begun c.requires.fits begin goes)
+    (runs-may rules numbers s begins (after_begin ports greatest) to_begin tt old begun c.requires.fits begin goes)
 
 pub returns-in-Ok-walk_children-clause-follows : goal.returns-in-Ok-walk_children-clause-follows
 returns-in-Ok-walk_children-clause-follows g c =
@@ -71,8 +71,8 @@ returns-in-Ok-walk_children-clause-follows g c =
     (c.fire_plain-in-Ok-walk_children.ensures.follows (held_by walked.vertices walked.room) (held_by walked.cells walked.cell_room)) in
     let end = subst (λ (tally : Tally). Follows (finishing ports greatest (set_in rules numbers s walked) (to_walk tt)) (λ (u : Unit {0}). record (machine_of rules numbers s new) { tally = tally }) answer (found_in rules numbers s walked) new.held.told)
     (sym c.fire_plain-in-Ok-walk_children.ensures.tally) ended in
-    steps-then rules numbers s begins (after_begin ports greatest) to_begin tt after answer old begun new begin goes
-    (steps-then rules numbers s walks (finishing ports greatest) to_walk tt after answer begun walked new c.in-Ok-walk_children.ensures.follows goes_on end)
+    runs-then rules numbers s begins (after_begin ports greatest) to_begin tt after answer old begun new begin goes
+    (runs-then rules numbers s walks (finishing ports greatest) to_walk tt after answer begun walked new c.in-Ok-walk_children.ensures.follows goes_on end)
 
 pub returns-in-Err-walk_children-clause-follows : goal.returns-in-Err-walk_children-clause-follows
 returns-in-Err-walk_children-clause-follows g c =
@@ -95,5 +95,5 @@ returns-in-Err-walk_children-clause-follows g c =
     let walks = walking ports greatest (to_begin tt) in
     let after = λ (u : Unit {0}). machine_of rules numbers s new in
     let failure = failure_in c.walk_children.new.progress c.in-Err-walk_children.halt in
-    steps-then rules numbers s begins (after_begin ports greatest) to_begin tt after (Err failure) old begun new begin goes
-    (steps-err rules numbers s walks (finishing ports greatest) after after failure begun new c.in-Err-walk_children.ensures.follows)
+    runs-then rules numbers s begins (after_begin ports greatest) to_begin tt after (Err failure) old begun new begin goes
+    (runs-err rules numbers s walks (finishing ports greatest) after after failure begun new c.in-Err-walk_children.ensures.follows)

@@ -9,7 +9,7 @@ use Rattle.pe_hang.proofs.Leading.{and_then-fits}
 use Rattle.pe_walk.specs.Machine.{Machine}
 use Rattle.pe_walk.specs.InHand.{ports_of, failure_in, machine_between}
 use Rattle.pe_walk.specs.Visits.{with_vertices}
-use Rattle.pe_walk.proofs.Walking.{hands, machine_of, set_in, Goes, steps-may, steps-then, steps-err, steps-as}
+use Rattle.pe_walk.proofs.Walking.{hands, machine_of, set_in, Goes, runs-may, runs-then, runs-err, runs-as}
 use Rattle.pe_walk.proofs.Markings.{length-seen}
 use Rattle.pe_walk.proofs.RootWalks.{making, rooting, giving, after_make, root-grouped, root-gives}
 use Rattle.pe_walk.proofs.root.walk_stacks.Goals as goal
@@ -37,7 +37,7 @@ returns-in-Err-clause-follows g c =
     let rest = machine_between numbers old.vertices old.cells old.parent old.held.list old.progress.tally in
     let to_make = λ (u : Unit {0}). (let it : List VertexRecord × Machine = (seen_corners numbers.vertex new.parents, with_vertices (vertices_on_stacks numbers new.vertices) new.held.list rest) in it) in
     let after = λ (u : Unit {0}). rest in
-    steps-err rules numbers s (making ports greatest rest) (after_make ports greatest) to_make after wanting old new (c.in-Err.ensures.follows rest (held_by old.cells old.cell_room))
+    runs-err rules numbers s (making ports greatest rest) (after_make ports greatest) to_make after wanting old new (c.in-Err.ensures.follows rest (held_by old.cells old.cell_room))
 
 pub walk_root-walked-requires-clause-fits : goal.walk_root-walked-requires-clause-fits
 walk_root-walked-requires-clause-fits g c =
@@ -53,7 +53,7 @@ walk_root-walked-requires-clause-fits g c =
     let to_make = λ (u : Unit {0}). (let it : List VertexRecord × Machine = (seen_corners numbers.vertex mid.parents, with_vertices (vertices_on_stacks numbers mid.vertices) mid.held.list rest) in it) in
     let goes : Goes rules numbers s old mid = record { keeps = c.in-Ok.ensures.keeps; vertices = c.in-Ok.ensures.left.keeps; cells = λ n. omega arith } in
     let set = set_in rules numbers s mid in
-    let fits = steps-may rules numbers s makes (after_make ports greatest) to_make tt old mid c.requires.fits (c.in-Ok.ensures.follows rest (held_by old.cells old.cell_room)) goes in
+    let fits = runs-may rules numbers s makes (after_make ports greatest) to_make tt old mid c.requires.fits (c.in-Ok.ensures.follows rest (held_by old.cells old.cell_room)) goes in
     and_then-fits (rooting ports greatest (machine_of rules numbers s mid) set) (giving ports greatest set) (subst Fits (sym (root-grouped ports greatest set (to_make tt))) fits)
 
 pub give_up_from-requires-clause-full : goal.give_up_from-requires-clause-full
@@ -76,12 +76,12 @@ returns-clause-follows g c =
     let to_make = λ (u : Unit {0}). (let it : List VertexRecord × Machine = (seen_corners numbers.vertex mid.parents, with_vertices (vertices_on_stacks numbers mid.vertices) mid.held.list rest) in it) in
     let goes : Goes rules numbers s old mid = record { keeps = c.in-Ok.ensures.keeps; vertices = c.in-Ok.ensures.left.keeps; cells = λ n. omega arith } in
     let made = c.in-Ok.ensures.follows rest (held_by old.cells old.cell_room) in
-    let fits = steps-may rules numbers s makes (after_make ports greatest) to_make tt old mid c.requires.fits made goes in
+    let fits = runs-may rules numbers s makes (after_make ports greatest) to_make tt old mid c.requires.fits made goes in
     let walks = c.walk_root-walked.ensures in
     let goes_on : Goes rules numbers s mid walked = record { keeps = walks.keeps; vertices = walks.left.keeps; cells = walks.cells_left.keeps } in
     let answer = read_by (failure_in walked.progress) c.walk_root-walked.result in
     let after = λ (u : Unit {0}). machine_between numbers new.vertices new.cells new.parent new.held.list new.progress.tally in
     let count : 2 ^ axes - 0 ≡ length (seen_corners numbers.vertex walked.parents) = omega (arith, length-seen numbers.vertex axes walked.parents walks.full) in
     let all = root-gives rules numbers s mid walked new answer walks.follows goes_on (subst Fits (sym (root-grouped ports greatest (set_in rules numbers s mid) (to_make tt))) fits) refl (2 ^ axes - 0) count c.give_up_from.ensures.holds in
-    steps-then rules numbers s makes (after_make ports greatest) to_make tt after answer old mid new made goes
-    (steps-as rules numbers s (λ set. and_then (rooting ports greatest (machine_of rules numbers s mid) set) (giving ports greatest set)) (λ set. after_make ports greatest set (to_make tt)) after answer mid new (root-grouped ports greatest (set_in rules numbers s mid) (to_make tt)) all)
+    runs-then rules numbers s makes (after_make ports greatest) to_make tt after answer old mid new made goes
+    (runs-as rules numbers s (λ set. and_then (rooting ports greatest (machine_of rules numbers s mid) set) (giving ports greatest set)) (λ set. after_make ports greatest set (to_make tt)) after answer mid new (root-grouped ports greatest (set_in rules numbers s mid) (to_make tt)) all)

@@ -5,8 +5,8 @@ use Rattle.pe_base.specs.Tree.Curve.{flip}
 use Rattle.pe_base.proofs.Tree.PlaceLaws.{four}
 use Rattle.pe_base.proofs.Tree.CurveLaws.{bits-flips}
 use Rattle.pe_access.proofs.NumberLaws.{numbers_are}
-use Rattle.pe_access.proofs.LineLaws.{flip-at, odd-at}
-use Rattle.pe_access.proofs.StateLaws.{odd-lines}
+use Rattle.pe_access.proofs.ExtentLaws.{flip-at, odd-at}
+use Rattle.pe_access.proofs.StateLaws.{odd-extents}
 use Rattle.pe_access.proofs.state.CellState.flips.Goals as goal
 
 pub returns : goal.returns
@@ -14,8 +14,8 @@ returns c axes way cell place h =
     let along = c.args.self.now.along in
     let pos = cell.pos in
     let long : length along ≡ 4 = omega (arith, c.type_inv.self) in
-    let are = numbers_are along h.lines long h.numbers in
-    let odd = are.odds ∙ odd-lines axes way cell h.lines place h.held are.four in
+    let are = numbers_are along h.extents long h.numbers in
+    let odd = are.odds ∙ odd-extents axes way cell h.extents place h.held are.four in
     let x = slice_index pos 0 in
     let y = slice_index pos 1 in
     let z = slice_index pos 2 in

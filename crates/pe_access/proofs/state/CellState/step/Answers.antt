@@ -6,12 +6,12 @@ use Rattle.pe_base.specs.declared.way.Way.{Way}
 use Rattle.pe_base.specs.Tree.Places.{IsDigits, child_at}
 use Rattle.pe_base.specs.Steps.Routes.{way_turns}
 use Rattle.pe_access.specs.declared.numbers.Axis.{Axis}
-use Rattle.pe_access.specs.Lines.{bit_of, root_line, child_line}
+use Rattle.pe_access.specs.Extents.{bit_of, root_extent, child_extent}
 use Rattle.pe_access.specs.Numbers.{axis_of, axes_from}
-use Rattle.pe_access.specs.Faces.{line_of}
+use Rattle.pe_access.specs.Faces.{extent_of}
 use Rattle.pe_access.specs.States.{odd_count}
 use Rattle.pe_access.proofs.NumberLaws.{numbers_are}
-use Rattle.pe_access.proofs.StepLaws.{BeforeLast, last_line, last_line_is, set-axes_from, HoldsCell-step}
+use Rattle.pe_access.proofs.StepLaws.{BeforeLast, last_extent, last_extent_is, set-axes_from, HoldsCell-step}
 use Rattle.pe_access.proofs.state.CellState.step.Goals as goal
 use Rattle.pe_access.proofs.state.CellState.step.Goals.{in-2, in-3, in_default}
 
@@ -27,35 +27,35 @@ returns-clause-stands c axes way cell from place d' h h' same =
     let self = c.args.self.now in
     let n = self.axes in
     let digits = c.args.digits in
-    let lines = h.lines in
-    let are = numbers_are self.along lines (omega (arith, c.type_inv.self)) h.numbers in
+    let extents = h.extents in
+    let are = numbers_are self.along extents (omega (arith, c.type_inv.self)) h.numbers in
     let Fit : ℕ → Type 0 = λ m. IsDigits m digits in
     let fit : IsDigits axes digits = subst Fit h.same_axes c.requires.digits in
     let t = c.turns.result in
     let before = c.match-self.before in
-    let turns : t ≡ way_turns way + sum_by (λ line. bit_of line.odd) lines =
+    let turns : t ≡ way_turns way + sum_by (λ extent. bit_of extent.odd) extents =
     c.turns.ensures.value ∙ ap (λ (w : Way). way_turns w + odd_count self.along) h.same_way ∙ ap (λ (m : ℕ). way_turns way + m) are.odd_sum in
-    let parent = get_or lines (n - 1) root_line in
-    let b_is : c.bit.result ≡ bit_of parent.odd = c.bit.ensures.value ∙ ap (λ (a : Axis). bit_of a.odd) (are.each (n - 1) _ root_line (omega (arith, c.requires.axes))) in
-    let new : c.child.result ≡ axis_of (n - 1) (child_line (self.level + 1) (t + before + c.bit.result) (slice_index digits.k (n - 1)) parent) = c.child.ensures parent (are.each (n - 1) _ root_line (omega (arith, c.requires.axes))) in
-    let last = last_line n (self.level + 1) digits.k lines t before in
-    let made : c.child.result ≡ axis_of (n - 1) last = new ∙ ap (λ (b : ℕ). axis_of (n - 1) (child_line (self.level + 1) (t + before + b) (slice_index digits.k (n - 1)) parent)) b_is in
+    let parent = get_or extents (n - 1) root_extent in
+    let b_is : c.bit.result ≡ bit_of parent.odd = c.bit.ensures.value ∙ ap (λ (a : Axis). bit_of a.odd) (are.each (n - 1) _ root_extent (omega (arith, c.requires.axes))) in
+    let new : c.child.result ≡ axis_of (n - 1) (child_extent (self.level + 1) (t + before + c.bit.result) (slice_index digits.k (n - 1)) parent) = c.child.ensures parent (are.each (n - 1) _ root_extent (omega (arith, c.requires.axes))) in
+    let last = last_extent n (self.level + 1) digits.k extents t before in
+    let made : c.child.result ≡ axis_of (n - 1) last = new ∙ ap (λ (b : ℕ). axis_of (n - 1) (child_extent (self.level + 1) (t + before + b) (slice_index digits.k (n - 1)) parent)) b_is in
     let Sums : ℕ → Type 0 = λ m. BeforeLast m digits.k before in
-    let is : last ≡ line_of axes way (child_at cell digits) (axes - 1) =
-    ap (λ (m : ℕ). last_line m (self.level + 1) digits.k lines t before) h.same_axes
-    ∙ ap (λ (l : ℕ). last_line axes (l + 1) digits.k lines t before) h.same_level
-    ∙ last_line_is axes way cell digits lines t before h.grid.0 h.grid.1 place (omega (arith, c.requires.level, h.same_level)) fit are.four h.held turns (subst Sums h.same_axes (sums c)) in
+    let is : last ≡ extent_of axes way (child_at cell digits) (axes - 1) =
+    ap (λ (m : ℕ). last_extent m (self.level + 1) digits.k extents t before) h.same_axes
+    ∙ ap (λ (l : ℕ). last_extent axes (l + 1) digits.k extents t before) h.same_level
+    ∙ last_extent_is axes way cell digits extents t before h.grid.0 h.grid.1 place (omega (arith, c.requires.level, h.same_level)) fit are.four h.held turns (subst Sums h.same_axes (sums c)) in
     record {
       grid = h.grid;
       same_axes = h'.same_axes;
       same_way = h'.same_way;
       same_level = h'.same_level;
-      lines = set h'.lines (axes - 1) last;
-      held = HoldsCell-step axes way cell from digits h'.lines last h.grid.1 h.grid.0 place (omega (arith, c.requires.level, h.same_level)) d' fit same h'.held is;
+      extents = set h'.extents (axes - 1) last;
+      held = HoldsCell-step axes way cell from digits h'.extents last h.grid.1 h.grid.0 place (omega (arith, c.requires.level, h.same_level)) d' fit same h'.held is;
       numbers = ap (λ (m : ℕ). set c.args.child.now.along (m - 1) c.child.result) h.same_axes
           ∙ ap (λ xs. set xs (axes - 1) c.child.result) h'.numbers
-          ∙ ap (set (axes_from 0 h'.lines) (axes - 1)) (made ∙ ap (λ (m : ℕ). axis_of m last) (omega (arith, h.same_axes)))
-          ∙ set-axes_from 0 h'.lines (axes - 1) last;
+          ∙ ap (set (axes_from 0 h'.extents) (axes - 1)) (made ∙ ap (λ (m : ℕ). axis_of m last) (omega (arith, h.same_axes)))
+          ∙ set-axes_from 0 h'.extents (axes - 1) last;
     }
 
 pub returns-clause-front : goal.returns-clause-front

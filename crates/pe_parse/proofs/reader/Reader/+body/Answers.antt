@@ -7,10 +7,10 @@ use Rattle.pe_parse.specs.declared.reader.Reader.{Reader}
 use Rattle.pe_parse.specs.Lexemes.{kind_at}
 use Rattle.pe_parse.specs.Statements.{statements_of}
 use Rattle.pe_parse.specs.Grammar.{All}
-use Rattle.pe_parse.specs.Places.{Block, Sequence}
+use Rattle.pe_parse.specs.Frames.{Block, Sequence}
 use Rattle.pe_parse.specs.Reading.{seen, size_of, Stopped, ReadsAs}
 use Rattle.pe_parse.proofs.Spelled.{lexemes_length}
-use Rattle.pe_parse.proofs.Steps.{skips, stands, at_within}
+use Rattle.pe_parse.proofs.TokenMoves.{skips, stands, at_within}
 use Rattle.pe_parse.proofs.Blocks.{Running, block_bare, block_deep, block_stop, block_open, block_read, choose_stop, choose_first, choose_read, choose_second, choose_both, no_statement, no_kind, run_start, run_more, run_end, run_stop}
 use Rattle.pe_parse.proofs.reader.Reader.+body.Goals as goal
 

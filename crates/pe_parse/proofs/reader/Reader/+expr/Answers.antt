@@ -6,7 +6,7 @@ use Rattle.pe_parse.specs.declared.tree.Sign.{Sign}
 use Rattle.pe_parse.specs.declared.tree.Expr.{Expr}
 use Rattle.pe_parse.specs.declared.tree.Expr.TheVariants as expr
 use Rattle.pe_parse.specs.Grammar.{Chained, Operand}
-use Rattle.pe_parse.specs.Places.{Value, chain_frames}
+use Rattle.pe_parse.specs.Frames.{Value, chain_frames}
 use Rattle.pe_parse.specs.Reading.{seen, size_of, ReadsAs, Stopped, sign_at}
 use Rattle.pe_parse.proofs.Operands.{closed_read, closed_stop, closed_missing, group_deep, prefixed_read, prefixed_stop, prefixed_deep, extreme_read, extreme_bare, extreme_deep, extreme_first, extreme_second, absolute_bare, absolute_deep, absolute_stop, absolute_read, operand_none, operand_end, group_answer}
 use Rattle.pe_parse.proofs.Chains.{Linking, first_read, first_stop, link_read, link_stop, link_many, single_read, chain_read, comparison_bare, comparison_stop, comparison_read}

@@ -3,7 +3,7 @@ use Rattle.std.proofs.lemmas.Int.{to_z-of_z, ints}
 use mir.Syntax.{w64}
 use mir.Val.{to_z, of_z}
 use Rattle.pe_parse.specs.declared.fault.ParseFault.TheVariants.{Literal}
-use Rattle.pe_parse.specs.Places.{Value}
+use Rattle.pe_parse.specs.Frames.{Value}
 use Rattle.pe_parse.specs.Reading.{seen, size_of, Stopped}
 use Rattle.pe_parse.proofs.Operands.{number_read, number_large}
 use Rattle.pe_parse.proofs.reader.Reader.number.Goals as goal

@@ -2,8 +2,8 @@ use Rattle.std.proofs.Common.{◌≡◌, ◌++◌, ◌∷◌, [], ℕ, List, sub
 use Rattle.std.proofs.lemmas.Grind.{common_steps}
 use Rattle.pe_parse.specs.declared.fault.ParseFault.TheVariants.{TooMany}
 use Rattle.pe_parse.specs.declared.tree.Expr.{Expr}
-use Rattle.pe_parse.specs.Places as frame
-use Rattle.pe_parse.specs.Places.{expression}
+use Rattle.pe_parse.specs.Frames as frame
+use Rattle.pe_parse.specs.Frames.{expression}
 use Rattle.pe_parse.specs.Reading.{seen, size_of, Stopped, ValuesAt}
 use Rattle.pe_parse.proofs.Bodies.{Listing, value_first, value_read, value_stop_later, value_many, values_end}
 use Rattle.pe_parse.proofs.reader.Reader.values.Goals as goal

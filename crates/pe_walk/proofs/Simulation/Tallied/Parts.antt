@@ -8,7 +8,7 @@ use Rattle.pe_base.specs.declared.kind.Kind.TheVariants.{Kept, Born, Dying, Hang
 use Rattle.pe_base.specs.declared.event.Event.{Event}
 use Rattle.pe_base.specs.declared.tally.Tally.{Tally}
 use Rattle.pe_base.specs.Tree.Places.{corner}
-use Rattle.pe_base.specs.Steps.Routes.{stack_in, stack_out}
+use Rattle.pe_base.specs.Alike.Routes.{stack_in, stack_out}
 use Rattle.pe_base.specs.Acts.Effects.{VertexRecord}
 use Rattle.pe_base.specs.Walk.Maps.{at}
 use Rattle.pe_base.specs.Walk.Course.{Course, done, and_then}
@@ -24,7 +24,7 @@ use Rattle.pe_walk.specs.Standing.{Outset, Stage, Holds, IsOutset, IsStage, IsFa
 use Rattle.pe_walk.specs.Tallies.{counted_load, counted_store}
 use Rattle.pe_walk.proofs.Simulation.Matching.{both_some}
 use Rattle.pe_walk.proofs.Simulation.LoadedKinds.{found_stored, hangs_if}
-use Rattle.pe_walk.proofs.Simulation.Loads.Places.{loads_place}
+use Rattle.pe_walk.proofs.Simulation.Loads.OnStacks.{loads_place}
 use Rattle.pe_walk.proofs.Simulation.Loads.Cores.{vertex_of, source_of, core_of, working_after, model_is}
 use Rattle.pe_walk.proofs.Simulation.Stores.InHand.{counting_free}
 use Rattle.pe_walk.proofs.Simulation.Stores.Stored as stores

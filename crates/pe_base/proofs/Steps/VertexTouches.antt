@@ -1,6 +1,6 @@
 -- The loads and stores of one vertex, and its steps.
 use Rattle.std.proofs.Common.{◌≡◌, ◌≢◌, ℕ, zero, suc, ◌+◌, ◌-◌, ◌<◌, ◌≤◌, ◌⊎◌, Bool, true, false, cond, ◌&&◌, ◌||◌, ◌==◌, nat_eq, List, [], ◌∷◌, ◌++◌, map, filter, reverse, length, take, drop, replicate, refl, sym, ap, ap₂, ◌∙◌, subst, inl, inr, append-nil, arith}
-use Rattle.std.specs.List.{flat_map}
+use Rattle.std.specs.List.{flat_map, AllByRecursion as Each}
 use Rattle.std.specs.Cmp.Lexicographic.{pointwise}
 use Rattle.std.proofs.lemmas.List.{map-append, reverse-reverse}
 use Rattle.std.proofs.lemmas.List.Elements.{filter-append}
@@ -14,7 +14,7 @@ use Rattle.pe_base.specs.Tree.Places.{root, finer, moved, is_same}
 use Rattle.pe_base.specs.Tree.Curve.{digit_lists, children, order}
 use Rattle.pe_base.specs.Steps.Around.{is_corner_pos, is_corner, around, steps}
 use Rattle.pe_base.specs.Steps.Faces.{Touch, corner_touches, loads, stores, touched_for, steps_to, steps_from}
-use Rattle.pe_base.proofs.Lists.{Each, In, Each-all, Each-weaker, Each-map, Each-reverse, map-map, flat_map_same, flat_map_none, map-flat_map, flat_map-flat_map, filter-flat_map, filter-map, filter_none, filter_same, map-reverse, filter-reverse, reverse-flat_map}
+use Rattle.pe_base.proofs.Lists.{In, Each-all, Each-weaker, Each-map, Each-reverse, map-map, flat_map_same, flat_map_none, map-flat_map, flat_map-flat_map, filter-flat_map, filter-map, filter_none, filter_same, map-reverse, filter-reverse, reverse-flat_map}
 use Rattle.pe_base.proofs.Tree.PlaceLaws.{finer-zeros, moved-none}
 use Rattle.pe_base.proofs.Tree.Mirrors.{Digits3, digit_lists_below}
 use Rattle.pe_base.proofs.Tree.Children.{reverse-children, child_of, child_ks, child_ks-below, children_are, length-digits}

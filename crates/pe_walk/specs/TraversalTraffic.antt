@@ -11,11 +11,11 @@ use Rattle.pe_walk.specs.Machine as machine
 use Rattle.pe_walk.specs.Outlooks.{outlook}
 use Rattle.pe_walk.specs.FewCells.{most_cells}
 use Rattle.pe_walk.specs.Tallies.{foreseen_tally, ExactTraffic}
-use Rattle.pe_walk.specs.Gridded.{MayTurn, ports_of}
+use Rattle.pe_walk.specs.Gridded.{MachineMayTraverse, ports_of}
 
 -- The walk by address counts what is foreseen.
 abbrev pub TallyIsForeseen : Type 0 → Type 0
-TallyIsForeseen Plan = (set : Setting Plan) (grid : Grid) (swapped : Bool) (m : Machine) (after : Grid × Tally) → MayTurn set grid swapped m → (model.traverse set grid).ending ≡ done after
+TallyIsForeseen Plan = (set : Setting Plan) (grid : Grid) (swapped : Bool) (m : Machine) (after : Grid × Tally) → MachineMayTraverse set grid swapped m → (model.traverse set grid).ending ≡ done after
     → after.1 ≡ foreseen_tally set.start_level grid swapped
 
 -- And so a traversal on stacks, which moves just what it counts, and walks no more cells than its vertices allow. No count
@@ -27,6 +27,6 @@ pub record TurnsExactly {Plan : Type 0} (set : Setting Plan) (grid : Grid) (swap
   pub rises : RaisesCounts m.vertices after.vertices (64 * (after.tally.cells + 1))
   pub cells_rise : RaisesCounts m.cells after.cells (64 * (after.tally.cells + 1))
 
-abbrev pub TurnsAreExact : Type 0 → Type 0
-TurnsAreExact Plan = (set : Setting Plan) (grid : Grid) (swapped : Bool) (m after : Machine) → MayTurn set grid swapped m → (machine.traverse set (ports_of swapped) grid.greatest m).ending ≡ done after
+abbrev pub TraversalsAreExact : Type 0 → Type 0
+TraversalsAreExact Plan = (set : Setting Plan) (grid : Grid) (swapped : Bool) (m after : Machine) → MachineMayTraverse set grid swapped m → (machine.traverse set (ports_of swapped) grid.greatest m).ending ≡ done after
     → TurnsExactly set grid swapped m after

@@ -7,7 +7,7 @@ use Rattle.pe_lex.specs.declared.token.TokenKind.TheVariants as kind
 use Rattle.pe_parse.specs.declared.fault.ParseFault.{ParseFault}
 use Rattle.pe_parse.specs.declared.fault.ParseFault.TheVariants.{Syntax, TooDeep, TooMany, Literal}
 use Rattle.pe_parse.specs.Lexemes.{Lexeme, kind_in, kind_at, offset_in, offset_at}
-use Rattle.pe_parse.specs.Places.{Frame, Needs, Move, Takes, Skips, Refuses, move, moved, step, can_end, ends, nesting, is_counted, are_counted, kind_number}
+use Rattle.pe_parse.specs.Frames.{Frame, Needs, Move, Takes, Skips, Refuses, move, moved, step, can_end, ends, nesting, is_counted, are_counted, kind_number}
 use Rattle.pe_parse.specs.Faults.{is_too_large, passed_limit, or_fault, at_token, fault_from}
 use Rattle.pe_parse.specs.Reading.{Behind, Went, IsFault, Stopped, Needed}
 

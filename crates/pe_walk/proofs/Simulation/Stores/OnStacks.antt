@@ -6,14 +6,14 @@ use Rattle.std.proofs.lemmas.List.{get_or-set_same, get_or-set_other}
 use Rattle.std.proofs.lemmas.Bool.{cases_eq}
 use Rattle.pe_base.specs.declared.place.Place.{Place}
 use Rattle.pe_base.specs.Tree.Places.{is_same}
-use Rattle.pe_base.proofs.Steps.Counts.{is_same_itself}
+use Rattle.pe_base.proofs.Steps.VertexTouches.{is_same_itself}
 use Rattle.pe_stacks.specs.Holdings.{Holdings, Stack, new_stack, stack_count, stack_at, items_at, len_at, pushed, pushed_on}
 use Rattle.pe_walk.specs.Tokens.{Tokens, one_less, put}
 use Rattle.pe_walk.specs.Apart.{lies}
 use Rattle.pe_walk.specs.Standing.{times}
 use Rattle.pe_walk.proofs.Tokens.Apart.{one_if}
 use Rattle.pe_walk.proofs.Tokens.Stacks.{pushed_same, pushed_other, pushed_count}
-use Rattle.pe_walk.proofs.Tokens.StepFrames.{pushed_once}
+use Rattle.pe_walk.proofs.Tokens.MoveFrames.{pushed_once}
 
 -- what is held after a place was stored that counts, or does not
 abbrev pub held_after : Bool → Place → (Place → ℕ) → Place → ℕ

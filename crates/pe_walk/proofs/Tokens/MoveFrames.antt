@@ -220,5 +220,5 @@ module _ (o : Outlook) where
         its_lies = λ x. put_lies (cell_target o cell) cell t.cells within x ∙ ap (λ b. lies t.cells x + one_if (b && is_same cell x)) (is_given (o.writes_cell cell) (cell_output_stack o.swapped));
       })
 
-pub what_steps_change : WhatStepsChange
-what_steps_change o dim = record { loads = after_load o; stores = after_store o dim; enters = after_enter o; leaves = after_leave o dim }
+pub what_moves_change : WhatStepsChange
+what_moves_change o dim = record { loads = after_load o; stores = after_store o dim; enters = after_enter o; leaves = after_leave o dim }

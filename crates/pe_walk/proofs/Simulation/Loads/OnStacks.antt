@@ -16,7 +16,7 @@ use Rattle.pe_walk.specs.Frames.{loaded_from, AfterLoad}
 use Rattle.pe_walk.specs.Standing.{times}
 use Rattle.pe_walk.proofs.Tokens.Apart.{one_if, at_most_one}
 use Rattle.pe_walk.proofs.Tokens.DepotCounts.{Took, take_counts}
-use Rattle.pe_walk.proofs.Tokens.StepFrames.{after_load}
+use Rattle.pe_walk.proofs.Tokens.MoveFrames.{after_load}
 
 -- a place was taken from a stack, or made
 pub record HasTaken (v : Place) (held after : Holdings Place) : Type 0 where

@@ -13,7 +13,7 @@ pub record Face : Type 0 where
   pub level : ℕ
 
 -- a cell along one axis: whether its position is odd, and its two faces normal to the axis
-pub record Line : Type 0 where
+pub record Extent : Type 0 where
   pub odd : Bool
   pub near : Face
   pub far : Face
@@ -32,8 +32,8 @@ is_relation _ _ = false
 abbrev pub root_face : Face
 root_face = record { relation = Outside; level = 0 }
 
-abbrev pub root_line : Line
-root_line = record { odd = false; near = root_face; far = root_face }
+abbrev pub root_extent : Extent
+root_extent = record { odd = false; near = root_face; far = root_face }
 
 -- A face inside the parent first appears on the child's level. Where the axis is walked forwards, the
 -- neighbour at the near end comes earlier and the one at the far end later.
@@ -44,13 +44,13 @@ abbrev pub far_face : ℕ → ℕ → Face
 far_face level turns = record { relation = if turns % 2 == 0 then Later else Earlier; level = level }
 
 -- the child with a digit: a face on the parent's boundary is the parent's
-abbrev pub child_line : ℕ → ℕ → ℕ → Line → Line
-child_line level turns k line = record {
-  odd = (bit_of line.odd + k) % 2 == 1;
-  near = if k == 0 then line.near else near_face level turns;
-  far = if k == 2 then line.far else far_face level turns;
+abbrev pub child_extent : ℕ → ℕ → ℕ → Extent → Extent
+child_extent level turns k extent = record {
+  odd = (bit_of extent.odd + k) % 2 == 1;
+  near = if k == 0 then extent.near else near_face level turns;
+  far = if k == 2 then extent.far else far_face level turns;
 }
 
 -- the face at a side
-abbrev pub face_at : Line → ℕ → Face
-face_at line side = if side == 0 then line.near else line.far
+abbrev pub face_at : Extent → ℕ → Face
+face_at extent side = if side == 0 then extent.near else extent.far

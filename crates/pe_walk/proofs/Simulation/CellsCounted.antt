@@ -14,7 +14,7 @@ use Rattle.pe_walk.specs.Machine.{Machine, tally_may_rise}
 use Rattle.pe_walk.specs.Machine as machine
 use Rattle.pe_walk.specs.Tokens.{Tokens}
 use Rattle.pe_walk.specs.Standing.{Outset, Stage, per_cell, Owes, Holds, IsOutset, Fair}
-use Rattle.pe_walk.proofs.Simulation.Matching.{Steps, some_same, done_same, core-matches, mapped-done}
+use Rattle.pe_walk.proofs.Simulation.Matching.{Alike, some_same, done_same, core-matches, mapped-done}
 use Rattle.pe_walk.proofs.Simulation.Silent.{plain-silent}
 use Rattle.pe_walk.proofs.Simulation.Leaves.{image_of, ports, after_count, CountLeaf, PlainLeaf}
 
@@ -105,7 +105,7 @@ module _ {Plan : Type 0} (set : Setting Plan) (e : Outset) (walked : Place → B
   -- a cell is counted by model and machine alike
   pub count_leaf : (room : Push → Type 0) → CountLeaf set e room
   count_leaf room st stage w t t' h k =
-      subst (λ x. Steps room (image_of set e st.parent) (Holds set e (after_count set.axes st)) (count_cell set st.cell w) (machine.count_cell set (ports set e room) st.cell (image_of set e st.parent w t)) x)
+      subst (λ x. Alike room (image_of set e st.parent) (Holds set e (after_count set.axes st)) (count_cell set st.cell w) (machine.count_cell set (ports set e room) st.cell (image_of set e st.parent w t)) x)
       (some_same t t' k) (go (nat_lt set.max_cells (tally_cell st.cell w.tally).cells) refl)
     where
       counted : Working
@@ -115,11 +115,11 @@ module _ {Plan : Type 0} (set : Setting Plan) (e : Outset) (walked : Place → B
       seen b = allowed (tally_may_rise w.tally) (machine.within_limit set (ports set e room) st.cell (image_of set e st.parent counted t) b)
 
       go : (b : Bool) → nat_lt set.max_cells (tally_cell st.cell w.tally).cells ≡ b
-          → Steps room (image_of set e st.parent) (Holds set e (after_count set.axes st)) (within_limit set st.cell counted b) (seen b) t
-      go true past = subst (λ (c : Course Machine). Steps room (image_of set e st.parent) (Holds set e (after_count set.axes st)) (ends (halts (limit_at st.cell))) c t)
+          → Alike room (image_of set e st.parent) (Holds set e (after_count set.axes st)) (within_limit set st.cell counted b) (seen b) t
+      go true past = subst (λ (c : Course Machine). Alike room (image_of set e st.parent) (Holds set e (after_count set.axes st)) (ends (halts (limit_at st.cell))) c t)
           (sym (ap (λ b. allowed b (ends (halts (limit_at st.cell)))) (tally_rises st w.tally t h.owes)))
           (record { same = record { text = refl; ending = refl; log = tt }; holds = λ v q. absurd cc })
-      go false within = subst (λ (c : Course Machine). Steps room (image_of set e st.parent) (Holds set e (after_count set.axes st)) (at_once counted) c t)
+      go false within = subst (λ (c : Course Machine). Alike room (image_of set e st.parent) (Holds set e (after_count set.axes st)) (at_once counted) c t)
           (sym (ap (λ b. allowed b (at_once (image_of set e st.parent counted t))) (tally_rises st w.tally t h.owes)))
           (record {
             same = record { text = refl; ending = refl; log = tt };
@@ -136,7 +136,7 @@ module _ {Plan : Type 0} (set : Setting Plan) (e : Outset) (walked : Place → B
 
   pub plain_leaf : (room : Push → Type 0) → PlainLeaf set e room
   plain_leaf room st event w t t' h k =
-      subst (λ x. Steps room (image_of set e st.parent) (Holds set e st) (plain set event w) (machine.plain set (ports set e room) event (image_of set e st.parent w t)) x) (some_same t t' k)
+      subst (λ x. Alike room (image_of set e st.parent) (Holds set e st) (plain set event w) (machine.plain set (ports set e room) event (image_of set e st.parent w t)) x) (some_same t t' k)
       (record {
         same = core-matches room (λ v. image_of set e st.parent v t) (plain_event set event w.list) (λ list. record w { list = list }) (λ list. image_of set e st.parent (record w { list = list }) t)
             (plain-silent set event w.list) (λ list q. refl);
