@@ -2,12 +2,8 @@
 #![tactic(auto)]
 
 mod ask;
-#[cfg(test)]
-mod grid_rows;
 mod lines;
 mod refusal;
-#[cfg(test)]
-mod rows;
 mod run;
 mod status;
 mod traversals;

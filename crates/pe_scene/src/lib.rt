@@ -6,8 +6,6 @@ mod body;
 mod fault;
 mod fields;
 mod read;
-#[cfg(test)]
-mod rows;
 mod scenario;
 mod section;
 mod settings;

@@ -35,9 +35,6 @@ pub mod Forecasts
 pub mod StreamOrders
 -- how many cells a grid has
 pub mod GridCells
--- # The tests
--- one round of the loops that compute the definitions
-pub mod Computed
 -- the walk on stacks is the image of the walk by address
 pub mod Simulation
 -- # The walk in code

@@ -26,12 +26,8 @@ pub mod FewCells
 pub mod Tallies
 -- what the walk of a cell moves and counts
 pub mod CellTraffic
--- grids and streams for the worked rows
-pub mod Grids
 -- the walk on stacks as a machine of lists
 pub mod Machine
--- traversals of it for the worked rows
-pub mod Examples
 -- what the core keeps of the records in hand
 pub mod CoreKeeps
 -- what holds between the moves of a traversal

@@ -9,15 +9,9 @@ mod count;
 mod face;
 mod hand;
 pub mod laws;
-#[cfg(test)]
-mod machine_rows;
-#[cfg(test)]
-mod plain;
 mod progress;
 mod quad;
 mod root;
-#[cfg(test)]
-mod rows;
 mod settings;
 mod tallies;
 mod touch;

@@ -1,6 +1,0 @@
--- Three to the power of 20 fits.
-use Rattle.pe_walk.proofs.Computed.{width_fits}
-use Rattle.pe_walk.proofs.plain.cells.expect_cell.Goals as goal
-
-pub pow-width-requires : goal.pow-width-requires
-pow-width-requires c = width_fits c.args.place.now.level c.if-place-gt20.false

@@ -1,6 +1,0 @@
--- The rows are computed.
-use Rattle.std.proofs.Common.{refl}
-use Rattle.pe_walk.proofs.rows.half_kept_forward.Goals as goal
-
-pub returns-clause-places : goal.returns-clause-places
-returns-clause-places c = refl

@@ -1,0 +1,3 @@
+-- One round of the loops of the plain program.
+
+pub mod Computed
