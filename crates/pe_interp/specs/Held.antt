@@ -13,10 +13,10 @@ fields_numbers = record { vertex = λ fields. fields.a; cell = λ fields. fields
 -- its scenario, the numbers of the whole grid, what the sink tells, and the sink by its reference's name
 abbrev pub held_of : {K : Type 0} → (K → Option (List ℕ)) → (K → ℕ) → Interp K → Held Scenario
 held_of text faults it = record {
-  plan = it.situation.now;
+  plan = it.scenario.now;
   list = it.globals.a;
   told = record { text = text it.sink.now; faults = faults it.sink.now };
-  dim = it.situation.now.setup.dim;
+  dim = it.scenario.now.setup.dim;
   sure = true;
   lent = it.sink.ghost_name ∷ [];
 }

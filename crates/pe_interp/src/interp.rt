@@ -18,21 +18,21 @@ const ROOT: Place = Place {
 
 /// The mapping of a scenario. Its list is the numbers of the whole grid. It is sure, and takes no memory.
 pub struct Interp<'a, K> {
-    situation: &'a Scenario,
+    scenario: &'a Scenario,
     globals: Fields,
     sink: &'a mut K,
 }
 
 impl<'a, K: Sink> Interp<'a, K> {
     /// The mapping of a scenario, with these numbers of the whole grid, that writes to a sink.
-    pub fn new(situation: &'a Scenario, globals: Fields, sink: &'a mut K) -> Interp<'a, K>
-        ensures situation { result.situation.now ≡ situation.now }
+    pub fn new(scenario: &'a Scenario, globals: Fields, sink: &'a mut K) -> Interp<'a, K>
+        ensures scenario { result.scenario.now ≡ scenario.now }
         ensures globals { result.globals ≡ globals }
         ensures sink { result.sink.now ≡ sink.old }
         ensures same_sink { result.sink.ghost_name ≡ sink.entry.ghost_name }
     {
         Interp {
-            situation,
+            scenario,
             globals,
             sink,
         }
@@ -44,7 +44,7 @@ impl<'a, K: Sink> Interp<'a, K> {
         ensures sink { self.exit.1.1.0.now ≡ self.entry.sink.now }
     {
         let Interp {
-            situation: _,
+            scenario: _,
             globals,
             sink: _,
         } = self;
@@ -83,12 +83,12 @@ impl<K: Sink> Mapping for Interp<'_, K> {
     }
 
     fn plain_event(&mut self, event: Event, traversal: u64) -> Result<(), Stop> {
-        let situation = self.situation;
-        match write_trace(situation, event, traversal, &ROOT, self.sink) {
+        let scenario = self.scenario;
+        match write_trace(scenario, event, traversal, &ROOT, self.sink) {
             Ok(()) => {}
             Err(_) => return Err(Stop::Sink),
         }
-        match situation.bodies.of(event) {
+        match scenario.bodies.of(event) {
             Some(body) => {
                 let mut numbers = self.globals;
                 let mut view = View::Plain {
@@ -118,17 +118,17 @@ impl<K: Sink> Mapping for Interp<'_, K> {
         parents: &mut Corners<Fields>,
         parent: &mut CellRec<Fields>,
     ) -> Result<(), Stop> {
-        let situation = self.situation;
-        match write_trace(situation, event, traversal, at, self.sink) {
+        let scenario = self.scenario;
+        match write_trace(scenario, event, traversal, at, self.sink) {
             Ok(()) => {}
             Err(_) => return Err(Stop::Sink),
         }
-        match situation.bodies.of(event) {
+        match scenario.bodies.of(event) {
             Some(body) => {
                 let mut numbers = self.globals;
                 let mut view = View::Vertex {
                     t: traversal,
-                    max_level: situation.setup.max_level,
+                    max_level: scenario.setup.max_level,
                     at: *at,
                     globals: &mut numbers,
                     vertex,
@@ -168,17 +168,17 @@ impl<K: Sink> Mapping for Interp<'_, K> {
         parents: &mut Corners<Fields>,
         parent: &mut CellRec<Fields>,
     ) -> Result<(), Stop> {
-        let situation = self.situation;
-        match write_trace(situation, event, traversal, at, self.sink) {
+        let scenario = self.scenario;
+        match write_trace(scenario, event, traversal, at, self.sink) {
             Ok(()) => {}
             Err(_) => return Err(Stop::Sink),
         }
-        match situation.bodies.of(event) {
+        match scenario.bodies.of(event) {
             Some(body) => {
                 let mut numbers = self.globals;
                 let mut view = View::Cell {
                     t: traversal,
-                    max_level: situation.setup.max_level,
+                    max_level: scenario.setup.max_level,
                     at: *at,
                     globals: &mut numbers,
                     cell,

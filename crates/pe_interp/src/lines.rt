@@ -13,19 +13,19 @@ use pe_scene::Scenario;
 
 /// Writes the trace line of an event, if the scenario traces it.
 pub(crate) fn write_trace<K: Sink>(
-    situation: &Scenario,
+    scenario: &Scenario,
     event: Event,
     traversal: u64,
     place: &Place,
     sink: &mut K,
 ) -> Result<(), SinkFailed>
-    ensures ok { OnOk result (Appends (K.text sink.old) (trace_line (said_of situation.now) event traversal place.now) (K.text sink.new)) }
-    ensures err { OnErr result (AppendsPrefix (K.text sink.old) (trace_line (said_of situation.now) event traversal place.now) (K.text sink.new)) }
+    ensures ok { OnOk result (Appends (K.text sink.old) (trace_line (said_of scenario.now) event traversal place.now) (K.text sink.new)) }
+    ensures err { OnErr result (AppendsPrefix (K.text sink.old) (trace_line (said_of scenario.now) event traversal place.now) (K.text sink.new)) }
     ensures faults { K.faults sink.old ≤ K.faults sink.new }
     ensures failed { OnErr result (Rises (K.faults sink.old) (K.faults sink.new)) }
 {
-    if situation.trace.has(event) {
-        trace_words(situation.setup.dim, event, traversal, place).end(sink)
+    if scenario.trace.has(event) {
+        trace_words(scenario.setup.dim, event, traversal, place).end(sink)
     } else {
         Ok(())
     }

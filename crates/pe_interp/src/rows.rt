@@ -33,10 +33,10 @@ const PLACE: Place = Place {
     pos: [1, 2, 0, 0],
 };
 
-fn dim_of(situation: &Scenario) -> Dim
-    ensures { result ≡ situation.now.setup.dim }
+fn dim_of(scenario: &Scenario) -> Dim
+    ensures { result ≡ scenario.now.setup.dim }
 {
-    situation.setup.dim
+    scenario.setup.dim
 }
 
 fn new_vertex(u: i64) -> Vertex<Fields> {
@@ -73,9 +73,9 @@ fn open(corners: Corners<Fields>)
 
 #[test]
 fn plain_events(rt: HostRuntime) -> Result<(), Fail> {
-    let situation = read_scenario(rt.alloc(), SCENARIO.as_bytes())?;
+    let scenario = read_scenario(rt.alloc(), SCENARIO.as_bytes())?;
     let mut sink = MemSink::new(rt.alloc(), 1000, &[])?;
-    let mut mapping = Interp::new(&situation, Fields::zero(), &mut sink);
+    let mut mapping = Interp::new(&scenario, Fields::zero(), &mut sink);
     assert_eq!(rt; mapping.plain_event(Event::BeginIteration, 7), Ok(()));
     assert_eq!(rt; mapping.plain_event(Event::EndIteration, 7), Ok(()));
     assert_eq!(rt; mapping.globals().get(0), 5);
@@ -85,9 +85,9 @@ fn plain_events(rt: HostRuntime) -> Result<(), Fail> {
 
 #[test]
 fn fresh_payloads(rt: HostRuntime) -> Result<(), Fail> {
-    let situation = read_scenario(rt.alloc(), SCENARIO.as_bytes())?;
+    let scenario = read_scenario(rt.alloc(), SCENARIO.as_bytes())?;
     let mut sink = MemSink::new(rt.alloc(), 1000, &[])?;
-    let mut mapping = Interp::new(&situation, Fields::zero(), &mut sink);
+    let mut mapping = Interp::new(&scenario, Fields::zero(), &mut sink);
     let of_vertex = mapping.fresh_v();
     let of_cell = mapping.fresh_c();
     let _globals = mapping.globals();
@@ -97,13 +97,13 @@ fn fresh_payloads(rt: HostRuntime) -> Result<(), Fail> {
 
 #[test]
 fn vertex_events(rt: HostRuntime) -> Result<(), Fail> {
-    let situation = read_scenario(rt.alloc(), SCENARIO.as_bytes())?;
-    let dim = dim_of(&situation);
+    let scenario = read_scenario(rt.alloc(), SCENARIO.as_bytes())?;
+    let dim = dim_of(&scenario);
     if dim.axes() != 2 {
         return Err("dim".into());
     }
     let mut sink = MemSink::new(rt.alloc(), 1000, &[])?;
-    let mut mapping = Interp::new(&situation, Fields::zero(), &mut sink);
+    let mut mapping = Interp::new(&scenario, Fields::zero(), &mut sink);
     let mut vertex = Vertex::new(State::Unrefined, Kind::Kept, Fields::zero());
     let mut parents = square(dim, [10, 11, 12, 13]);
     let mut parent = CellRec::new(Fields::zero());
@@ -132,13 +132,13 @@ fn vertex_events(rt: HostRuntime) -> Result<(), Fail> {
 // The cell is entered, and left: the division by 0 stops the second event behind its first print.
 #[test]
 fn cell_events(rt: HostRuntime) -> Result<(), Fail> {
-    let situation = read_scenario(rt.alloc(), SCENARIO.as_bytes())?;
-    let dim = dim_of(&situation);
+    let scenario = read_scenario(rt.alloc(), SCENARIO.as_bytes())?;
+    let dim = dim_of(&scenario);
     if dim.axes() != 2 {
         return Err("dim".into());
     }
     let mut sink = MemSink::new(rt.alloc(), 1000, &[])?;
-    let mut mapping = Interp::new(&situation, Fields::zero(), &mut sink);
+    let mut mapping = Interp::new(&scenario, Fields::zero(), &mut sink);
     let mut cell = CellRec::new(Fields::zero());
     let mut parent = CellRec::new(Fields::zero());
     let mut corners = square(dim, [1, 2, 3, 4]);

@@ -13,7 +13,7 @@ returns-in-Ok-clause-answer g c made grid stands =
     let found = found_of start (held_by (g.DV.Depot.holds c.args.vertices.now) (g.DV.Depot.room c.args.vertices.now)) (held_by (g.DC.Depot.holds c.args.cells.now) (g.DC.Depot.room c.args.cells.now)) in
     let may = may_traverse c.args.scenario.now c.args.between made grid (g.DV.Depot.holds c.args.vertices.now) (g.DV.Depot.holds c.args.vertices.now) (g.DC.Depot.holds c.args.cells.now) (g.DC.Depot.holds c.args.cells.now) stands start (ap (λ (f : Fields). f.a) c.new-mapping.ensures.globals) in
     let sink : c.traverse-walked.new.m.sink.now ≡ c.sink-1.given.0 = search rules in
-    answered c.args.scenario.now c.args.between made grid (g.DV.Depot.holds c.args.vertices.now) (g.DV.Depot.holds c.traverse-walked.new.dv) (g.DC.Depot.holds c.args.cells.now) (g.DC.Depot.holds c.traverse-walked.new.dc) stands c.new-mapping.result.scene.now c.new-mapping.ensures.scene
+    answered c.args.scenario.now c.args.between made grid (g.DV.Depot.holds c.args.vertices.now) (g.DV.Depot.holds c.traverse-walked.new.dv) (g.DC.Depot.holds c.args.cells.now) (g.DC.Depot.holds c.traverse-walked.new.dc) stands c.new-mapping.result.scenario.now c.new-mapping.ensures.scenario
     (told_by g.K.Sink.text g.K.Sink.faults c.args.sink.now) _ found after c.globals-globals.result (Ok (c.in-Ok.grid, c.in-Ok.tally)) (ap (told_by g.K.Sink.text g.K.Sink.faults) c.new-mapping.ensures.sink) (ap (told_by g.K.Sink.text g.K.Sink.faults) sink)
     (sym (ap (λ (f : Fields). f.a) c.globals-globals.ensures.globals)) c.in-Ok.ensures.few c.in-Ok.ensures.advanced (c.in-Ok.ensures.answers grid may)
 
@@ -24,6 +24,6 @@ returns-in-Err-clause-answer g c made grid stands =
     let found = found_of start (held_by (g.DV.Depot.holds c.args.vertices.now) (g.DV.Depot.room c.args.vertices.now)) (held_by (g.DC.Depot.holds c.args.cells.now) (g.DC.Depot.room c.args.cells.now)) in
     let may = may_traverse c.args.scenario.now c.args.between made grid (g.DV.Depot.holds c.args.vertices.now) (g.DV.Depot.holds c.args.vertices.now) (g.DC.Depot.holds c.args.cells.now) (g.DC.Depot.holds c.args.cells.now) stands start (ap (λ (f : Fields). f.a) c.new-mapping.ensures.globals) in
     let sink : c.traverse-walked.new.m.sink.now ≡ c.sink-1.given.0 = search rules in
-    answered c.args.scenario.now c.args.between made grid (g.DV.Depot.holds c.args.vertices.now) (g.DV.Depot.holds c.traverse-walked.new.dv) (g.DC.Depot.holds c.args.cells.now) (g.DC.Depot.holds c.traverse-walked.new.dc) stands c.new-mapping.result.scene.now c.new-mapping.ensures.scene
+    answered c.args.scenario.now c.args.between made grid (g.DV.Depot.holds c.args.vertices.now) (g.DV.Depot.holds c.traverse-walked.new.dv) (g.DC.Depot.holds c.args.cells.now) (g.DC.Depot.holds c.traverse-walked.new.dc) stands c.new-mapping.result.scenario.now c.new-mapping.ensures.scenario
     (told_by g.K.Sink.text g.K.Sink.faults c.args.sink.now) _ found after c.globals-globals.result (Err c.in-Err.stop) (ap (told_by g.K.Sink.text g.K.Sink.faults) c.new-mapping.ensures.sink) (ap (told_by g.K.Sink.text g.K.Sink.faults) sink)
     (sym (ap (λ (f : Fields). f.a) c.globals-globals.ensures.globals)) c.in-Err.ensures.few c.in-Err.ensures.advanced (c.in-Err.ensures.answers grid may)

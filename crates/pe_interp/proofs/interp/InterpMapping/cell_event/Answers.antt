@@ -20,13 +20,13 @@ returns-in-None-clause-lawful g c = leaves_same _ _
 
 pub eval-answer-requires-clause-fits : goal.eval-answer-requires-clause-fits
 eval-answer-requires-clause-fits g c =
-    body_fits c.args.self.now.situation.now c.args.event Cell _ c.in-Some.body.now c.requires.sort (sym c.of.ensures ∙ ap option_copied c.in-Some.is) (λ _. c.requires.parents.dim)
+    body_fits c.args.self.now.scenario.now c.args.event Cell _ c.in-Some.body.now c.requires.sort (sym c.of.ensures ∙ ap option_copied c.in-Some.is) (λ _. c.requires.parents.dim)
 
 pub returns-in-Cell-clause-answer : goal.returns-in-Cell-clause-answer
 returns-in-Cell-clause-answer g c =
     let old = c.args.self.now in
     let here : sight c.eval-answer.new.view ≡ cell_sight fields_numbers c.args.at.now c.in-Cell.cell.now c.in-Cell.corners.now c.in-Cell.parents.now c.in-Cell.parent.now =
     ap sight c.in-Cell.is ∙ ap (λ place. cell_sight fields_numbers place c.in-Cell.cell.now c.in-Cell.corners.now c.in-Cell.parents.now c.in-Cell.parent.now) (rw c.in-Cell.is at c.eval-answer.ensures.lawful.place) in
-    event_acts old.situation.now c.args.event Cell c.args.traversal c.in-Some.body.now _ _ _ _ _ _ _ c.eval-answer.new.view c.eval-answer.result
+    event_acts old.scenario.now c.args.event Cell c.args.traversal c.in-Some.body.now _ _ _ _ _ _ _ c.eval-answer.new.view c.eval-answer.result
     c.requires.sort (sym c.of.ensures ∙ ap option_copied c.in-Some.is) (line_adds _ _ _ c.in-Ok.ensures.ok c.in-Ok.ensures.faults) refl c.eval-answer.ensures.answer (here ∙ search rules)
     (ap globals_of c.in-Cell.is ∙ search rules)
