@@ -75,7 +75,7 @@ fits-levels members =
 
 fits-settings : (members : Members) → Fits (settings_in members)
 fits-settings members =
-    fits-on_ok (number_in (codes "dim") dim_range members) _ (fits-number_in (codes "axes") dim_range members)
+    fits-on_ok (number_in (codes "dim") dim_range members) _ (fits-number_in (codes "dim") dim_range members)
     (λ axes. fits-on_ok (number_in (codes "traversals") traversals_range members) _ (fits-number_in (codes "traversals") traversals_range members)
     (λ traversals. fits-on_ok (levels_in members) _ (fits-levels members)
     (λ levels. fits-on_ok (number_in (codes "max_cells") max_cells_range members) _ (fits-number_in (codes "max_cells") max_cells_range members) (λ max_cells. fits-ok _))))
