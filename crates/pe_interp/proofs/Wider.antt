@@ -11,7 +11,7 @@ use Rattle.pe_scene.specs.Bodies.{body_at}
 
 -- eight numbers of each kind
 abbrev pub lent : Sort → ℕ → Reach
-lent sort dim = record { sort = sort; dim = axes; vertex_fields = 8; cell_fields = 8; global_fields = 8 }
+lent sort axes = record { sort = sort; dim = axes; vertex_fields = 8; cell_fields = 8; global_fields = 8 }
 
 -- in the scenario's dimension, or in any where the event has no place
 pub body_fits : (scenario : Scenario) (event : Event) (sort : Sort) (axes : ℕ) (body : List Stmt) → sort_of event ≡ sort → body_at scenario.bodies event ≡ Some body

@@ -59,6 +59,6 @@ pub RunsTo-refused : (refusal : Refusal) (said : Result Said Refusal) (old new :
     → RunsTo (record { text = refusal_line refusal; status = refusal_status refusal }) old new result → RunsTo (run_asked said) old new result
 RunsTo-refused refusal said old new result is runs = subst (λ s. RunsTo (run_asked s) old new result) (sym is) runs
 
-pub RunsTo-scene : (fault : SceneFault) (said : Result Said Refusal) (old new : Told) (result : Result Status Stop) → fault ≢ scene.Memory → IsAsked {S = Scenario} said_of (Err (Unreadable fault)) said
+pub RunsTo-unreadable : (fault : SceneFault) (said : Result Said Refusal) (old new : Told) (result : Result Status Stop) → fault ≢ scene.Memory → IsAsked {S = Scenario} said_of (Err (Unreadable fault)) said
     → RunsTo (record { text = scene_line fault; status = 3 }) old new result → RunsTo (run_asked said) old new result
-RunsTo-scene fault said old new result other is runs = RunsTo-refused (Unreadable fault) said old new result (said_is fault said other is) runs
+RunsTo-unreadable fault said old new result other is runs = RunsTo-refused (Unreadable fault) said old new result (said_is fault said other is) runs
