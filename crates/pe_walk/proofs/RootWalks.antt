@@ -18,7 +18,7 @@ use Rattle.pe_walk.specs.Machine.{Machine, Ports, with_parents, root_corners, pl
 use Rattle.pe_walk.specs.Visits.{walk_children, walk_root}
 use Rattle.pe_walk.proofs.Simulation.Matching.{then-grouped}
 use Rattle.pe_walk.proofs.GivingUp.{gives-follow}
-use Rattle.pe_walk.proofs.Walking.{Hands, machine_of, found_in, set_in, Goes, Alike, runs-may, runs-then, runs-err}
+use Rattle.pe_walk.proofs.Walking.{Hands, machine_of, found_in, set_in, Goes, HasRun, runs-may, runs-then, runs-err}
 use Rattle.pe_walk.proofs.CellWalks.{from-alike}
 
 -- the mapping's list after an event
@@ -81,10 +81,10 @@ module _ {Plan V C : Type 0} (rules : Rules Plan) (numbers : Numbers V C) (setti
   abbrev given : Unit {0} → Machine
   given u = record bare { vertices = vertices_on_stacks numbers new.vertices }
 
-  pub root-gives : (answer : Result (Unit {0}) Failure) → Alike rules numbers settings (rooting ports settings.setup.max_level (machine_of rules numbers settings mid)) (λ (u : Unit {0}). machine_of rules numbers settings walked) answer mid walked
+  pub root-gives : (answer : Result (Unit {0}) Failure) → HasRun rules numbers settings (rooting ports settings.setup.max_level (machine_of rules numbers settings mid)) (λ (u : Unit {0}). machine_of rules numbers settings walked) answer mid walked
       → Goes rules numbers settings mid walked → Fits (goes_on (set_in rules numbers settings mid)) → new.held ≡ walked.held
       → (n : ℕ) → n ≡ length (seen_corners numbers.vertex walked.parents) → new.vertices ≡ given_up_times n walked.vertices
-      → Alike rules numbers settings goes_on given answer mid new
+      → HasRun rules numbers settings goes_on given answer mid new
   root-gives (Ok u) is goes fits same n count after =
       let greatest = settings.setup.max_level in
       let roots = rooting ports greatest (machine_of rules numbers settings mid) in

@@ -1,94 +1,140 @@
 //! The rows of docs/FORMATS.md on scenarios: what is read, and what is refused for which cause.
 
-use pe_scene::{Scenario, SceneFault, read_scenario};
 use pe_base::{Event, Text};
+use pe_scene::{Scenario, SceneFault, read_scenario};
 use std::alloc::{AllocError, Global};
 use std::process::Abort;
 use std::test::Fail;
 
-// Documents that are refused, each line behind a `~`; before them the cause, with the key, or with the event and the
+// Documents that are refused, with a `~` between lines; before each the cause, with the key, or with the event and the
 // offset in its body.
-const REFUSED: &str = "\
-UnknownKey colour: colour = 1
-UnknownKey Zeta: zeta = 1 ~ alpha = 1 ~ Zeta = 1
-UnknownKey other: dim = 7 ~ [fields] ~ edge = 1 ~ [other]
-UnknownKey : '' = 1
-Missing dim: traversals = 0
-Missing traversals: dim = 2 ~ max_level = 0
-Shape dim: dim = '2' ~ traversals = 0
-Shape dim: dim = 2.0
-Shape traversals: dim = 2 ~ traversals = true
-Range dim: dim = 1
-Range dim: dim = 5 ~ traversals = 0
-Range dim: dim = -2
-Range traversals: dim = 2 ~ traversals = 0
-Range traversals: dim = 2 ~ traversals = 1001 ~ max_level = 0";
+const REFUSED: &[(&str, &str)] = &[
+    ("UnknownKey colour", "colour = 1"),
+    ("UnknownKey Zeta", "zeta = 1 ~ alpha = 1 ~ Zeta = 1"),
+    (
+        "UnknownKey other",
+        "dim = 7 ~ [fields] ~ edge = 1 ~ [other]",
+    ),
+    ("UnknownKey ", "'' = 1"),
+    ("Missing dim", "traversals = 0"),
+    ("Missing traversals", "dim = 2 ~ max_level = 0"),
+    ("Shape dim", "dim = '2' ~ traversals = 0"),
+    ("Shape dim", "dim = 2.0"),
+    ("Shape traversals", "dim = 2 ~ traversals = true"),
+    ("Range dim", "dim = 1"),
+    ("Range dim", "dim = 5 ~ traversals = 0"),
+    ("Range dim", "dim = -2"),
+    ("Range traversals", "dim = 2 ~ traversals = 0"),
+    (
+        "Range traversals",
+        "dim = 2 ~ traversals = 1001 ~ max_level = 0",
+    ),
+];
 
 // The same, behind `dim = 2` and `traversals = 1`.
-const REFUSED_BEHIND: &str = "\
-UnknownKey a b: 'a b' = 1
-Range max_level: max_level = 0 ~ start_level = 0
-Range max_level: max_level = 21
-Shape max_level: max_level = 3.0
-Shape start_level: start_level = []
-Range start_level: start_level = 0 ~ max_cells = 0
-Range start_level: start_level = 21
-Range start_level: max_level = 2 ~ start_level = 3
-Shape max_cells: max_cells = '81'
-Range max_cells: max_cells = 80 ~ trace = 1
-Range max_cells: max_cells = 4194305
-Shape trace: trace = 'enter_cell' ~ fields = 1
-Shape trace: trace = ['enter', 1]
-Name trace: trace = ['enter'] ~ fields = 1
-Name trace: trace = ['enter_cell', 'leave_cell', 'enter_cell']
-Shape fields: fields = [] ~ events = []
-UnknownKey fields.edge: fields.vertices = [] ~ fields.edge = 1 ~ fields.vertex = 1
-Shape fields.vertex: fields.vertex = 'u' ~ fields.cell = 1
-Shape fields.cell: fields.cell = ['c', ['d']]
-Shape fields.global: fields.global = [1, 2, 3, 4, 5, 6, 7, 8, 9]
-Range fields.cell: fields.cell = ['a', 'b', 'c', 'd', 'e', 'f', 'g', 'h', 'h']
-Name fields.vertex: fields.vertex = ['state']
-Name fields.cell: fields.cell = ['kind']
-Name fields.global: fields.global = ['u', 'v', 'u'] ~ events = 1
-Name fields.vertex: fields.vertex = ['']
-Name fields.vertex: fields.vertex = ['U']
-Name fields.vertex: fields.vertex = ['_u']
-Name fields.vertex: fields.vertex = ['1u']
-Name fields.vertex: fields.vertex = ['u-v']
-Name fields.vertex: fields.vertex = ['ü']
-Name fields.vertex: fields.vertex = ['abcdefghijklmnopq']
-Shape events: events = ['enter_cell']
-UnknownKey events.begin: events.enter = 1 ~ events.begin = '' ~ events.begin_iteration = '&'
-UnknownKey events.enter_cell : events.'enter_cell ' = ''
-Shape events.leave_cell: events.leave_cell = ['print 1;']
-Shape events.end_iteration: events.leave_cell = '&' ~ events.end_iteration = 1 ~ events.enter_cell = '&'
-Syntax enter_cell 7: events.leave_cell = 1 ~ events.enter_cell = 'print 1'";
+const REFUSED_BEHIND: &[(&str, &str)] = &[
+    ("UnknownKey a b", "'a b' = 1"),
+    ("Range max_level", "max_level = 0 ~ start_level = 0"),
+    ("Range max_level", "max_level = 21"),
+    ("Shape max_level", "max_level = 3.0"),
+    ("Shape start_level", "start_level = []"),
+    ("Range start_level", "start_level = 0 ~ max_cells = 0"),
+    ("Range start_level", "start_level = 21"),
+    ("Range start_level", "max_level = 2 ~ start_level = 3"),
+    ("Shape max_cells", "max_cells = '81'"),
+    ("Range max_cells", "max_cells = 80 ~ trace = 1"),
+    ("Range max_cells", "max_cells = 4194305"),
+    ("Shape trace", "trace = 'enter_cell' ~ fields = 1"),
+    ("Shape trace", "trace = ['enter', 1]"),
+    ("Name trace", "trace = ['enter'] ~ fields = 1"),
+    (
+        "Name trace",
+        "trace = ['enter_cell', 'leave_cell', 'enter_cell']",
+    ),
+    ("Shape fields", "fields = [] ~ events = []"),
+    (
+        "UnknownKey fields.edge",
+        "fields.vertices = [] ~ fields.edge = 1 ~ fields.vertex = 1",
+    ),
+    (
+        "Shape fields.vertex",
+        "fields.vertex = 'u' ~ fields.cell = 1",
+    ),
+    ("Shape fields.cell", "fields.cell = ['c', ['d']]"),
+    (
+        "Shape fields.global",
+        "fields.global = [1, 2, 3, 4, 5, 6, 7, 8, 9]",
+    ),
+    (
+        "Range fields.cell",
+        "fields.cell = ['a', 'b', 'c', 'd', 'e', 'f', 'g', 'h', 'h']",
+    ),
+    ("Name fields.vertex", "fields.vertex = ['state']"),
+    ("Name fields.cell", "fields.cell = ['kind']"),
+    (
+        "Name fields.global",
+        "fields.global = ['u', 'v', 'u'] ~ events = 1",
+    ),
+    ("Name fields.vertex", "fields.vertex = ['']"),
+    ("Name fields.vertex", "fields.vertex = ['U']"),
+    ("Name fields.vertex", "fields.vertex = ['_u']"),
+    ("Name fields.vertex", "fields.vertex = ['1u']"),
+    ("Name fields.vertex", "fields.vertex = ['u-v']"),
+    ("Name fields.vertex", "fields.vertex = ['ü']"),
+    (
+        "Name fields.vertex",
+        "fields.vertex = ['abcdefghijklmnopq']",
+    ),
+    ("Shape events", "events = ['enter_cell']"),
+    (
+        "UnknownKey events.begin",
+        "events.enter = 1 ~ events.begin = '' ~ events.begin_iteration = '&'",
+    ),
+    ("UnknownKey events.enter_cell ", "events.'enter_cell ' = ''"),
+    (
+        "Shape events.leave_cell",
+        "events.leave_cell = ['print 1;']",
+    ),
+    (
+        "Shape events.end_iteration",
+        "events.leave_cell = '&' ~ events.end_iteration = 1 ~ events.enter_cell = '&'",
+    ),
+    (
+        "Syntax enter_cell 7",
+        "events.leave_cell = 1 ~ events.enter_cell = 'print 1'",
+    ),
+];
 
 // Bodies that are refused, in two dimensions, with a number `u` of each vertex and a number `c` of each cell.
-const REFUSED_BODIES: &str = "\
-Character enter_cell 11: cell.c = 1 & 2;
-Character enter_cell 11: print 1 +; &
-Syntax begin_iteration 9: print 1 +;
-Syntax begin_iteration 18: print y; print 1 +;
-TooDeep end_iteration 70: print (((((((((((((((((((((((((((((((((((((((((((((((((((((((((((((((((1)
-TooMany end_iteration 21: print 1,1,1,1,1,1,1,1,1;
-Literal end_iteration 6: print 9223372036854775808;
-UnknownName destroy_vertex 6: print y;
-UnknownName leave_cell 6: print cell.d;
-NotHere begin_iteration 6: print v.u;
-Corner enter_cell 0: v4.u = 1;
-ReadOnly begin_iteration 0: t = 1;";
+const REFUSED_BODIES: &[(&str, &str)] = &[
+    ("Character enter_cell 11", "cell.c = 1 & 2;"),
+    ("Character enter_cell 11", "print 1 +; &"),
+    ("Syntax begin_iteration 9", "print 1 +;"),
+    ("Syntax begin_iteration 18", "print y; print 1 +;"),
+    (
+        "TooDeep end_iteration 70",
+        "print (((((((((((((((((((((((((((((((((((((((((((((((((((((((((((((((((1)",
+    ),
+    ("TooMany end_iteration 21", "print 1,1,1,1,1,1,1,1,1;"),
+    ("Literal end_iteration 6", "print 9223372036854775808;"),
+    ("UnknownName destroy_vertex 6", "print y;"),
+    ("UnknownName leave_cell 6", "print cell.d;"),
+    ("NotHere begin_iteration 6", "print v.u;"),
+    ("Corner enter_cell 0", "v4.u = 1;"),
+    ("ReadOnly begin_iteration 0", "t = 1;"),
+];
 
 // Documents that are read, behind `dim = 2` and `traversals = 1`.
-const READ: &str = "\
-max_level = 1 ~ max_cells = 81
-max_level = 20 ~ start_level = 20 ~ max_cells = 4194304
-max_level = 7 ~ start_level = 7
-fields.vertex = ['abcdefghijklmnop', 'u_1', 'x0', 't', 'states']
-fields = { vertex = ['u'], cell = ['u'], global = ['u'] }
-fields.cell = ['a', 'b', 'c', 'd', 'e', 'f', 'g', 'h']
-fields = {} ~ events = {} ~ trace = []
-events.enter_cell = ''";
+const READ: &[&str] = &[
+    "max_level = 1 ~ max_cells = 81",
+    "max_level = 20 ~ start_level = 20 ~ max_cells = 4194304",
+    "max_level = 7 ~ start_level = 7",
+    "fields.vertex = ['abcdefghijklmnop', 'u_1', 'x0', 't', 'states']",
+    "fields = { vertex = ['u'], cell = ['u'], global = ['u'] }",
+    "fields.cell = ['a', 'b', 'c', 'd', 'e', 'f', 'g', 'h']",
+    "fields = {} ~ events = {} ~ trace = []",
+    "events.enter_cell = ''",
+];
 
 // The text of a row: a line for each part.
 fn document(alloc: Global, row: &str) -> Result<String, AllocError> {
@@ -132,8 +178,7 @@ fn assert_refused(rt: &impl Abort, alloc: Global, text: &str, refusal: &str) -> 
 
 #[test]
 fn refusals(rt: HostRuntime) -> Result<(), Fail> {
-    for row in REFUSED.lines() {
-        let (refusal, lines) = row.split_once(": ").ok_or("a row")?;
+    for (refusal, lines) in REFUSED {
         let text = document(rt.alloc(), lines)?;
         assert_refused(&rt, rt.alloc(), text.as_str(), refusal)?;
     }
@@ -142,8 +187,7 @@ fn refusals(rt: HostRuntime) -> Result<(), Fail> {
 
 #[test]
 fn later_refusals(rt: HostRuntime) -> Result<(), Fail> {
-    for row in REFUSED_BEHIND.lines() {
-        let (refusal, lines) = row.split_once(": ").ok_or("a row")?;
+    for (refusal, lines) in REFUSED_BEHIND {
         let lines = document(rt.alloc(), lines)?;
         let text = format!(in rt.alloc(); "dim = 2\ntraversals = 1\n{lines}")?;
         assert_refused(&rt, rt.alloc(), text.as_str(), refusal)?;
@@ -153,8 +197,7 @@ fn later_refusals(rt: HostRuntime) -> Result<(), Fail> {
 
 #[test]
 fn refused_bodies(rt: HostRuntime) -> Result<(), Fail> {
-    for row in REFUSED_BODIES.lines() {
-        let (refusal, body) = row.split_once(": ").ok_or("a row")?;
+    for (refusal, body) in REFUSED_BODIES {
         let (_, place) = refusal.split_once(' ').ok_or("a cause")?;
         let (event, _) = place.split_once(' ').ok_or("an event")?;
         let text = format!(in rt.alloc();
@@ -167,7 +210,7 @@ fn refused_bodies(rt: HostRuntime) -> Result<(), Fail> {
 
 #[test]
 fn documents_that_are_read(rt: HostRuntime) -> Result<(), Fail> {
-    for row in READ.lines() {
+    for row in READ {
         let lines = document(rt.alloc(), row)?;
         let text = format!(in rt.alloc(); "dim = 2\ntraversals = 1\n{lines}")?;
         let _scenario = read_text(rt.alloc(), text.as_str())?;

@@ -18,7 +18,7 @@ use Rattle.pe_base.specs.Walk.Grids.{Grid}
 use Rattle.pe_base.specs.Walk.Foreseen.{walked}
 use Rattle.pe_base.specs.Walk.Working.{Working, cell_at, records_of, record_at, begun as begun_of, ended as ended_of}
 use Rattle.pe_base.specs.Walk.Walk as model
-use Rattle.pe_base.proofs.Alike.VertexTouches.{is_same_itself}
+use Rattle.pe_base.proofs.Steps.VertexTouches.{is_same_itself}
 use Rattle.pe_base.proofs.Walk.MapLaws.{at-put}
 use Rattle.pe_base.proofs.Tree.PlaceLaws.{few_corners}
 use Rattle.pe_stacks.specs.Holdings.{Holdings, len_at, lent}

@@ -8,8 +8,8 @@ use Rattle.pe_base.specs.declared.kind.Kind.{Kind}
 use Rattle.pe_base.specs.declared.kind.Kind.TheVariants.{Kept, Born, Dying, Hanging}
 use Rattle.pe_base.specs.Tree.Places.{corner}
 use Rattle.pe_base.specs.Life.Kinds.{is_hanging, is_inside}
-use Rattle.pe_base.specs.Alike.Around.{around}
-use Rattle.pe_base.specs.Alike.Routes.{stack_in}
+use Rattle.pe_base.specs.Steps.Around.{around}
+use Rattle.pe_base.specs.Steps.Routes.{stack_in}
 use Rattle.pe_base.specs.Acts.Effects.{VertexRecord}
 use Rattle.pe_base.specs.Walk.Course.{Push, Course, at_once, course_map}
 use Rattle.pe_base.specs.Walk.Core.{Setting, way, Family, read_vertex, load_touch}

@@ -8,7 +8,7 @@ use Rattle.pe_base.specs.declared.kind.Kind.TheVariants.{Kept, Born, Dying, Hang
 use Rattle.pe_base.specs.declared.event.Event.{Event}
 use Rattle.pe_base.specs.declared.tally.Tally.{Tally}
 use Rattle.pe_base.specs.Tree.Places.{corner}
-use Rattle.pe_base.specs.Alike.Routes.{stack_in, stack_out}
+use Rattle.pe_base.specs.Steps.Routes.{stack_in, stack_out}
 use Rattle.pe_base.specs.Acts.Effects.{VertexRecord}
 use Rattle.pe_base.specs.Walk.Maps.{at}
 use Rattle.pe_base.specs.Walk.Course.{Course, done, and_then}

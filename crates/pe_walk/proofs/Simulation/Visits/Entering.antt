@@ -18,7 +18,7 @@ use Rattle.pe_stacks.specs.Holdings.{Holdings, stack_at, items_at, len_at, lent,
 use Rattle.pe_stacks.specs.Grid.{cell_input_stack}
 use Rattle.pe_hang.specs.InHand.{map_holdings}
 use Rattle.pe_hang.specs.Moves.{pop}
-use Rattle.pe_base.specs.Alike.Stacks.{is_stack}
+use Rattle.pe_base.specs.Steps.Stacks.{is_stack}
 use Rattle.pe_base.proofs.Tree.Ranks.{same_places}
 use Rattle.pe_walk.specs.Machine.{Machine, cell_comes}
 use Rattle.pe_walk.specs.Machine as machine

@@ -10,14 +10,14 @@ use Rattle.pe_base.specs.Tree.Dim.{IsDim}
 use Rattle.pe_base.specs.Tree.Places.{is_same}
 use Rattle.pe_base.specs.Life.States.{is_stored}
 use Rattle.pe_base.specs.Life.Kinds.{is_hanging}
-use Rattle.pe_base.specs.Alike.Stacks.{is_stack}
+use Rattle.pe_base.specs.Steps.Stacks.{is_stack}
 use Rattle.pe_base.specs.Walk.Maps.{Map, at, removed}
 use Rattle.pe_base.specs.Walk.Course.{Push, Course, done, at_once, and_then, course_map}
 use Rattle.pe_base.specs.Walk.Core.{Setting, Family, Own, leave_touch}
 use Rattle.pe_base.specs.Walk.Working.{Working, cell_at, records_of, family_of, own_of}
 use Rattle.pe_base.specs.Walk.Touches.{after_cell, put_left}
 use Rattle.pe_base.specs.Walk.Touches as model
-use Rattle.pe_base.proofs.Alike.VertexTouches.{is_same_itself}
+use Rattle.pe_base.proofs.Steps.VertexTouches.{is_same_itself}
 use Rattle.pe_base.proofs.Walk.MapLaws.{at-removed}
 use Rattle.pe_base.proofs.Tree.Ranks.{same_places}
 use Rattle.pe_stacks.specs.Holdings.{Holdings, stack_count, stack_at, items_at, len_at, given_up, pushed}
