@@ -74,27 +74,29 @@ pub record Went (body : List Stmt) (begun : View) (old : Told) (i : ℕ) (view :
 pub went-begins : (body : List Stmt) (begun : View) (old : Told) → Went body begun old 0 begun old
 went-begins body begun old = record { text = []; whole = refl; told = appends-nothing old.text; faults = le_refl old.faults }
 
+-- the next statement, and then those behind it
+pub opened : (body : List Stmt) (begun : View) (i : ℕ) (view : View) (stmt : Stmt) → frame view ≡ frame begun → i < length body → stmt ≡ slice_index_or body i stmt
+    → meaning (drop i body) (frame begun).setting (sight view) (globals_of view)
+    ≡ and_then (act_of stmt (frame view).setting (sight view) (globals_of view)) (meaning (drop (i + 1) body) (frame begun).setting)
+opened body begun i view stmt same lt is =
+    ap (λ rest. meaning rest (frame begun).setting (sight view) (globals_of view)) (drop-cons body i stmt lt)
+    ∙ ap (λ s. and_then (act_of s (frame begun).setting (sight view) (globals_of view)) (meaning (drop (suc i) body) (frame begun).setting)) (sym is)
+    ∙ ap (λ f. and_then (act_of stmt f.setting (sight view) (globals_of view)) (meaning (drop (suc i) body) (frame begun).setting)) (sym same)
+    ∙ ap (λ n. and_then (act_of stmt (frame view).setting (sight view) (globals_of view)) (meaning (drop n body) (frame begun).setting)) (omega_next i)
+  where
+    omega_next : (n : ℕ) → suc n ≡ n + 1
+    omega_next n = omega arith
+
 module _ (body : List Stmt) (begun : View) (old : Told) (i : ℕ) (view : View) (now : Told) (stmt : Stmt) where
   abbrev here : Outcome
   here = act_of stmt (frame view).setting (sight view) (globals_of view)
-
-  opened : Went body begun old i view now → frame view ≡ frame begun → i < length body → stmt ≡ slice_index_or body i stmt
-      → meaning (drop i body) (frame begun).setting (sight view) (globals_of view) ≡ and_then here (meaning (drop (i + 1) body) (frame begun).setting)
-  opened went same lt is =
-      ap (λ rest. meaning rest (frame begun).setting (sight view) (globals_of view)) (drop-cons body i stmt lt)
-      ∙ ap (λ s. and_then (act_of s (frame begun).setting (sight view) (globals_of view)) (meaning (drop (suc i) body) (frame begun).setting)) (sym is)
-      ∙ ap (λ f. and_then (act_of stmt f.setting (sight view) (globals_of view)) (meaning (drop (suc i) body) (frame begun).setting)) (sym same)
-      ∙ ap (λ n. and_then here (meaning (drop n body) (frame begun).setting)) (omega_next i)
-    where
-      omega_next : (n : ℕ) → suc n ≡ n + 1
-      omega_next n = omega arith
 
   -- one statement more
   pub went-on : (after : View) (next : Told) → Went body begun old i view now → frame view ≡ frame begun → i < length body → stmt ≡ slice_index_or body i stmt → IsOutcome here None now next after
       → Went body begun old (i + 1) after next
   went-on after next went same lt is did = record {
     text = went.text ++ here.text;
-    whole = went.whole ∙ ap (behind went.text) (opened went same lt is ∙ fine_then here (meaning (drop (i + 1) body) (frame begun).setting) did.fault
+    whole = went.whole ∙ ap (behind went.text) (opened body begun i view stmt same lt is ∙ fine_then here (meaning (drop (i + 1) body) (frame begun).setting) did.fault
         ∙ ap (λ seen. behind here.text (meaning (drop (i + 1) body) (frame begun).setting seen here.list)) did.seen
         ∙ ap (λ list. behind here.text (meaning (drop (i + 1) body) (frame begun).setting (sight after) list)) did.list)
         ∙ twice_behind went.text here.text (meaning (drop (i + 1) body) (frame begun).setting (sight after) (globals_of after));
@@ -114,7 +116,7 @@ module _ (body : List Stmt) (begun : View) (old : Told) (i : ℕ) (view : View) 
   went-wrong after next fault went same lt is did =
       let P : Outcome → Type 0 = λ outcome. IsOutcome outcome (Some fault) old next after in
       let stops : and_then here (meaning (drop (i + 1) body) (frame begun).setting) ≡ here = ap (λ f. unless_stopped f here (meaning (drop (i + 1) body) (frame begun).setting)) did.fault in
-      subst P (sym (went.whole ∙ ap (behind went.text) (opened went same lt is ∙ stops))) (record {
+      subst P (sym (went.whole ∙ ap (behind went.text) (opened body begun i view stmt same lt is ∙ stops))) (record {
         fault = did.fault;
         seen = did.seen;
         list = did.list;
@@ -127,7 +129,7 @@ module _ (body : List Stmt) (begun : View) (old : Told) (i : ℕ) (view : View) 
       → IsSinkFault (meaning body (frame begun).setting (sight begun) (globals_of begun)) old next
   went-cut next went same lt is cut =
       let P : Outcome → Type 0 = λ outcome. IsSinkFault outcome old next in
-      subst P (sym (went.whole ∙ ap (behind went.text) (opened went same lt is)))
+      subst P (sym (went.whole ∙ ap (behind went.text) (opened body begun i view stmt same lt is)))
       (sink_fault-later (and_then here rest) went.text old now next went.told went.faults (longer here.fault))
     where
       rest : Seen → List ℤ → Outcome

@@ -16,3 +16,5 @@ pub mod Law
 pub mod Sights
 -- what a call that runs a body answers
 pub mod Answers
+-- what a sink is given while a body runs
+pub mod Pieces

@@ -5,6 +5,7 @@ ghost use Rattle.pe_check.specs.Fits.{fits, stmt_fits, expr_fits};
 ghost use Rattle.pe_eval.specs.Meaning.{meaning, act_of, printed};
 ghost use Rattle.pe_eval.specs.Sights.{sight, globals_of, frame, reach_of, situation, IsReady};
 ghost use Rattle.pe_eval.specs.Answers.{Answers};
+ghost use Rattle.pe_eval.specs.Pieces.{GivesPieces};
 
 use crate::print::print_line;
 use crate::value::value;
@@ -23,6 +24,9 @@ pub fn eval<K: Sink>(body: &Checked, view: &mut View, sink: &mut K) -> Result<()
     ensures answer { Answers (meaning body.now (frame view.old).setting (sight view.old) (globals_of view.old))
         (record { text = K.text sink.old; faults = K.faults sink.old })
         (record { text = K.text sink.new; faults = K.faults sink.new }) view.new result }
+    ensures pieces { GivesPieces (meaning body.now (frame view.old).setting (sight view.old) (globals_of view.old)).text
+        (record { text = K.text sink.old; writes = K.writes sink.old })
+        (record { text = K.text sink.new; writes = K.writes sink.new }) result }
     ensures lawful { MayLeave (frame view.old).setting.max_level (sight view.old) (sight view.new) }
     ensures frame { frame view.new ≡ frame view.old }
     ensures ready { IsReady view.new }
@@ -38,6 +42,9 @@ fn run<K: Sink>(body: &[Stmt], view: &mut View, sink: &mut K) -> Result<(), Stop
     ensures answer { Answers (meaning body.now (frame view.old).setting (sight view.old) (globals_of view.old))
         (record { text = K.text sink.old; faults = K.faults sink.old })
         (record { text = K.text sink.new; faults = K.faults sink.new }) view.new result }
+    ensures pieces { GivesPieces (meaning body.now (frame view.old).setting (sight view.old) (globals_of view.old)).text
+        (record { text = K.text sink.old; writes = K.writes sink.old })
+        (record { text = K.text sink.new; writes = K.writes sink.new }) result }
     ensures lawful { MayLeave (frame view.old).setting.max_level (sight view.old) (sight view.new) }
     ensures frame { frame view.new ≡ frame view.old }
     ensures ready { IsReady view.new }
@@ -59,6 +66,9 @@ fn step<K: Sink>(stmt: &Stmt, view: &mut View, sink: &mut K) -> Result<(), Stop>
     ensures answer { Answers (act_of stmt.now (frame view.old).setting (sight view.old) (globals_of view.old))
         (record { text = K.text sink.old; faults = K.faults sink.old })
         (record { text = K.text sink.new; faults = K.faults sink.new }) view.new result }
+    ensures pieces { GivesPieces (act_of stmt.now (frame view.old).setting (sight view.old) (globals_of view.old)).text
+        (record { text = K.text sink.old; writes = K.writes sink.old })
+        (record { text = K.text sink.new; writes = K.writes sink.new }) result }
     ensures lawful { MayLeave (frame view.old).setting.max_level (sight view.old) (sight view.new) }
     ensures frame { frame view.new ≡ frame view.old }
     ensures ready { IsReady view.new }
@@ -93,9 +103,12 @@ fn step<K: Sink>(stmt: &Stmt, view: &mut View, sink: &mut K) -> Result<(), Stop>
 fn print<K: Sink>(values: &Values, view: &View, sink: &mut K) -> Result<(), Stop>
     requires fits { IsTrue (list_all (expr_fits (reach_of view.now)) values.now) }
     requires ready { IsReady view.now }
-    ensures { Answers (printed values.now (situation view.now))
+    ensures answer { Answers (printed values.now (situation view.now))
         (record { text = K.text sink.old; faults = K.faults sink.old })
         (record { text = K.text sink.new; faults = K.faults sink.new }) view.now result }
+    ensures pieces { GivesPieces (printed values.now (situation view.now)).text
+        (record { text = K.text sink.old; writes = K.writes sink.old })
+        (record { text = K.text sink.new; writes = K.writes sink.new }) result }
 {
     let line = match print_line(values.as_slice(), view) {
         Ok(line) => line,

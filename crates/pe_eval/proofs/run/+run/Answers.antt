@@ -6,6 +6,7 @@ use Rattle.pe_check.specs.declared.checked.Stmt.TheViews.{the_lemmas}
 use Rattle.pe_eval.specs.Sights.{sight, frame, reach_of}
 use Rattle.pe_eval.proofs.Lawful.{lawful-same, lawful-number, lawful-mark}
 use Rattle.pe_eval.proofs.Runs.{fits-if, fits-then, fits-else, stmt_fits-at, went-begins, went-on, went-err, lawful-on}
+use Rattle.pe_eval.proofs.Pieces.{gave-begins, gave-on, gave-err}
 use Rattle.pe_eval.proofs.run.+run.Goals as goal
 
 pub step-run-requires : goal.step-run-requires
@@ -54,6 +55,7 @@ run-step-requires g t c κs within = (search (rules, the_lemmas), (within, (stmt
 pub run-loop-stmt-init : goal.run-loop-stmt-init
 run-loop-stmt-init g t c = record {
   went = went-begins c.args.body.now c.args.view.now _;
+  gave = gave-begins c.args.body.now c.args.view.now _;
   lawful = lawful-same _ _;
   same = refl;
   ready = c.requires.ready;
@@ -64,6 +66,11 @@ run-returns-in-Err-clause-answer g t c =
     went-err (Unit {0}) c.args.body.now c.args.view.now _ c.loop-stmt.stmt-index c.loop-stmt.view _ c.stmt-item.result c.step.new.view _ c.in-Err.stop
     c.loop-stmt.invariant.went c.loop-stmt.invariant.same c.loop-stmt-test.true c.stmt-item.is c.in-Err.ensures.answer
 
+pub run-returns-in-Err-clause-pieces : goal.run-returns-in-Err-clause-pieces
+run-returns-in-Err-clause-pieces g t c =
+    gave-err (Unit {0}) c.args.body.now c.args.view.now _ c.loop-stmt.stmt-index c.loop-stmt.view _ c.stmt-item.result _ _ c.step.new.view _ c.in-Err.stop
+    c.loop-stmt.invariant.gave c.loop-stmt.invariant.same c.loop-stmt-test.true c.stmt-item.is c.in-Err.ensures.answer c.in-Err.ensures.pieces
+
 pub run-returns-in-Err-clause-lawful : goal.run-returns-in-Err-clause-lawful
 run-returns-in-Err-clause-lawful g t c = lawful-on c.args.view.now c.loop-stmt.view c.step.new.view c.loop-stmt.invariant.same c.loop-stmt.invariant.lawful c.in-Err.ensures.lawful
 
@@ -71,6 +78,8 @@ pub run-loop-stmt-preserved : goal.run-loop-stmt-preserved
 run-loop-stmt-preserved g t c = record {
   went = went-on c.args.body.now c.args.view.now _ c.loop-stmt.stmt-index c.loop-stmt.view _ c.stmt-item.result c.step.new.view _
       c.loop-stmt.invariant.went c.loop-stmt.invariant.same c.loop-stmt-test.true c.stmt-item.is c.in-Ok.ensures.answer;
+  gave = gave-on c.args.body.now c.args.view.now _ c.loop-stmt.stmt-index c.loop-stmt.view _ c.stmt-item.result c.step.new.view _ _ _
+      c.loop-stmt.invariant.gave c.loop-stmt.invariant.same c.loop-stmt-test.true c.stmt-item.is c.in-Ok.ensures.answer c.in-Ok.ensures.pieces;
   lawful = lawful-on c.args.view.now c.loop-stmt.view c.step.new.view c.loop-stmt.invariant.same c.loop-stmt.invariant.lawful c.in-Ok.ensures.lawful;
   same = c.in-Ok.ensures.frame ∙ c.loop-stmt.invariant.same;
   ready = c.in-Ok.ensures.ready;
