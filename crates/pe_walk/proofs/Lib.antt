@@ -6,11 +6,12 @@ pub mod Tests
 pub mod Going
 -- one corner of the cell that is walked
 pub mod CornerTouches
--- four of its corners
-pub mod QuadTouches
--- all corners, quad by quad
+-- the kinds of its corners stay
+pub mod KindsKept
+-- its corners in their slots
 pub mod CornerLists
-pub mod CornerWalks
+-- and one after another
+pub mod CornerSteps
 -- # The laws
 -- cells that are not walked
 pub mod Unwalked

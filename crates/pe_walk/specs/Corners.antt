@@ -1,24 +1,26 @@
 -- The corners of a cell, touched one by one in their slots, as the machine of lists touches them.
-use Rattle.std.specs.Prelude.{◌≡◌, ℕ, ℤ, ◌+◌, false, List, [], ◌∷◌, map, length, sum_by, ◌^◌, Option, Some, None, Result}
+use Rattle.std.specs.Prelude.{◌≡◌, ℕ, ℤ, ◌-◌, ◌^◌, ◌≤◌, false, List, map, length, sum_by, Option, Some, None, Result, Ok, Err}
 use Rattle.pe_base.specs.declared.place.Place.{Place}
 use Rattle.pe_base.specs.Acts.Effects.{VertexRecord, Rules}
-use Rattle.pe_base.specs.Walk.Course.{Course, and_then, course_map}
+use Rattle.pe_base.specs.Walk.Course.{Course}
 use Rattle.pe_base.specs.Walk.Core.{Setting}
 use Rattle.pe_stacks.specs.declared.record.Vertex.{Vertex}
 use Rattle.pe_stacks.specs.declared.record.CellRec.{CellRec}
-use Rattle.pe_stacks.specs.declared.quad.Quad.{Quad}
 use Rattle.pe_stacks.specs.Corners.{CornerList, IsFull}
+use Rattle.pe_stacks.specs.Filled.{FullFrom}
 use Rattle.pe_stacks.specs.Holdings.{Holdings}
 use Rattle.pe_mapping.specs.Held.{Held, Keeps}
-use Rattle.pe_mapping.specs.Sights.{Numbers}
+use Rattle.pe_mapping.specs.Sights.{Numbers, seen_corners}
 use Rattle.pe_hang.specs.InHand.{KeepsMarks}
-use Rattle.pe_hang.specs.Follows.{Found, Follows, Fits, Left, read_by, found_of, held_by}
+use Rattle.pe_hang.specs.Follows.{Found, Failure, Follows, Leads, Fits, Left, read_by, found_of, held_by}
 use Rattle.pe_adapt.specs.declared.stop.Halt.{Halt}
 use Rattle.pe_adapt.specs.Slots.{seen_slot}
+use Rattle.pe_adapt.specs.Marked.{GiveKinds}
 use Rattle.pe_walk.specs.declared.settings.Settings.{Settings}
 use Rattle.pe_walk.specs.declared.progress.Progress.{Progress}
-use Rattle.pe_walk.specs.Machine.{Machine, Ports, load_corner}
-use Rattle.pe_walk.specs.InHand.{setting_in, machine_in_hand, failure_in}
+use Rattle.pe_walk.specs.declared.walked.WalkedCell.{WalkedCell}
+use Rattle.pe_walk.specs.Machine.{Machine, Ports, load_all, store_all}
+use Rattle.pe_walk.specs.InHand.{IsWalked, setting_in, ports_of, machine_in_hand, failure_in}
 
 -- what a call that touches corners has in hand
 pub record Hand (Plan V C : Type 0) : Type 0 where
@@ -44,9 +46,6 @@ abbrev pub filled_in : {X : Type 0} → Option X → ℕ
 filled_in None = 0
 filled_in (Some x) = 1
 
-abbrev pub filled_in_quad : {X : Type 0} → Quad X → ℕ
-filled_in_quad quad = filled_in quad.p0 + filled_in quad.p1 + filled_in quad.p2 + filled_in quad.p3
-
 abbrev pub filled_in_corners : {X : Type 0} → CornerList X → ℕ
 filled_in_corners corners = sum_by filled_in corners.slots
 
@@ -59,17 +58,12 @@ pub record AreOf {X : Type 0} (axes : ℕ) (corners : CornerList X) : Type 0 whe
 abbrev pub seen_slots : {V : Type 0} → (V → List ℤ) → CornerList (Vertex V) → List VertexRecord
 seen_slots numbers corners = map (seen_slot numbers) corners.slots
 
--- four corners, by their numbers
-abbrev pub seen_quad : {V : Type 0} → (V → List ℤ) → Quad (Vertex V) → List VertexRecord
-seen_quad numbers quad = seen_slot numbers quad.p0 ∷ seen_slot numbers quad.p1 ∷ seen_slot numbers quad.p2 ∷ seen_slot numbers quad.p3 ∷ []
+-- the loads that are left where these corners are loaded, and the stores that are left where these are not stored yet
+abbrev pub loads_left : {Plan : Type 0} → Setting Plan → Ports → Place → List VertexRecord → Machine → Course (List VertexRecord × Machine)
+loads_left set ports cell its m = load_all set ports cell (2 ^ set.axes - length its) its m
 
--- the loads of the four corners from one on, in descending number
-abbrev pub load_four : {Plan : Type 0} → Setting Plan → Ports → Place → ℕ → Machine → Course (List VertexRecord × Machine)
-load_four set ports cell k m =
-    and_then (load_corner set ports cell (k + 3) m) (λ fourth.
-    and_then (load_corner set ports cell (k + 2) fourth.1) (λ third.
-    and_then (load_corner set ports cell (k + 1) third.1) (λ second.
-    course_map (λ first. (first.0 ∷ second.0 ∷ third.0 ∷ fourth.0 ∷ [], first.1)) (load_corner set ports cell k second.1))))
+abbrev pub stores_left : {Plan : Type 0} → Setting Plan → Ports → Place → List VertexRecord → Machine → Course Machine
+stores_left set ports cell its m = store_all set ports cell (2 ^ set.axes - length its) its m
 
 -- the machine does not get stuck, whatever lies on the stacks of cells
 abbrev pub MayGo : {Plan V C X : Type 0} → Rules Plan → Numbers V C → Settings → (Setting Plan → Machine → Course X) → Hand Plan V C → Type 0
@@ -87,3 +81,49 @@ pub record GoesAlong {Plan V C X : Type 0} (rules : Rules Plan) (numbers : Numbe
   pub full : IsFull old.held.dim new.parents
   pub marks : KeepsMarks numbers.vertex old.parents new.parents
   pub counted : new.progress.tally.cells ≡ old.progress.tally.cells
+
+-- A course is left, and then another one. Where a call comes through, the first leads to the second; where it fails, the first
+-- fails, whatever would have come of it.
+module _ {X : Type 0} where
+  abbrev pub LeadsOn : Course X → Course X → Result (Unit {0}) Failure → Found → Found → Type 0
+  LeadsOn whole rest (Ok done) old now = Leads whole old now rest
+  LeadsOn whole rest (Err failure) old now = (after : Unit {0} → X) → Follows whole after (Err failure) old now.told
+
+-- A call does some of what is left for the machine to do.
+pub record GoesOn {Plan V C X : Type 0} (rules : Rules Plan) (numbers : Numbers V C) (settings : Settings) (whole rest : Setting Plan → Machine → Course X) (had has : ℕ) (result : Result (Unit {0}) Halt) (old new : Hand Plan V C) : Type 0 where
+  pub leads : (cells : Holdings (List ℤ)) (room : ℕ → ℕ) → LeadsOn
+      (whole (setting_in rules old.held settings) (machine_of numbers cells old)) (rest (setting_in rules old.held settings) (machine_of numbers cells new))
+      (read_by (failure_in new.progress) result) (found_in old room) (found_in new room)
+  pub left : Left had has old.vertices old.room new.vertices new.room false
+  pub keeps : Keeps old.held new.held
+  pub full : IsFull old.held.dim new.parents
+  pub marks : KeepsMarks numbers.vertex old.parents new.parents
+  pub counted : new.progress.tally.cells ≡ old.progress.tally.cells
+
+-- what is left to do for a cell, by the corners in their slots
+abbrev pub left_of : {Plan V C X : Type 0} → (Setting Plan → Ports → Place → List VertexRecord → Machine → Course X) → Numbers V C → Settings → Place → CornerList (Vertex V) → Setting Plan → Machine → Course X
+left_of course numbers settings cell corners set m = course set (ports_of settings) cell (seen_corners numbers.vertex corners) m
+
+-- some of it is done
+abbrev pub TouchesOn : {Plan V C X : Type 0} → Rules Plan → Numbers V C → Settings → (Setting Plan → Ports → Place → List VertexRecord → Machine → Course X) → Place → CornerList (Vertex V) → CornerList (Vertex V) → Result (Unit {0}) Halt → Hand Plan V C → Hand Plan V C → Type 0
+TouchesOn rules numbers settings course cell before after result old new =
+    GoesOn rules numbers settings (left_of course numbers settings cell before) (left_of course numbers settings cell after) (filled_in_corners before) (filled_in_corners after) result old new
+
+-- The last corners of the cell that is walked are in their slots, and no others: as many as are filled.
+pub record HasLast {Plan V C : Type 0} (settings : Settings) (cell : WalkedCell) (corners : CornerList (Vertex V)) (hand : Hand Plan V C) : Type 0 where
+  pub dim : hand.held.dim ≡ settings.setup.dim
+  pub walked : IsWalked hand.held.dim settings cell
+  pub full : IsFull hand.held.dim hand.parents
+  pub last : FullFrom settings.setup.dim (2 ^ settings.setup.dim - filled_in_corners corners) corners
+
+-- the corners before them may be loaded
+pub record MayLoad {Plan V C : Type 0} (rules : Rules Plan) (numbers : Numbers V C) (settings : Settings) (cell : WalkedCell) (corners : CornerList (Vertex V)) (hand : Hand Plan V C) : Type 0 where
+  pub here : HasLast settings cell corners hand
+  pub kinds : GiveKinds hand.held.dim settings.traversal cell.place (seen_corners numbers.vertex hand.parents) cell.marks
+  pub fits : MayGo rules numbers settings (left_of loads_left numbers settings cell.place corners) hand
+
+-- and they themselves stored
+pub record MayStore {Plan V C : Type 0} (rules : Rules Plan) (numbers : Numbers V C) (settings : Settings) (cell : WalkedCell) (corners : CornerList (Vertex V)) (hand : Hand Plan V C) : Type 0 where
+  pub here : HasLast settings cell corners hand
+  pub out : filled_in_corners corners ≤ hand.vertices.out
+  pub fits : MayGo rules numbers settings (left_of stores_left numbers settings cell.place corners) hand

@@ -12,7 +12,7 @@ ghost use Rattle.pe_walk.specs.InHand.{IsWalked, setting_in, ports_of, machine_i
 ghost use Rattle.pe_walk.specs.Corners.{MayGo, GoesAlong, AreOf, hand_of, filled_in, filled_in_corners, seen_slots};
 
 use crate::progress::Progress;
-use crate::quad::{load_quad, load_quad_apart, store_quad, store_quad_apart};
+use crate::quad::{load_quad, store_quad};
 use crate::settings::Settings;
 use crate::walked::WalkedCell;
 use pe_adapt::Halt;
@@ -72,28 +72,10 @@ fn load_quads<M: Mapping, DV: Depot<Vertex<M::V>>>(
     ensures corners { AreOf (M.held m.old).dim corners.new }
     ensures loaded { OnOk result (filled_in_corners corners.new ≡ 2 ^ (M.held m.old).dim) }
 {
-    match settings.setup.dim.axes() {
-        2 => {
-            let quad = corners.quad_mut(0);
-            load_quad(settings, cell, 0, progress, quad, m, dv, parents, parent)
-        }
-        3 => {
-            let quad = corners.quad_mut(1);
-            load_quad(settings, cell, 1, progress, quad, m, dv, parents, parent)?;
-            let quad = corners.quad_mut(0);
-            load_quad(settings, cell, 0, progress, quad, m, dv, parents, parent)
-        }
-        _ => {
-            let quad = corners.quad_mut(3);
-            load_quad_apart(settings, cell, 3, progress, quad, m, dv, parents, parent)?;
-            let quad = corners.quad_mut(2);
-            load_quad_apart(settings, cell, 2, progress, quad, m, dv, parents, parent)?;
-            let quad = corners.quad_mut(1);
-            load_quad_apart(settings, cell, 1, progress, quad, m, dv, parents, parent)?;
-            let quad = corners.quad_mut(0);
-            load_quad_apart(settings, cell, 0, progress, quad, m, dv, parents, parent)
-        }
-    }
+    load_quad(settings, cell, 3, progress, m, dv, corners, parents, parent)?;
+    load_quad(settings, cell, 2, progress, m, dv, corners, parents, parent)?;
+    load_quad(settings, cell, 1, progress, m, dv, corners, parents, parent)?;
+    load_quad(settings, cell, 0, progress, m, dv, corners, parents, parent)
 }
 
 // Stores all corners. On an error those that were not stored stay in their slots.
@@ -123,28 +105,10 @@ fn store_quads<M: Mapping, DV: Depot<Vertex<M::V>>>(
     ensures corners { AreOf (M.held m.old).dim corners.new }
     ensures emptied { OnOk result (filled_in_corners corners.new ≡ 0) }
 {
-    match settings.setup.dim.axes() {
-        2 => {
-            let quad = corners.quad_mut(0);
-            store_quad(settings, cell, 0, progress, quad, m, dv, parents, parent)
-        }
-        3 => {
-            let quad = corners.quad_mut(0);
-            store_quad(settings, cell, 0, progress, quad, m, dv, parents, parent)?;
-            let quad = corners.quad_mut(1);
-            store_quad(settings, cell, 1, progress, quad, m, dv, parents, parent)
-        }
-        _ => {
-            let quad = corners.quad_mut(0);
-            store_quad_apart(settings, cell, 0, progress, quad, m, dv, parents, parent)?;
-            let quad = corners.quad_mut(1);
-            store_quad_apart(settings, cell, 1, progress, quad, m, dv, parents, parent)?;
-            let quad = corners.quad_mut(2);
-            store_quad_apart(settings, cell, 2, progress, quad, m, dv, parents, parent)?;
-            let quad = corners.quad_mut(3);
-            store_quad_apart(settings, cell, 3, progress, quad, m, dv, parents, parent)
-        }
-    }
+    store_quad(settings, cell, 0, progress, m, dv, corners, parents, parent)?;
+    store_quad(settings, cell, 1, progress, m, dv, corners, parents, parent)?;
+    store_quad(settings, cell, 2, progress, m, dv, corners, parents, parent)?;
+    store_quad(settings, cell, 3, progress, m, dv, corners, parents, parent)
 }
 
 /// Loads all corners of the cell that is walked, in descending number. On an error all that were loaded are given up.
