@@ -59,7 +59,7 @@ module _ {X : Type 0} where
   pub empty-of : (axes : ℕ) (corners : CornerList X) → AreOf axes corners → filled_in_corners corners ≡ 0 → corners ≡ no_vertices axes
   empty-of axes corners are none =
       ap (λ slots. corners_of corners.dim slots) (empty-all corners.slots none ∙ ap (λ n. replicate n None) are.count)
-      ∙ ap (λ axes. corners_of axes (replicate (2 ^ axes) None)) are.dim
+      ∙ ap (λ n. corners_of n (replicate (2 ^ axes) None)) are.dim
 
 module _ {V : Type 0} (numbers : V → List ℤ) where
   -- full corners are seen slot by slot
