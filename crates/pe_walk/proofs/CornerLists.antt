@@ -31,7 +31,7 @@ module _ {X : Type 0} where
 
   pub full-of : (axes : ℕ) (corners : CornerList X) → AreOf axes corners → filled_in_corners corners ≡ 2 ^ axes → IsFull axes corners
   full-of axes corners are all = record {
-    axes = are.dim;
+    dim = are.dim;
     count = are.count;
     full = λ k below. full-at corners.slots (all ∙ sym are.count) k (omega (arith, are.count));
   }
@@ -96,7 +96,7 @@ module _ {X : Type 0} where
 
   pub are-last : (axes k : ℕ) (corners : CornerList X) → FullFrom axes k corners → AreOf axes corners
   are-last axes k corners last = record {
-    axes = ap (λ (c : CornerList X). c.dim) last.slots;
+    dim = ap (λ (c : CornerList X). c.dim) last.slots;
     count = ap (λ (c : CornerList X). length c.slots) last.slots ∙ simp (length-append, length-replicate, length-map) last.count;
   }
 
