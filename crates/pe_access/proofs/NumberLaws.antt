@@ -7,7 +7,7 @@ use Rattle.pe_base.specs.Tree.Places.{bits}
 use Rattle.pe_base.proofs.Steps.RouteLaws.{Below}
 use Rattle.pe_access.specs.declared.numbers.Axis.{Axis}
 use Rattle.pe_access.specs.declared.route.Route.TheVariants.{Stream, Temp}
-use Rattle.pe_access.specs.Extents.{Relation, Earlier, Later, Face, Extent, bit_of, is_relation, face_at}
+use Rattle.pe_access.specs.Extents.{Relation, Earlier, Later, Outside, Face, Extent, bit_of, is_relation, face_at}
 use Rattle.pe_access.specs.Numbers.{face_number, numbers_of, axis_of, axes_from, stack_of}
 use Rattle.pe_access.specs.States.{IsIdle, route_of, odd_count}
 use Rattle.pe_access.proofs.Choices.{Choice, fastest}
@@ -171,11 +171,14 @@ idle_extent [] i e h idle = absurd (omega arith)
 idle_extent (extent ∷ extents) zero e h idle = idle
 idle_extent (extent ∷ extents) (suc i) e h idle = idle_extent extents i e (omega arith) idle
 
-pub idle_coming : (axis : ℕ) (extent : Extent) → IsIdle extent → face_number Earlier axis 0 extent ≡ 0
-idle_coming axis extent idle = ap (λ (f : Face). if is_relation f.relation Earlier && nat_lt 0 f.level then 8 * f.level + (2 * axis + (bit_of extent.odd + 0) % 2) else 0) idle.closed
-
-pub idle_going : (axis : ℕ) (extent : Extent) → IsIdle extent → face_number Later axis 0 extent ≡ 0
-idle_going axis extent idle = ap (λ (f : Face). if is_relation f.relation Later && nat_lt 0 f.level then 8 * f.level + (2 * axis + (bit_of extent.odd + 0) % 2) else 0) idle.closed
+pub idle_number : (relation : Relation) (axis : ℕ) (extent : Extent) → IsIdle extent → face_number relation axis 0 extent ≡ 0
+idle_number relation axis extent idle =
+    ap (λ (f : Face). if is_relation f.relation relation && nat_lt 0 f.level then 8 * f.level + (2 * axis + (bit_of extent.odd + 0) % 2) else 0) idle.closed ∙ none relation
+  where
+    none : (r : Relation) → (if is_relation Outside r && false then 8 * 0 + (2 * axis + (bit_of extent.odd + 0) % 2) else 0) ≡ 0
+    none Earlier = refl
+    none Later = refl
+    none Outside = refl
 
 pub idle_at : (extents : List Extent) (i : ℕ) (e : Extent) → length extents ≡ 4 → i < 4 → IfSome (slice_get extents i) IsIdle → IsIdle (get_or extents i e)
 idle_at extents i e long h idle = idle_extent extents i e (omega arith) idle

@@ -157,3 +157,22 @@ extent_of-alike axes way cell digits digits' axis few place level-below d d' wit
     ∙ extents_at-alike (cell.level + 1) (way_turns way + sum cell.pos) cell.pos digits.k digits'.k (extents_of way cell.level cell.pos) axis (d.four ∙ sym d'.four) same
     ∙ extent_of-child axes way cell digits' axis few place level-below d' within in
     cc
+
+-- extents of axes that the grid does not have may stay as they were
+pub HoldsCell-kept : (axes : ℕ) (way : Way) (cell : Place) (l₀ l₁ l₂ l₃ m₂ m₃ : Extent) → 2 ≤ axes → HoldsCell axes way cell (l₀ ∷ l₁ ∷ l₂ ∷ l₃ ∷ []) → (2 < axes → m₂ ≡ l₂) → (3 < axes → m₃ ≡ l₃)
+    → (axes ≤ 2 → IsIdle m₂) → (axes ≤ 3 → IsIdle m₃) → HoldsCell axes way cell (l₀ ∷ l₁ ∷ m₂ ∷ m₃ ∷ [])
+HoldsCell-kept axes way cell l₀ l₁ l₂ l₃ m₂ m₃ low h same₂ same₃ idle₂ idle₃ = record { grid_axes = grid; others = rest }
+  where
+    grid : (axis : ℕ) → axis < axes → slice_get (l₀ ∷ l₁ ∷ m₂ ∷ m₃ ∷ []) axis ≡ Some (extent_of axes way cell axis)
+    grid zero within = h.grid_axes 0 within
+    grid (suc zero) within = h.grid_axes 1 within
+    grid (suc (suc zero)) within = ap (λ (l : Extent). Some l) (same₂ within) ∙ h.grid_axes 2 within
+    grid (suc (suc (suc zero))) within = ap (λ (l : Extent). Some l) (same₃ within) ∙ h.grid_axes 3 within
+    grid (suc (suc (suc (suc axis)))) within = h.grid_axes (suc (suc (suc (suc axis)))) within
+
+    rest : (axis : ℕ) → axes ≤ axis → IfSome (slice_get (l₀ ∷ l₁ ∷ m₂ ∷ m₃ ∷ []) axis) IsIdle
+    rest zero past = absurd (omega arith)
+    rest (suc zero) past = absurd (omega arith)
+    rest (suc (suc zero)) past = idle₂ past
+    rest (suc (suc (suc zero))) past = idle₃ past
+    rest (suc (suc (suc (suc axis)))) past = tt

@@ -1,5 +1,5 @@
 -- From child to child along a row: the extent of the last axis alone is new.
-use Rattle.std.proofs.Common.{◌≡◌, ℕ, zero, suc, ◌+◌, ◌-◌, ◌<◌, ◌≤◌, ◌≢◌, List, [], ◌∷◌, set, length, get_or, Option, Some, refl, sym, ap, ◌∙◌, subst, inl, inr, arith}
+use Rattle.std.proofs.Common.{◌≡◌, ℕ, zero, suc, ◌+◌, ◌-◌, ◌<◌, ◌≤◌, ◌≢◌, List, [], ◌∷◌, set, take, length, get_or, Option, Some, refl, sym, ap, ◌∙◌, subst, inl, inr, arith}
 use Rattle.std.specs.Prelude.{sum, sum_by, slice_index, slice_get, IfSome}
 use Rattle.std.proofs.lemmas.Bool.{cases_lt}
 use Rattle.std.proofs.lemmas.Option.{slice_get_within}
@@ -41,6 +41,24 @@ set-axes_from axis (l ∷ extents) (suc i) extent =
 abbrev pub BeforeLast : ℕ → List ℕ → ℕ → Type 0
 BeforeLast axes ks before =
     (axes ≡ 2 → before ≡ slice_index ks 0) × (axes ≡ 3 → before ≡ slice_index ks 0 + slice_index ks 1) × (axes ≡ 4 → before ≡ slice_index ks 0 + slice_index ks 1 + slice_index ks 2)
+
+pub before_front : (axes : ℕ) (ks : List ℕ) → length ks ≡ 4 → BeforeLast axes ks (sum (take (axes - 1) ks))
+before_front axes (a ∷ b ∷ c ∷ d ∷ []) long =
+    let front : ℕ → ℕ = λ n. sum (take (n - 1) (a ∷ b ∷ c ∷ d ∷ [])) in
+    (λ e. ap front e ∙ omega arith, λ e. ap front e ∙ omega arith, λ e. ap front e ∙ omega arith)
+before_front axes [] long = absurd (omega arith)
+before_front axes (a ∷ []) long = absurd (omega arith)
+before_front axes (a ∷ b ∷ []) long = absurd (omega arith)
+before_front axes (a ∷ b ∷ c ∷ []) long = absurd (omega arith)
+before_front axes (a ∷ b ∷ c ∷ d ∷ e ∷ ks) long = absurd (omega arith)
+
+pub before_one : (axes : ℕ) (ks : List ℕ) (x y : ℕ) → 2 ≤ axes → axes ≤ 4 → BeforeLast axes ks x → BeforeLast axes ks y → x ≡ y
+before_one (suc (suc zero)) ks x y low high is is' = is.0 refl ∙ sym (is'.0 refl)
+before_one (suc (suc (suc zero))) ks x y low high is is' = is.1 refl ∙ sym (is'.1 refl)
+before_one (suc (suc (suc (suc zero)))) ks x y low high is is' = is.2 refl ∙ sym (is'.2 refl)
+before_one zero ks x y low high is is' = absurd (omega arith)
+before_one (suc zero) ks x y low high is is' = absurd (omega arith)
+before_one (suc (suc (suc (suc (suc axes))))) ks x y low high is is' = absurd (omega arith)
 
 abbrev pub last_extent : ℕ → ℕ → List ℕ → List Extent → ℕ → ℕ → Extent
 last_extent axes next ks extents t before =

@@ -8,5 +8,5 @@ pub mod Numbers
 pub mod Faces
 -- what a state is of a cell
 pub mod States
--- the numbers of the corners of a row of children
+-- the numbers of the corners of a cell, for its row and along the last axis
 pub mod Rows

@@ -1,5 +1,5 @@
--- The numbers of the corners of a row.
-use Rattle.std.specs.Prelude.{◌≡◌, ℕ, ◌-◌, ◌^◌, ◌<◌, ◌==◌, max, take, if◌then◌else◌, List, [], ◌∷◌, slice_index}
+-- The numbers of the corners of a cell: along all axes but the last, as they are for its row, and along the last one.
+use Rattle.std.specs.Prelude.{◌≡◌, ℕ, ◌-◌, ◌/◌, ◌%◌, ◌^◌, ◌<◌, ◌==◌, max, length, take, if◌then◌else◌, List, [], ◌∷◌, slice_get, slice_index, Some}
 use Rattle.pe_base.specs.Tree.Places.{bits}
 use Rattle.pe_access.specs.declared.numbers.Numbers.{Numbers}
 use Rattle.pe_access.specs.declared.numbers.Axis.{Axis}
@@ -26,7 +26,13 @@ side_of both side = if side == 0 then both.0 else both.1
 abbrev pub front_of : CellState → List Axis
 front_of state = take (state.axes - 1) state.along
 
--- the numbers of a row, for so many axes
-pub record IsRow (axes : ℕ) (front : List Axis) (row : Row) : Type 0 where
-  pub coming : (corner : ℕ) → corner < 2 ^ (axes - 1) → slice_index row.coming corner ≡ greatest_along came (bits (axes - 1) corner) front
-  pub going : (corner : ℕ) → corner < 2 ^ (axes - 1) → slice_index row.going corner ≡ greatest_along went (bits (axes - 1) corner) front
+-- the face along an axis at a side
+abbrev pub end_at : Axis → ℕ → Numbers
+end_at axis side = if side == 0 then axis.near else axis.far
+
+-- the numbers of a state's corners
+pub record IsRow (state : CellState) (row : Row) : Type 0 where
+  pub four : length state.along ≡ 4
+  pub coming : (corner : ℕ) → corner < 2 ^ state.axes → slice_index row.coming (corner % 8) ≡ greatest_along came (bits (state.axes - 1) corner) (front_of state)
+  pub going : (corner : ℕ) → corner < 2 ^ state.axes → slice_index row.going (corner % 8) ≡ greatest_along went (bits (state.axes - 1) corner) (front_of state)
+  pub ends : (last : Axis) (pair : ℕ) → slice_get state.along (state.axes - 1) ≡ Some last → pair < 2 ^ (state.axes - 1) → slice_get row.ends pair ≡ Some (end_at last (pair / 2 ^ (state.axes - 2)))

@@ -12,6 +12,7 @@ mod rows;
 mod state;
 
 pub use laws::{order_around, rows_of_children};
+pub use numbers::Numbers;
 pub use route::Route;
 pub use row::Row;
 pub use state::CellState;

@@ -1,11 +1,29 @@
-/// The numbers of the corners of a row of three children, which differ on the last axis alone: for each corner the
-/// greatest of its faces along all other axes.
+use crate::numbers::Numbers;
+
+/// The numbers of a cell's corners, in two parts: along all axes but the last, and along the last one.
 ///
-/// The corners of a row are counted without the bit of the last axis.
+/// The first part is that of the whole row of three children that the cell is in, since they differ on the last axis alone.
 #[derive(Clone, Copy, Debug, PartialEq, Eq)]
 pub struct Row {
-    /// The numbers by which vertices come.
+    /// At each corner, without the bit of the fourth axis, the greatest number by which a vertex comes, along all axes but the last.
     pub coming: [u32; 8],
-    /// The numbers by which vertices go.
+    /// At each corner, without the bit of the fourth axis, the greatest number by which a vertex goes, along all axes but the last.
     pub going: [u32; 8],
+    /// The face along the last axis, for each two corners that differ along axis 0.
+    pub ends: [Numbers; 8],
+}
+
+impl Row {
+    /// Numbers of no cell.
+    pub fn empty() -> Row {
+        let none = Numbers {
+            coming: 0,
+            going: 0,
+        };
+        Row {
+            coming: [0; 8],
+            going: [0; 8],
+            ends: [none; 8],
+        }
+    }
 }

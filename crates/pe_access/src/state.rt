@@ -1,4 +1,4 @@
-ghost use Rattle.std.specs.Prelude.{◌≡◌, ℕ, ◌+◌, ◌-◌, ◌/◌, ◌%◌, ◌<◌, ◌^◌, max, slice_index};
+ghost use Rattle.std.specs.Prelude.{◌≡◌, ℕ, ◌+◌, ◌-◌, ◌/◌, ◌%◌, ◌<◌, ◌^◌, max, slice_get, slice_index, Some};
 ghost use Rattle.pe_base.specs.declared.place.Place.{Place as APlace};
 ghost use Rattle.pe_base.specs.declared.place.Digits.{Digits as SomeDigits};
 ghost use Rattle.pe_base.specs.declared.way.Way.{Way as AWay};
@@ -7,10 +7,10 @@ ghost use Rattle.pe_base.specs.Tree.Places.{IsDigits, IsCellPlace, IsInside, bit
 ghost use Rattle.pe_base.specs.Tree.Curve.{flips};
 ghost use Rattle.pe_base.specs.Steps.Routes.{stack_in, stack_out, way_turns};
 ghost use Rattle.pe_access.specs.Numbers.{stack_of};
-ghost use Rattle.pe_access.specs.Rows.{IsRow, front_of, side_of};
-ghost use Rattle.pe_access.specs.States.{StandsFor, axes_of, level_of, odd_count, route_of};
+ghost use Rattle.pe_access.specs.Rows.{IsRow, end_at, side_of};
+ghost use Rattle.pe_access.specs.States.{StandsFor, axes_of, level_of, odd_count, row_turns, route_of};
 
-use crate::numbers::{Axis, bit};
+use crate::numbers::{Axis, Numbers, bit};
 use crate::route::Route;
 use crate::row::Row;
 use pe_base::{Digits, Dim, Way};
@@ -51,11 +51,21 @@ impl CellState {
         let [i, j, k, l] = k.k;
         let level = self.level + 1;
         let turns = self.turns();
+        let third = if 2 < self.axes {
+            z.child(2, level, turns + i + j + bit(z.odd), k)
+        } else {
+            z
+        };
+        let fourth = if 3 < self.axes {
+            w.child(3, level, turns + i + j + k + bit(w.odd), l)
+        } else {
+            w
+        };
         let along = [
             x.child(0, level, turns + bit(x.odd), i),
             y.child(1, level, turns + i + bit(y.odd), j),
-            z.child(2, level, turns + i + j + bit(z.odd), k),
-            w.child(3, level, turns + i + j + k + bit(w.odd), l),
+            third,
+            fourth,
         ];
         CellState {
             axes: self.axes,
@@ -68,16 +78,34 @@ impl CellState {
     /// Makes the state of a child that of the child at these digits, which differ from its own on the last axis alone.
     ///
     /// That is what `descend` gives, with less to do along a row of children.
-    pub fn step(&self, child: &mut CellState, digits: Digits)
+    pub fn step(&self, child: &mut CellState, row: &mut Row, turns: u8, digits: Digits)
         requires level { level_of self.now < 20 }
         requires digits { IsDigits (axes_of self.now) digits }
         requires axes { IsDim (axes_of self.now) }
+        requires turns { turns ≡ row_turns self.now digits }
+        requires few { turns < 12 }
         ensures stands { (axes : ℕ) (way : AWay) (cell : APlace) (from : SomeDigits) → IsCellPlace axes cell → IsDigits axes from
             → StandsFor axes way cell self.now → StandsFor axes way (child_at cell from) child.old
             → ((i : ℕ) → i < axes - 1 → slice_index from.k i ≡ slice_index digits.k i) → StandsFor axes way (child_at cell digits) child.new }
         ensures axes { axes_of child.new ≡ axes_of child.old }
         ensures level { level_of child.new ≡ level_of child.old }
-        ensures front { axes_of child.old ≡ axes_of self.now → front_of child.new ≡ front_of child.old }
+        ensures row { axes_of child.old ≡ axes_of self.now → IsRow child.old row.old → IsRow child.new row.new }
+    {
+        let axis = self.axes - 1;
+        let last = axis as usize;
+        let parent = self.along[last];
+        let turns = turns + bit(parent.odd);
+        let end = parent.child(axis, self.level + 1, turns, digits.k[last]);
+        child.along[last] = end;
+        set_ends(self.axes, &end, &mut row.ends);
+    }
+
+    /// The turns of the last axis, but for its own position: the same for the three children of a row.
+    pub fn row_turns(&self, digits: Digits) -> u8
+        requires digits { IsDigits (axes_of self.now) digits }
+        requires axes { IsDim (axes_of self.now) }
+        ensures value { result ≡ row_turns self.now digits }
+        ensures few { result < 12 }
     {
         let [i, j, k, _] = digits.k;
         let before = match self.axes {
@@ -85,11 +113,7 @@ impl CellState {
             3 => i + j,
             _ => i + j + k,
         };
-        let axis = self.axes - 1;
-        let last = axis as usize;
-        let parent = self.along[last];
-        let turns = self.turns() + before + bit(parent.odd);
-        child.along[last] = parent.child(axis, self.level + 1, turns, digits.k[last]);
+        self.turns() + before
     }
 
     // The turns of every axis: one where the walk is inverted, and one for each odd position.
@@ -148,86 +172,65 @@ impl CellState {
         x.at(corner % 2).going.max(behind)
     }
 
-    /// The numbers of the row of children that the cell is in.
+    /// The numbers of the cell's corners.
     pub fn row(&self) -> Row
         requires { IsDim (axes_of self.now) }
-        ensures { IsRow (axes_of self.now) (front_of self.now) result }
+        ensures { IsRow self.now result }
+    {
+        let mut row = Row::empty();
+        self.set_row(&mut row);
+        row
+    }
+
+    /// Makes these numbers those of the cell's corners.
+    pub fn set_row(&self, row: &mut Row)
+        requires { IsDim (axes_of self.now) }
+        ensures { IsRow self.now row.new }
     {
         let [x, y, z, _] = self.along;
-        Row {
-            coming: greatest(
-                self.axes,
-                (x.near.coming, x.far.coming),
-                (y.near.coming, y.far.coming),
-                (z.near.coming, z.far.coming),
-            ),
-            going: greatest(
-                self.axes,
-                (x.near.going, x.far.going),
-                (y.near.going, y.far.going),
-                (z.near.going, z.far.going),
-            ),
-        }
+        set_greatest(
+            self.axes,
+            (x.near.coming, x.far.coming),
+            (y.near.coming, y.far.coming),
+            (z.near.coming, z.far.coming),
+            &mut row.coming,
+        );
+        set_greatest(
+            self.axes,
+            (x.near.going, x.far.going),
+            (y.near.going, y.far.going),
+            (z.near.going, z.far.going),
+            &mut row.going,
+        );
+        set_ends(
+            self.axes,
+            &self.along[(self.axes - 1) as usize],
+            &mut row.ends,
+        );
     }
 
-    // The number by which the cell takes its corner, where this is the last axis. A literal makes it short.
-    #[inline(always)]
-    fn coming_along(&self, last: u8, row: &Row, corner: u8) -> u32
-        requires corner { corner < 2 ^ axes_of self.now }
-        requires row { IsRow (axes_of self.now) (front_of self.now) row.now }
-        requires axes { IsDim (axes_of self.now) }
-        requires last { last + 1 ≡ axes_of self.now }
-        ensures { (axes : ℕ) (way : AWay) (cell : APlace) → IsCellPlace axes cell → StandsFor axes way cell self.now
-            → let vertex = corner_at axes cell corner in IsInside axes vertex → stack_of result ≡ stack_in axes way vertex cell }
-    {
-        let here = self.along[last as usize].at((corner >> last) % 2).coming;
-        here.max(row.coming[(corner % (1 << last)) as usize])
-    }
-
-    /// The number by which the cell takes its corner, as `coming` tells it, from the row that the cell is in.
+    /// The number by which the cell takes its corner, as `coming` tells it, from the numbers of its corners.
     #[inline(always)]
     pub fn coming_in(&self, row: &Row, corner: u8) -> u32
         requires corner { corner < 2 ^ axes_of self.now }
-        requires row { IsRow (axes_of self.now) (front_of self.now) row.now }
+        requires row { IsRow self.now row.now }
         requires axes { IsDim (axes_of self.now) }
         ensures { (axes : ℕ) (way : AWay) (cell : APlace) → IsCellPlace axes cell → StandsFor axes way cell self.now
             → let vertex = corner_at axes cell corner in IsInside axes vertex → stack_of result ≡ stack_in axes way vertex cell }
     {
-        match self.axes {
-            2 => self.coming_along(1, row, corner),
-            3 => self.coming_along(2, row, corner),
-            _ => self.coming_along(3, row, corner),
-        }
+        row.coming[(corner % 8) as usize].max(row.ends[(corner / 2) as usize].coming)
     }
 
-    // The number by which the cell hands its corner on, where this is the last axis. A literal makes it short.
-    #[inline(always)]
-    fn going_along(&self, last: u8, row: &Row, corner: u8) -> u32
-        requires corner { corner < 2 ^ axes_of self.now }
-        requires row { IsRow (axes_of self.now) (front_of self.now) row.now }
-        requires axes { IsDim (axes_of self.now) }
-        requires last { last + 1 ≡ axes_of self.now }
-        ensures { (axes : ℕ) (way : AWay) (cell : APlace) → IsCellPlace axes cell → StandsFor axes way cell self.now
-            → let vertex = corner_at axes cell corner in IsInside axes vertex → stack_of result ≡ stack_out axes way vertex cell }
-    {
-        let here = self.along[last as usize].at((corner >> last) % 2).going;
-        here.max(row.going[(corner % (1 << last)) as usize])
-    }
-
-    /// The number by which the cell hands its corner on, as `going` tells it, from the row that the cell is in.
+    /// The number by which the cell hands its corner on, as `going` tells it, from the numbers of its corners.
     #[inline(always)]
     pub fn going_in(&self, row: &Row, corner: u8) -> u32
         requires corner { corner < 2 ^ axes_of self.now }
-        requires row { IsRow (axes_of self.now) (front_of self.now) row.now }
+        requires row { IsRow self.now row.now }
         requires axes { IsDim (axes_of self.now) }
         ensures { (axes : ℕ) (way : AWay) (cell : APlace) → IsCellPlace axes cell → StandsFor axes way cell self.now
             → let vertex = corner_at axes cell corner in IsInside axes vertex → stack_of result ≡ stack_out axes way vertex cell }
     {
-        match self.axes {
-            2 => self.going_along(1, row, corner),
-            3 => self.going_along(2, row, corner),
-            _ => self.going_along(3, row, corner),
-        }
+        row.going[(corner % 8) as usize].max(row.ends[(corner / 2) as usize].going)
     }
 
     /// Where the cell takes its corner from: the stream exactly where no other cell comes before it around the
@@ -265,23 +268,28 @@ fn route_of(number: u32) -> Route
     }
 }
 
-// The greatest number at each corner along all axes but the last, of the numbers of both sides on axes 0 to 2.
-fn greatest(axes: u8, x: (u32, u32), y: (u32, u32), z: (u32, u32)) -> [u32; 8]
+// Sets the greatest number at each corner along all axes but the last, by the numbers of both sides on axes 0 to 2.
+fn set_greatest(axes: u8, x: (u32, u32), y: (u32, u32), z: (u32, u32), numbers: &mut [u32; 8])
     requires { IsDim axes }
-    ensures two { axes ≡ 2 → (corner : ℕ) → corner < 2 → slice_index result corner ≡ side_of x corner }
-    ensures three { axes ≡ 3 → (corner : ℕ) → corner < 4 → slice_index result corner ≡ max (side_of x (corner % 2)) (side_of y (corner / 2)) }
+    ensures two { axes ≡ 2 → (corner : ℕ) → corner < 4 → slice_index numbers.new corner ≡ side_of x (corner % 2) }
+    ensures three { axes ≡ 3 → (corner : ℕ) → corner < 8
+        → slice_index numbers.new corner ≡ max (side_of x (corner % 2)) (side_of y (corner / 2 % 2)) }
     ensures four { axes ≡ 4 → (corner : ℕ) → corner < 8
-        → slice_index result corner ≡ max (side_of x (corner % 2)) (max (side_of y (corner / 2 % 2)) (side_of z (corner / 4))) }
+        → slice_index numbers.new corner ≡ max (side_of x (corner % 2)) (max (side_of y (corner / 2 % 2)) (side_of z (corner / 4))) }
 {
     if axes == 2 {
-        return [x.0, x.1, 0, 0, 0, 0, 0, 0];
+        *numbers = [x.0, x.1, x.0, x.1, 0, 0, 0, 0];
+        return;
     }
-    let plane = [x.0.max(y.0), x.1.max(y.0), x.0.max(y.1), x.1.max(y.1)];
-    let [a, b, c, d] = plane;
+    let a = x.0.max(y.0);
+    let b = x.1.max(y.0);
+    let c = x.0.max(y.1);
+    let d = x.1.max(y.1);
     if axes == 3 {
-        return [a, b, c, d, 0, 0, 0, 0];
+        *numbers = [a, b, c, d, a, b, c, d];
+        return;
     }
-    [
+    *numbers = [
         a.max(z.0),
         b.max(z.0),
         c.max(z.0),
@@ -290,5 +298,23 @@ fn greatest(axes: u8, x: (u32, u32), y: (u32, u32), z: (u32, u32)) -> [u32; 8]
         b.max(z.1),
         c.max(z.1),
         d.max(z.1),
-    ]
+    ];
+}
+
+// Sets the face of each two corners along the last axis.
+fn set_ends(axes: u8, last: &Axis, ends: &mut [Numbers; 8])
+    requires { IsDim axes }
+    ensures { (pair : ℕ) → pair < 2 ^ (axes - 1) → slice_get ends.new pair ≡ Some (end_at last.now (pair / 2 ^ (axes - 2))) }
+{
+    let near = last.near;
+    let far = last.far;
+    let none = Numbers {
+        coming: 0,
+        going: 0,
+    };
+    match axes {
+        2 => *ends = [near, far, none, none, none, none, none, none],
+        3 => *ends = [near, near, far, far, none, none, none, none],
+        _ => *ends = [near, near, near, near, far, far, far, far],
+    }
 }

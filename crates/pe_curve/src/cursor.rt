@@ -4,7 +4,7 @@ ghost use Rattle.pe_base.specs.Tree.Dim.{IsDim};
 ghost use Rattle.pe_base.specs.Tree.Places.{IsDigits, bits};
 ghost use Rattle.pe_base.specs.Tree.Curve.{child_digits};
 
-use crate::digits::digits_at;
+use crate::digits::{along_row, digits_at};
 use pe_base::{Digits, Dim, Way};
 use std::marker::Model;
 
@@ -18,19 +18,22 @@ pub struct Cursor {
     way: Way,
     flips: u8,
     left: u8,
+    first: Digits,
 }
 
 impl Model for Cursor {
-    ghost use Rattle.std.specs.Prelude.{List, drop, ◌≤◌, ◌^◌, ◌-◌};
+    ghost use Rattle.std.specs.Prelude.{◌≡◌, List, drop, ◌<◌, ◌≤◌, ◌^◌, ◌+◌, ◌-◌, ◌*◌, ◌/◌, ◌%◌, slice_get, Some};
     ghost use Rattle.pe_base.specs.declared.place.Digits.{Digits};
-    ghost use Rattle.pe_base.specs.Tree.Places.{bits};
+    ghost use Rattle.pe_base.specs.Tree.Places.{IsDigits, bits};
     ghost use Rattle.pe_base.specs.Tree.Curve.{child_digits};
 
     ghost Value = { List Digits };
 
     ghost view = { λ c. drop (3 ^ c.dim - c.left) (child_digits c.dim c.way (bits c.dim c.flips)) };
 
-    ghost invariant = { λ c. c.left ≤ 3 ^ c.dim };
+    // Within a row, the digits of its first child are at hand.
+    ghost invariant = { λ c. (c.left ≤ 3 ^ c.dim) × IsDigits c.dim c.first
+        × (0 < c.left % 3 → slice_get (child_digits c.dim c.way (bits c.dim c.flips)) (3 ^ c.dim - 3 * (c.left / 3 + 1)) ≡ Some c.first) };
 }
 
 impl Cursor {
@@ -49,6 +52,7 @@ impl Cursor {
             way,
             flips,
             left: dim.parts(),
+            first: Digits { k: [0; 4] },
         }
     }
 }
@@ -67,6 +71,12 @@ impl Iterator for Cursor {
         }
         let n = self.dim.parts() - self.left;
         self.left -= 1;
-        Some(digits_at(self.dim, self.way, self.flips, n))
+        let behind = self.left % 3;
+        self.first = if behind == 2 {
+            digits_at(self.dim, self.way, self.flips, n)
+        } else {
+            self.first
+        };
+        Some(along_row(self.dim, self.first, 2 - behind))
     }
 }

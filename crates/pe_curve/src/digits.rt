@@ -1,4 +1,5 @@
-ghost use Rattle.std.specs.Prelude.{◌≡◌, ◌<◌, ◌^◌, slice_get, Some};
+ghost use Rattle.std.specs.Prelude.{◌≡◌, ℕ, ◌+◌, ◌%◌, ◌<◌, ◌^◌, slice_get, Some};
+ghost use Rattle.pe_base.specs.declared.way.Way.{Way as AWay};
 ghost use Rattle.pe_base.specs.declared.way.Way.TheVariants.{Forward};
 ghost use Rattle.pe_base.specs.Tree.Places.{IsDigits, bits};
 ghost use Rattle.pe_base.specs.Tree.Curve.{child_digits, mirrored};
@@ -61,6 +62,24 @@ fn forward_digits(dim: Dim, flips: u8, n: u8) -> Digits
             }
         }
     }
+}
+
+/// The digits of a child so many steps behind the first of its row, whose digits are known. Along a row the last digit goes
+/// from 0 to 2, or from 2 to 0.
+pub(crate) fn along_row(dim: Dim, first: Digits, steps: u8) -> Digits
+    requires digits { IsDigits dim first }
+    requires steps { steps < 3 }
+    ensures { (way : AWay) (flips n : ℕ) → n % 3 ≡ 0 → n + 2 < 3 ^ dim
+        → slice_get (child_digits dim way (bits dim flips)) n ≡ Some first → slice_get (child_digits dim way (bits dim flips)) (n + steps) ≡ Some result }
+{
+    let last = (dim.axes() - 1) as usize;
+    let mut k = first.k;
+    k[last] = match steps {
+        0 => k[last],
+        1 => 1,
+        _ => 2 - k[last],
+    };
+    Digits { k }
 }
 
 // A digit, mirrored where the number of turns is odd.

@@ -1,6 +1,7 @@
 -- The children of a cell along rows.
-use Rattle.std.proofs.Common.{◌≡◌, ℕ, zero, suc, ◌+◌, ◌-◌, ◌*◌, ◌/◌, ◌^◌, ◌<◌, List, [], ◌∷◌, length, map, take, refl, sym, ap, subst, ◌∙◌, arith}
-use Rattle.std.specs.Prelude.{slice_index}
+use Rattle.std.proofs.Common.{◌≡◌, ℕ, zero, suc, ◌+◌, ◌-◌, ◌*◌, ◌/◌, ◌^◌, ◌<◌, ◌≤◌, ◌≢◌, List, [], ◌∷◌, length, map, set, take, refl, sym, ap, subst, ◌∙◌, inl, inr, arith}
+use Rattle.std.specs.Prelude.{slice_index, sum}
+use Rattle.std.proofs.lemmas.Bool.{cases_lt}
 use Rattle.pe_base.specs.declared.place.Place.{Place}
 use Rattle.pe_base.specs.declared.place.Digits.{Digits}
 use Rattle.pe_base.specs.Tree.Places.{IsCellPlace, IsDigits, finer, child_at, parent_of}
@@ -11,7 +12,9 @@ use Rattle.pe_states.specs.Marks.{is_old_at, is_new_at, is_first_old, is_first_n
 use Rattle.pe_states.specs.Sides.{AreSpread, IsRow as IsRowOfMarks}
 use Rattle.pe_adapt.specs.Marked.{AreMarksOf, GiveKinds}
 use Rattle.pe_adapt.proofs.KindLaws.{kind-carried, kind-first}
-use Rattle.pe_access.specs.States.{StandsFor}
+use Rattle.pe_access.specs.declared.state.CellState.{CellState}
+use Rattle.pe_access.specs.States.{StandsFor, odd_count, row_turns}
+use Rattle.pe_base.specs.Steps.Routes.{way_turns}
 use Rattle.pe_walk.specs.declared.settings.Settings.{Settings}
 use Rattle.pe_walk.specs.declared.child.Above.{Above}
 use Rattle.pe_walk.specs.declared.child.Child.{Child}
@@ -72,6 +75,39 @@ pub row-same : (axes marks row : ℕ) (digits digits' : Digits) → IsDigits axe
     → IsRowOfMarks axes digits marks row → IsRowOfMarks axes digits' marks row
 row-same axes marks row digits digits' fit fit' one is =
     subst (λ ks. AreSpread 1 ks marks row) (front-same (axes - 1) digits.k digits'.k (fit.four ∙ sym fit'.four) one) is
+
+pub turns-same : (axes : ℕ) (state : CellState) (digits digits' : Digits) → state.axes ≡ axes → IsDigits axes digits → IsDigits axes digits' → AreInOneRow axes digits digits' → row_turns state digits ≡ row_turns state digits'
+turns-same axes state digits digits' same fit fit' one =
+    let turns : List ℕ → ℕ = λ ks. way_turns state.way + odd_count state.along + sum ks in
+    ap (λ (n : ℕ). turns (take (n - 1) digits.k)) same ∙ ap turns (front-same (axes - 1) digits.k digits'.k (fit.four ∙ sym fit'.four) one)
+    ∙ ap (λ (n : ℕ). turns (take (n - 1) digits'.k)) (sym same)
+
+all-same : (xs ys : List ℕ) → length xs ≡ length ys → ((i : ℕ) → slice_index xs i ≡ slice_index ys i) → xs ≡ ys
+all-same [] [] same each = refl
+all-same [] (y ∷ ys) same each = absurd (omega arith)
+all-same (x ∷ xs) [] same each = absurd (omega arith)
+all-same (x ∷ xs) (y ∷ ys) same each = ap (λ z. z ∷ xs) (each 0) ∙ ap (λ zs. y ∷ zs) (all-same xs ys (omega arith) (λ i. each (suc i)))
+
+finer-step : (ps xs ys : List ℕ) (i : ℕ) → length ps ≡ length xs → length xs ≡ length ys → i < length ps → ((j : ℕ) → j ≢ i → slice_index xs j ≡ slice_index ys j)
+    → set (finer ps xs) i (3 * slice_index ps i + slice_index ys i) ≡ finer ps ys
+finer-step [] xs ys i long same within each = absurd (omega arith)
+finer-step (p ∷ ps) [] ys i long same within each = absurd (omega arith)
+finer-step (p ∷ ps) (x ∷ xs) [] i long same within each = absurd (omega arith)
+finer-step (p ∷ ps) (x ∷ xs) (y ∷ ys) zero long same within each =
+    ap (λ zs. (3 * p + y) ∷ finer ps zs) (all-same xs ys (omega arith) (λ j. each (suc j) (λ e. omega arith)))
+finer-step (p ∷ ps) (x ∷ xs) (y ∷ ys) (suc i) long same within each =
+    ap (λ (z : ℕ). (3 * p + z) ∷ set (finer ps xs) i (3 * slice_index ps i + slice_index ys i)) (each 0 (λ e. omega arith))
+    ∙ ap (λ zs. (3 * p + y) ∷ zs) (finer-step ps xs ys i (omega arith) (omega arith) (omega arith) (λ j other. each (suc j) (λ e. other (omega arith))))
+
+-- a step along a row changes the position on the last axis alone
+pub child_at-step : (axes : ℕ) (parent : Place) (from digits : Digits) → 2 ≤ axes → axes ≤ 4 → IsCellPlace axes parent → IsDigits axes from → IsDigits axes digits → AreInOneRow axes from digits
+    → set (finer parent.pos from.k) (axes - 1) (3 * slice_index parent.pos (axes - 1) + slice_index digits.k (axes - 1)) ≡ finer parent.pos digits.k
+child_at-step axes parent from digits low high at fit fit' one =
+    finer-step parent.pos from.k digits.k (axes - 1) (at.pos.four ∙ sym fit.four) (fit.four ∙ sym fit'.four) (omega (arith, at.pos.four))
+    (λ j other. elim (cases_lt j (axes - 1)) [ inl less ↦ one j less | inr more ↦ fit.rest j (past j more other) ∙ sym (fit'.rest j (past j more other)) ])
+  where
+    past : (j : ℕ) → axes - 1 ≤ j → j ≢ axes - 1 → axes ≤ j
+    past j more other = elim (cases_lt j axes) [ inl less ↦ absurd (other (omega arith)) | inr far ↦ far ]
 
 -- what is known of a child as it is walked
 pub child-walked : (axes : ℕ) (settings : Settings) (above : Above) (child : Child) → IsAbove axes settings above → IsChild axes settings above child → IsWalked axes settings child.cell

@@ -3,8 +3,8 @@ use Rattle.std.specs.Prelude.{◌≡◌, ℕ, ◌-◌, ◌<◌, List, slice_inde
 use Rattle.pe_base.specs.declared.place.Digits.{Digits}
 use Rattle.pe_base.specs.Tree.Places.{IsCellPlace, IsDigits, child_at}
 use Rattle.pe_base.specs.Acts.Effects.{VertexRecord}
-use Rattle.pe_access.specs.States.{StandsFor}
-use Rattle.pe_access.specs.Rows.{IsRow, front_of}
+use Rattle.pe_access.specs.States.{StandsFor, row_turns}
+use Rattle.pe_access.specs.Rows.{IsRow}
 use Rattle.pe_states.specs.Sides.{IsRow as IsRowOfMarks}
 use Rattle.pe_adapt.specs.Marked.{AreMarksOf, GiveKinds}
 use Rattle.pe_walk.specs.declared.settings.Settings.{Settings}
@@ -26,6 +26,8 @@ pub record IsChild (axes : ℕ) (settings : Settings) (above : Above) (child : C
   pub digits : IsDigits axes child.digits
   pub place : child.cell.place ≡ child_at above.place child.digits
   pub state : StandsFor axes settings.way (child_at above.place child.digits) child.cell.state
-  pub row : IsRow axes (front_of child.cell.state) child.cell.row
+  pub row : IsRow child.cell.state child.cell.row
   pub row_marks : IsRowOfMarks axes child.digits above.marks child.row_marks
+  pub turns : child.turns ≡ row_turns above.state child.digits
+  pub few : child.turns < 12
   pub kinds : (its : List VertexRecord) → AreMarksOf axes its above.marks → GiveKinds axes settings.traversal child.cell.place its child.cell.marks

@@ -5,7 +5,7 @@ use Rattle.pe_base.specs.Tree.Places.{IsCellPlace}
 use Rattle.pe_base.specs.Acts.Effects.{Rules}
 use Rattle.pe_base.specs.Walk.Core.{Setting}
 use Rattle.pe_access.specs.States.{StandsFor}
-use Rattle.pe_access.specs.Rows.{IsRow, front_of}
+use Rattle.pe_access.specs.Rows.{IsRow}
 use Rattle.pe_stacks.specs.declared.record.Vertex.{Vertex}
 use Rattle.pe_stacks.specs.declared.record.CellRec.{CellRec}
 use Rattle.pe_stacks.specs.Corners.{CornerList}
@@ -51,7 +51,7 @@ pub record IsWalked (axes : ℕ) (settings : Settings) (cell : WalkedCell) : Typ
   pub place : IsCellPlace axes cell.place
   pub deep : 1 ≤ cell.place.level
   pub state : StandsFor axes settings.way cell.place cell.state
-  pub row : IsRow axes (front_of cell.state) cell.row
+  pub row : IsRow cell.state cell.row
 
 -- a halt, where the traversal stands
 abbrev pub failure_in : Progress → Halt → Failure

@@ -1,6 +1,7 @@
 // The children of a cell, one after another along rows: along a row only the digit on the last axis changes.
 ghost use Rattle.std.specs.Prelude.{◌≡◌, ℕ, ◌-◌, ◌<◌, List, slice_index, IsTrue};
-ghost use Rattle.pe_base.specs.Tree.Places.{IsDigits, child_at};
+ghost use Rattle.pe_base.specs.Tree.Places.{IsCellPlace, IsDigits, child_at};
+ghost use Rattle.pe_base.specs.declared.place.Digits.{Digits as SomeDigits};
 ghost use Rattle.pe_base.specs.Acts.Effects.{VertexRecord};
 ghost use Rattle.pe_states.specs.Sides.{IsRow as IsRowOfMarks};
 ghost use Rattle.pe_adapt.specs.Marked.{AreMarksOf, GiveKinds};
@@ -8,7 +9,7 @@ ghost use Rattle.pe_walk.specs.Children.{IsAbove, IsChild, AreInOneRow};
 
 use crate::settings::Settings;
 use crate::walked::WalkedCell;
-use pe_access::CellState;
+use pe_access::{CellState, Row};
 use pe_base::{Digits, Dim, Place};
 use pe_curve::child_at;
 use pe_states::Marks;
@@ -33,9 +34,12 @@ pub(crate) struct Child {
     pub digits: Digits,
     /// The part of its marks that is the same along the row.
     pub row_marks: Marks,
+    /// The turns of the last axis, which are the same along the row.
+    pub turns: u8,
 }
 
 // The marks of a child's corners.
+#[inline(always)]
 fn child_marks(settings: &Settings, above: &Above, row_marks: Marks, digits: Digits) -> Marks
     requires above { IsAbove settings.now.setup.dim settings.now above.now }
     requires digits { IsDigits settings.now.setup.dim digits }
@@ -61,7 +65,8 @@ fn turn_to(settings: &Settings, above: &Above, child: &mut Child, digits: Digits
     let place = child_at(&above.place, digits);
     child.cell.place = place;
     child.cell.state = above.state.descend(digits);
-    child.cell.row = child.cell.state.row();
+    child.cell.state.set_row(&mut child.cell.row);
+    child.turns = above.state.row_turns(digits);
     let row_marks = above.marks.row(dim, digits);
     child.row_marks = row_marks;
     let marks = child_marks(settings, above, row_marks, digits);
@@ -80,14 +85,26 @@ pub(crate) fn child_of(settings: &Settings, above: &Above, digits: Digits) -> Ch
         cell: WalkedCell {
             place: above.place,
             state: above.state,
-            row: above.state.row(),
+            row: Row::empty(),
             marks: above.marks,
         },
         digits,
         row_marks: above.marks,
+        turns: 0,
     };
     turn_to(settings, above, &mut child, digits);
     child
+}
+
+// Makes the place of a child that of the child at these digits, of the same row.
+fn step_place(dim: Dim, parent: &Place, place: &mut Place, digits: Digits)
+    requires parent { IsCellPlace dim parent.now }
+    requires digits { IsDigits dim digits }
+    ensures { (from : SomeDigits) → IsDigits dim from → AreInOneRow dim from digits
+        → place.old ≡ child_at parent.now from → place.new ≡ child_at parent.now digits }
+{
+    let last = (dim.axes() - 1) as usize;
+    place.pos[last] = 3 * parent.pos[last] + digits.k[last] as u64;
 }
 
 // Makes a child the one at these digits, of the same row.
@@ -99,8 +116,16 @@ fn step_to(settings: &Settings, above: &Above, child: &mut Child, digits: Digits
     ensures child { IsChild settings.now.setup.dim settings.now above.now child.new }
     ensures digits { child.new.digits ≡ digits }
 {
-    above.state.step(&mut child.cell.state, digits);
-    child.cell.place = child_at(&above.place, digits);
+    let turns = child.turns;
+    above
+        .state
+        .step(&mut child.cell.state, &mut child.cell.row, turns, digits);
+    step_place(
+        settings.setup.dim,
+        &above.place,
+        &mut child.cell.place,
+        digits,
+    );
     child.cell.marks = child_marks(settings, above, child.row_marks, digits);
     child.digits = digits;
 }

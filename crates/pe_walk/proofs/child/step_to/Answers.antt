@@ -1,17 +1,17 @@
 use Rattle.std.proofs.Common.{sym, subst, ◌∙◌}
-use Rattle.pe_base.proofs.Tree.PlaceLaws.{cell_coordinate_below}
-use Rattle.pe_access.specs.Rows.{IsRow}
 use Rattle.pe_adapt.specs.Marked.{GiveKinds}
-use Rattle.pe_walk.proofs.Children.{row-same}
+use Rattle.pe_walk.proofs.Children.{row-same, turns-same}
 use Rattle.pe_walk.proofs.child.step_to.Goals as goal
-
-pub child_at-child-requires-clause-pos : goal.child_at-child-requires-clause-pos
-child_at-child-requires-clause-pos c = cell_coordinate_below c.args.settings.now.setup.dim c.args.above.now.place c.requires.above.place
 
 pub child_marks-child-requires-clause-row : goal.child_marks-child-requires-clause-row
 child_marks-child-requires-clause-row c =
     let child = c.args.child.now in
     row-same c.args.settings.now.setup.dim c.args.above.now.marks child.row_marks child.digits c.args.digits c.requires.child.digits c.requires.digits c.requires.row c.requires.child.row_marks
+
+pub step-requires-clause-turns : goal.step-requires-clause-turns
+step-requires-clause-turns c =
+    let child = c.requires.child in
+    child.turns ∙ turns-same c.args.settings.now.setup.dim c.args.above.now.state c.args.child.now.digits c.args.digits c.requires.above.state.same_axes child.digits c.requires.digits c.requires.row
 
 pub returns-clause-child : goal.returns-clause-child
 returns-clause-child c =
@@ -20,11 +20,14 @@ returns-clause-child c =
     let child = c.args.child.now in
     let axes = s.setup.dim in
     let is = c.requires.child in
+    let there = c.step_place.ensures child.digits is.digits c.requires.row is.place in
     record {
       digits = c.requires.digits;
-      place = c.child_at-child.ensures;
+      place = there;
       state = c.step.ensures.stands axes s.way above.place child.digits c.requires.above.place is.digits c.requires.above.state is.state c.requires.row;
-      row = subst (λ front. IsRow axes front child.cell.row) (sym (c.step.ensures.front (is.state.same_axes ∙ sym c.requires.above.state.same_axes))) is.row;
+      row = c.step.ensures.row (is.state.same_axes ∙ sym c.requires.above.state.same_axes) is.row;
       row_marks = row-same axes above.marks child.row_marks child.digits c.args.digits is.digits c.requires.digits c.requires.row is.row_marks;
-      kinds = λ its are. subst (λ p. GiveKinds axes s.traversal p its c.child_marks-child.result) (sym c.child_at-child.ensures) (c.child_marks-child.ensures its are);
+      turns = is.turns ∙ turns-same axes above.state child.digits c.args.digits c.requires.above.state.same_axes is.digits c.requires.digits c.requires.row;
+      few = is.few;
+      kinds = λ its are. subst (λ p. GiveKinds axes s.traversal p its c.child_marks-child.result) (sym there) (c.child_marks-child.ensures its are);
     }

@@ -1,26 +1,19 @@
 -- The numbers of the last axis are made anew.
-use Rattle.std.proofs.Common.{◌≡◌, ℕ, ◌+◌, ◌-◌, set, take, get_or, sym, ap, ◌∙◌, subst, arith}
-use Rattle.std.proofs.lemmas.List.{take-set}
-use Rattle.std.specs.Prelude.{sum_by, slice_index}
+use Rattle.std.proofs.Common.{◌≡◌, ℕ, ◌+◌, ◌-◌, ◌/◌, ◌^◌, ◌<◌, set, take, get_or, sym, ap, ◌∙◌, subst, arith}
+use Rattle.std.specs.Prelude.{sum, sum_by, slice_get, slice_index, Some}
 use Rattle.pe_base.specs.declared.way.Way.{Way}
 use Rattle.pe_base.specs.Tree.Places.{IsDigits, child_at}
 use Rattle.pe_base.specs.Steps.Routes.{way_turns}
 use Rattle.pe_access.specs.declared.numbers.Axis.{Axis}
 use Rattle.pe_access.specs.Extents.{bit_of, root_extent, child_extent}
 use Rattle.pe_access.specs.Numbers.{axis_of, axes_from}
+use Rattle.pe_access.specs.Rows.{IsRow, end_at}
 use Rattle.pe_access.specs.Faces.{extent_of}
 use Rattle.pe_access.specs.States.{odd_count}
 use Rattle.pe_access.proofs.NumberLaws.{numbers_are}
-use Rattle.pe_access.proofs.StepLaws.{BeforeLast, last_extent, last_extent_is, set-axes_from, HoldsCell-step}
+use Rattle.pe_access.proofs.StepLaws.{BeforeLast, before_front, last_extent, last_extent_is, set-axes_from, HoldsCell-step}
+use Rattle.pe_access.proofs.RowLaws.{IsRow-step}
 use Rattle.pe_access.proofs.state.CellState.step.Goals as goal
-use Rattle.pe_access.proofs.state.CellState.step.Goals.{in-2, in-3, in_default}
-
-sums : (c : goal.After-way_told-2-1) → BeforeLast c.args.self.now.axes c.args.digits.k c.match-self.before
-sums c = elim c.match-self.branch [
-  | in-2 w ↦ (λ e. w.before-is, λ e. absurd (omega arith), λ e. absurd (omega arith))
-  | in-3 w ↦ (λ e. absurd (omega arith), λ e. w.before-is, λ e. absurd (omega arith))
-  | in_default w ↦ (λ e. absurd (omega arith), λ e. absurd (omega arith), λ e. w.before-is)
-]
 
 pub returns-clause-stands : goal.returns-clause-stands
 returns-clause-stands c axes way cell from place d' h h' same =
@@ -31,20 +24,21 @@ returns-clause-stands c axes way cell from place d' h h' same =
     let are = numbers_are self.along extents (omega (arith, c.type_inv.self)) h.numbers in
     let Fit : ℕ → Type 0 = λ m. IsDigits m digits in
     let fit : IsDigits axes digits = subst Fit h.same_axes c.requires.digits in
-    let t = c.turns.result in
-    let before = c.match-self.before in
+    let t = way_turns self.way + odd_count self.along in
+    let before = sum (take (n - 1) digits.k) in
     let turns : t ≡ way_turns way + sum_by (λ extent. bit_of extent.odd) extents =
-    c.turns.ensures.value ∙ ap (λ (w : Way). way_turns w + odd_count self.along) h.same_way ∙ ap (λ (m : ℕ). way_turns way + m) are.odd_sum in
+    ap (λ (w : Way). way_turns w + odd_count self.along) h.same_way ∙ ap (λ (m : ℕ). way_turns way + m) are.odd_sum in
     let parent = get_or extents (n - 1) root_extent in
     let b_is : c.bit.result ≡ bit_of parent.odd = c.bit.ensures.value ∙ ap (λ (a : Axis). bit_of a.odd) (are.each (n - 1) _ root_extent (omega (arith, c.requires.axes))) in
-    let new : c.child.result ≡ axis_of (n - 1) (child_extent (self.level + 1) (t + before + c.bit.result) (slice_index digits.k (n - 1)) parent) = c.child.ensures parent (are.each (n - 1) _ root_extent (omega (arith, c.requires.axes))) in
+    let new : c.child-end.result ≡ axis_of (n - 1) (child_extent (self.level + 1) (t + before + c.bit.result) (slice_index digits.k (n - 1)) parent) =
+    c.child-end.ensures parent (are.each (n - 1) _ root_extent (omega (arith, c.requires.axes))) ∙ ap (λ (m : ℕ). axis_of (n - 1) (child_extent (self.level + 1) (m + c.bit.result) (slice_index digits.k (n - 1)) parent)) c.requires.turns in
     let last = last_extent n (self.level + 1) digits.k extents t before in
-    let made : c.child.result ≡ axis_of (n - 1) last = new ∙ ap (λ (b : ℕ). axis_of (n - 1) (child_extent (self.level + 1) (t + before + b) (slice_index digits.k (n - 1)) parent)) b_is in
+    let made : c.child-end.result ≡ axis_of (n - 1) last = new ∙ ap (λ (b : ℕ). axis_of (n - 1) (child_extent (self.level + 1) (t + before + b) (slice_index digits.k (n - 1)) parent)) b_is in
     let Sums : ℕ → Type 0 = λ m. BeforeLast m digits.k before in
     let is : last ≡ extent_of axes way (child_at cell digits) (axes - 1) =
     ap (λ (m : ℕ). last_extent m (self.level + 1) digits.k extents t before) h.same_axes
     ∙ ap (λ (l : ℕ). last_extent axes (l + 1) digits.k extents t before) h.same_level
-    ∙ last_extent_is axes way cell digits extents t before h.grid.0 h.grid.1 place (omega (arith, c.requires.level, h.same_level)) fit are.four h.held turns (subst Sums h.same_axes (sums c)) in
+    ∙ last_extent_is axes way cell digits extents t before h.grid.0 h.grid.1 place (omega (arith, c.requires.level, h.same_level)) fit are.four h.held turns (subst Sums h.same_axes (before_front n digits.k c.requires.digits.four)) in
     record {
       grid = h.grid;
       same_axes = h'.same_axes;
@@ -52,14 +46,17 @@ returns-clause-stands c axes way cell from place d' h h' same =
       same_level = h'.same_level;
       extents = set h'.extents (axes - 1) last;
       held = HoldsCell-step axes way cell from digits h'.extents last h.grid.1 h.grid.0 place (omega (arith, c.requires.level, h.same_level)) d' fit same h'.held is;
-      numbers = ap (λ (m : ℕ). set c.args.child.now.along (m - 1) c.child.result) h.same_axes
-          ∙ ap (λ xs. set xs (axes - 1) c.child.result) h'.numbers
+      numbers = ap (λ (m : ℕ). set c.args.child.now.along (m - 1) c.child-end.result) h.same_axes
+          ∙ ap (λ xs. set xs (axes - 1) c.child-end.result) h'.numbers
           ∙ ap (set (axes_from 0 h'.extents) (axes - 1)) (made ∙ ap (λ (m : ℕ). axis_of m last) (omega (arith, h.same_axes)))
           ∙ set-axes_from 0 h'.extents (axes - 1) last;
     }
 
-pub returns-clause-front : goal.returns-clause-front
-returns-clause-front c same =
-    let n = c.args.self.now.axes in
-    let along = c.args.child.now.along in
-    ap (λ (m : ℕ). take (m - 1) (set along (n - 1) c.child.result)) same ∙ take-set along (n - 1) c.child.result ∙ ap (λ (m : ℕ). take (m - 1) along) (sym same)
+pub returns-clause-row : goal.returns-clause-row
+returns-clause-row c same is =
+    let state = c.args.child.now in
+    let last = c.child-end.result in
+    let one : c.args.self.now.axes ≡ state.axes = sym same in
+    let Ends : ℕ → Type 0 = λ m. (pair : ℕ) → pair < 2 ^ (m - 1) → slice_get c.set_ends.new.ends pair ≡ Some (end_at last (pair / 2 ^ (m - 2))) in
+    let With : ℕ → Type 0 = λ m. IsRow (record { axes = state.axes; way = state.way; level = state.level; along = set state.along (m - 1) last }) (record { coming = c.args.row.now.coming; going = c.args.row.now.going; ends = c.set_ends.new.ends }) in
+    subst With same (IsRow-step state c.args.row.now last c.set_ends.new.ends is (omega (arith, c.type_inv, c.requires.axes, same)) (subst Ends one c.set_ends.ensures))
