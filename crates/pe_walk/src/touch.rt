@@ -61,7 +61,7 @@ pub(crate) fn load_hanging<M: Mapping, DV: Depot<Vertex<M::V>>>(
 }
 
 // Loads a corner that counts, for the first time.
-#[inline]
+#[inline(always)]
 pub(crate) fn load_first<M: Mapping, DV: Depot<Vertex<M::V>>>(
     settings: &Settings,
     cell: &WalkedCell,
