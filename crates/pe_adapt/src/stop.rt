@@ -1,6 +1,11 @@
 ghost use Rattle.std.specs.Prelude.{◌≡◌};
 ghost use Rattle.pe_base.specs.declared.place.Place.{Place as APlace};
+ghost use Rattle.pe_base.specs.declared.event.Event.{Event as AnEvent};
+ghost use Rattle.pe_base.specs.declared.stop.Stop.{Stop as AStop};
+ghost use Rattle.pe_base.specs.declared.stop.Stop.TheVariants.{Memory as NoMemory};
 ghost use Rattle.pe_hang.specs.Follows.{failure_at};
+ghost use Rattle.pe_adapt.specs.declared.stop.Halt.TheVariants.{Event as ByEvent};
+ghost use Rattle.pe_adapt.specs.declared.stop.WalkStop.TheVariants.{Event as AtEvent};
 ghost use Rattle.pe_adapt.specs.Stops.{failure_of, failure_of_halt};
 
 use pe_base::{Event, Place, Stop};
@@ -40,7 +45,8 @@ pub enum Halt {
 impl Halt {
     /// The halt by an event.
     pub fn of_event(stop: Stop, event: Event) -> Halt
-        ensures { (at : APlace) → failure_of_halt at result ≡ failure_at event at stop }
+        ensures failure { (at : APlace) → failure_of_halt at result ≡ failure_at event at stop }
+        ensures named { (stop ≡ NoMemory → ⊥) → result ≡ ByEvent stop event }
     {
         match stop {
             Stop::Memory => Halt::Memory,
@@ -52,7 +58,8 @@ impl Halt {
 impl WalkStop {
     /// A halt at a place.
     pub fn of_halt(halt: Halt, at: Place) -> WalkStop
-        ensures { failure_of result ≡ failure_of_halt at halt }
+        ensures failure { failure_of result ≡ failure_of_halt at halt }
+        ensures named { (stop : AStop) (event : AnEvent) → halt ≡ ByEvent stop event → result ≡ AtEvent stop event at }
     {
         match halt {
             Halt::Event(stop, event) => WalkStop::Event { stop, event, at },

@@ -35,7 +35,7 @@ returns-in-Err-clause-follows g c = λ input cells.
     let vertices = held_by holds (g.DV.Depot.room c.args.dv.now) in
     let set = setting_of g.M.Effects.rules old 0 0 c.args.traversal in
     let family' = family_in_hand numbers c.make_hanging.new.parents c.make_hanging.new.parent new.list in
-    rw (c.of_event.ensures c.args.at.now)
+    rw (c.of_event.ensures.failure c.args.at.now)
     (loaded-hanging (seen_vertex numbers.vertex) set input c.args.at.now holds (family_in_hand numbers c.args.parents.now c.args.parent.now old.list)
     Hanging None (g.DV.Depot.holds c.make_hanging.new.dv) (λ v. (seen_vertex numbers.vertex v, family'))
     (failure_at CreateHangingVertex c.args.at.now) (Err c.in-Err.stop) (found_of old vertices cells) new.told

@@ -51,7 +51,7 @@ returns-in-Err-clause-follows g c = λ output to cells fits.
     let found = found_of old (held_by holds room) cells in
     let failure = failure_at DestroyHangingVertex c.args.at.now c.in-Err.stop in
     let gone = λ (u : Unit {0}). desk f (g.DV.Depot.holds c.end_hanging.new.dv) family' in
-    rw (c.of_event.ensures c.args.at.now)
+    rw (c.of_event.ensures.failure c.args.at.now)
     (subst
     (λ slot. Follows (store_as set output to c.args.at.now (seen_slot numbers.vertex slot) (desk f holds family)) gone (Err failure) found new.told)
     (sym held)

@@ -79,5 +79,5 @@ returns-in-Err-clause-answers g c moment can =
     c.settings_at-settings.ensures.setup c.settings_at-settings.ensures.traversal c.settings_at-settings.ensures.input c.settings_at-settings.ensures.cell_input c.walked_cell-cell.ensures.place can.here in
     cell_answers set moment begins can.may found before told after ends (alike-sym (is_seen (seen_vertex numbers.vertex) before.vertices)) (alike-sym (is_seen (seen_cell numbers.cell) before.cells))
     (alike-sym (is_seen (seen_vertex numbers.vertex) after.vertices)) (alike-sym (is_seen (seen_cell numbers.cell) after.cells)) c.requires.few failure_of (Err c.of_halt.result)
-    (subst (λ failure. Follows {A = Unit {0}} (machine.walk_cell set (ports_of moment.outset.outlook.swapped) (suc moment.levels) moment.stage.cell begins) (λ done. ends) (Err failure) found told) (sym c.of_halt.ensures)
+    (subst (λ failure. Follows {A = Unit {0}} (machine.walk_cell set (ports_of moment.outset.outlook.swapped) (suc moment.levels) moment.stage.cell begins) (λ done. ends) (Err failure) found told) (sym c.of_halt.ensures.failure)
     (subst (λ course. Follows {A = Unit {0}} course (λ done. ends) (Err (failure_of_halt c.walk_cell-walked.new.progress.at c.in-Err.halt)) found told) same c.in-Err.ensures.follows))
