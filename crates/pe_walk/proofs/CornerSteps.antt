@@ -1,7 +1,7 @@
 -- The corners of the cell that is walked, loaded and stored one after another.
 use Rattle.std.proofs.Common.{◌≡◌, ℕ, ℤ, zero, suc, ◌+◌, ◌-◌, ◌*◌, ◌^◌, ◌<◌, ◌≤◌, true, false, List, [], ◌∷◌, map, length, set, Option, Some, None, IsSome, Result, Ok, Err, refl, sym, ap, subst, ◌∙◌, arith}
-use Rattle.std.specs.Prelude.{OnOk, OnErr}
-use Rattle.std.proofs.lemmas.List.{length-set, length-map, set-get_or}
+use Rattle.std.specs.Prelude.{OnOk}
+use Rattle.std.proofs.lemmas.List.{length-map, set-get_or}
 use Rattle.pe_base.specs.Acts.Effects.{VertexRecord, Rules}
 use Rattle.pe_base.specs.Walk.Course.{Course, at_once, and_then}
 use Rattle.pe_base.specs.Walk.Core.{Setting}
@@ -21,9 +21,9 @@ use Rattle.pe_walk.specs.declared.settings.Settings.{Settings}
 use Rattle.pe_walk.specs.declared.walked.WalkedCell.{WalkedCell}
 use Rattle.pe_walk.specs.Machine.{Machine, load_corner, load_all, store_corner, store_all}
 use Rattle.pe_walk.specs.InHand.{IsWalked, setting_in, ports_of}
-use Rattle.pe_walk.specs.Corners.{Hand, machine_of, MayGo, GoesAlong, GoesOn, TouchesOn, HasLast, MayLoad, MayStore, AreOf, left_of, loads_left, stores_left, filled_in, filled_in_corners, seen_slots}
+use Rattle.pe_walk.specs.Corners.{Hand, machine_of, MayGo, GoesAlong, TouchesOn, HasLast, MayLoad, MayStore, AreOf, left_of, loads_left, stores_left, filled_in, filled_in_corners, seen_slots}
 use Rattle.pe_walk.proofs.Going.{on-ok, on-always, may-first, may-next, first-goes, goes-same, goes-all}
-use Rattle.pe_walk.proofs.CornerLists.{full-of, empty-of, seen_corners-full, filled-last, are-last, seen-take}
+use Rattle.pe_walk.proofs.CornerLists.{full-of, empty-of, seen_corners-full, filled-last, seen-take}
 use Rattle.pe_walk.proofs.KindsKept.{kinds-kept}
 
 -- a cell has at most sixteen corners

@@ -12,7 +12,7 @@ ghost use Rattle.pe_walk.specs.InHand.{IsWalked, setting_in, ports_of, machine_i
 ghost use Rattle.pe_walk.specs.Corners.{MayGo, GoesAlong, AreOf, hand_of, filled_in, filled_in_corners, seen_slots};
 
 use crate::progress::Progress;
-use crate::quad::{load_quad, store_quad};
+use crate::quad::{load_last, load_quad, store_quad};
 use crate::settings::Settings;
 use crate::walked::WalkedCell;
 use pe_adapt::Halt;
@@ -47,7 +47,7 @@ fn give_up_filled<V, D: Depot<Vertex<V>>>(dim: Dim, d: &mut D, corners: &mut Cor
 }
 
 // Loads all corners. On an error those that were loaded stay in their slots.
-#[inline]
+#[inline(always)]
 fn load_quads<M: Mapping, DV: Depot<Vertex<M::V>>>(
     settings: &Settings,
     cell: &WalkedCell,
@@ -72,8 +72,7 @@ fn load_quads<M: Mapping, DV: Depot<Vertex<M::V>>>(
     ensures corners { AreOf (M.held m.old).dim corners.new }
     ensures loaded { OnOk result (filled_in_corners corners.new ≡ 2 ^ (M.held m.old).dim) }
 {
-    load_quad(settings, cell, 3, progress, m, dv, corners, parents, parent)?;
-    load_quad(settings, cell, 2, progress, m, dv, corners, parents, parent)?;
+    load_last(settings, cell, progress, m, dv, corners, parents, parent)?;
     load_quad(settings, cell, 1, progress, m, dv, corners, parents, parent)?;
     load_quad(settings, cell, 0, progress, m, dv, corners, parents, parent)
 }
@@ -112,7 +111,7 @@ fn store_quads<M: Mapping, DV: Depot<Vertex<M::V>>>(
 }
 
 /// Loads all corners of the cell that is walked, in descending number. On an error all that were loaded are given up.
-#[inline]
+#[inline(always)]
 pub(crate) fn load_corners<M: Mapping, DV: Depot<Vertex<M::V>>>(
     settings: &Settings,
     cell: &WalkedCell,

@@ -202,3 +202,59 @@ pub(crate) fn store_quad<M: Mapping, DV: Depot<Vertex<M::V>>>(
         parent,
     )
 }
+
+// Loads corners 8 to 15, as a call of its own: all sixteen in one place are too much code.
+#[inline(never)]
+fn load_upper<M: Mapping, DV: Depot<Vertex<M::V>>>(
+    settings: &Settings,
+    cell: &WalkedCell,
+    progress: &mut Progress,
+    m: &mut M,
+    dv: &mut DV,
+    corners: &mut Corners<M::V>,
+    parents: &mut Corners<M::V>,
+    parent: &mut CellRec<M::C>,
+) -> Result<(), Halt>
+    requires ready { MayLoad M.rules M.numbers settings.now cell.now corners.old
+        (hand_of (M.held m.old) (DV.holds dv.old) (DV.room dv.old) parents.old parent.old progress.old) }
+    requires behind { filled_in_corners corners.old ≡ 2 ^ settings.now.setup.dim - 16 }
+    ensures goes { TouchesOn M.rules M.numbers settings.now (λ set. loads_left set) cell.now.place corners.old corners.new result
+        (hand_of (M.held m.old) (DV.holds dv.old) (DV.room dv.old) parents.old parent.old progress.old)
+        (hand_of (M.held m.new) (DV.holds dv.new) (DV.room dv.new) parents.new parent.new progress.new) }
+    ensures ready { OnOk result (MayLoad M.rules M.numbers settings.now cell.now corners.new
+        (hand_of (M.held m.new) (DV.holds dv.new) (DV.room dv.new) parents.new parent.new progress.new)) }
+    ensures behind { OnOk result (filled_in_corners corners.new ≡ 2 ^ settings.now.setup.dim - 8) }
+    ensures corners { AreOf settings.now.setup.dim corners.new }
+{
+    load_quad(settings, cell, 3, progress, m, dv, corners, parents, parent)?;
+    load_quad(settings, cell, 2, progress, m, dv, corners, parents, parent)
+}
+
+// Loads corners 8 to 15, if the cell has them.
+#[inline(always)]
+pub(crate) fn load_last<M: Mapping, DV: Depot<Vertex<M::V>>>(
+    settings: &Settings,
+    cell: &WalkedCell,
+    progress: &mut Progress,
+    m: &mut M,
+    dv: &mut DV,
+    corners: &mut Corners<M::V>,
+    parents: &mut Corners<M::V>,
+    parent: &mut CellRec<M::C>,
+) -> Result<(), Halt>
+    requires ready { MayLoad M.rules M.numbers settings.now cell.now corners.old
+        (hand_of (M.held m.old) (DV.holds dv.old) (DV.room dv.old) parents.old parent.old progress.old) }
+    requires behind { filled_in_corners corners.old ≡ 2 ^ settings.now.setup.dim - 16 }
+    ensures goes { TouchesOn M.rules M.numbers settings.now (λ set. loads_left set) cell.now.place corners.old corners.new result
+        (hand_of (M.held m.old) (DV.holds dv.old) (DV.room dv.old) parents.old parent.old progress.old)
+        (hand_of (M.held m.new) (DV.holds dv.new) (DV.room dv.new) parents.new parent.new progress.new) }
+    ensures ready { OnOk result (MayLoad M.rules M.numbers settings.now cell.now corners.new
+        (hand_of (M.held m.new) (DV.holds dv.new) (DV.room dv.new) parents.new parent.new progress.new)) }
+    ensures behind { OnOk result (filled_in_corners corners.new ≡ 2 ^ settings.now.setup.dim - 8) }
+    ensures corners { AreOf settings.now.setup.dim corners.new }
+{
+    if settings.setup.dim.corners() <= 8 {
+        return Ok(());
+    }
+    load_upper(settings, cell, progress, m, dv, corners, parents, parent)
+}
