@@ -1,8 +1,8 @@
 -- The corners of a cell in their slots: all, some, the last ones or none.
-use Rattle.std.proofs.Common.{◌≡◌, ℕ, ℤ, zero, suc, ◌^◌, ◌<◌, ◌≤◌, true, false, List, [], ◌∷◌, ◌++◌, map, length, get_or, set, replicate, Option, Some, None, IsSome, refl, sym, ap, ◌∙◌, length-append, arith}
+use Rattle.std.proofs.Common.{◌≡◌, ℕ, ℤ, zero, suc, ◌^◌, ◌<◌, ◌≤◌, true, false, List, [], ◌∷◌, ◌++◌, map, length, get_or, set, replicate, Option, Some, None, IsSome, refl, sym, ap, ◌∙◌, arith}
 use Rattle.std.specs.Prelude.{sum_by}
 use Rattle.std.specs.List.{filter_map}
-use Rattle.std.proofs.lemmas.List.{length-map, length-replicate, set-set, set-get_or}
+use Rattle.std.proofs.lemmas.List.{set-set, set-get_or}
 use Rattle.std.proofs.lemmas.List.Sums.{sum_by-cons}
 use Rattle.pe_stacks.specs.declared.record.Vertex.{Vertex}
 use Rattle.pe_stacks.specs.Corners.{CornerList, vertex_at, with_vertex, vertices_of, no_vertices, IsFull}
@@ -93,12 +93,6 @@ module _ {X : Type 0} where
 
   pub filled-last : (axes k : ℕ) (corners : CornerList X) → (last : FullFrom axes k corners) → filled_in_corners corners ≡ length last.vertices
   filled-last axes k corners last = ap (λ (c : CornerList X). filled_in_corners c) last.slots ∙ filled-behind k last.vertices
-
-  pub are-last : (axes k : ℕ) (corners : CornerList X) → FullFrom axes k corners → AreOf axes corners
-  are-last axes k corners last = record {
-    dim = ap (λ (c : CornerList X). c.dim) last.slots;
-    count = ap (λ (c : CornerList X). length c.slots) last.slots ∙ simp (length-append, length-replicate, length-map) last.count;
-  }
 
   -- the vertex of a full slot, and that slot empty
   pub seen-take : (axes k : ℕ) (v : X) (corners : CornerList X) → k < 2 ^ axes → FullFrom axes k corners → vertex_at corners k ≡ Some v → vertices_of corners ≡ v ∷ vertices_of (with_vertex corners k None)

@@ -145,9 +145,6 @@ module _ {Plan V C : Type 0} {rules : Rules Plan} {numbers : Numbers V C} {setti
     pub store-there : IsSome slot
     store-there = subst IsSome at (full_here settings.setup.dim k corners inside last_to_store)
 
-    pub store-out : 0 < old.vertices.out
-    store-out = omega (arith, ready.out, behind, inside)
-
     seen-store : seen_corners numbers.vertex corners ≡ seen_slot numbers.vertex slot ∷ seen_corners numbers.vertex after_store
     seen-store = go slot store-there at
       where
