@@ -1,7 +1,7 @@
 //! Worked rows of grids that change, through the top call.
-use pe_run::peano;
 use crate::rows::{RUN, check, new_depots, plain, words_of};
 use pe_io::{MemShelf, MemSink};
+use pe_run::peano;
 use pe_stacks::Depot;
 use std::alloc::Global;
 use std::process::Abort;

@@ -3,9 +3,9 @@ ghost use Rattle.std.specs.Prelude.{◌≡◌, IfOk};
 ghost use Rattle.pe_stacks.specs.Holdings.{new_holdings};
 ghost use Rattle.pe_stacks.specs.VecDepot.{holdings_of};
 
-use pe_run::peano;
 use pe_base::Fields;
 use pe_io::{MemShelf, MemSink, SureShelf, SureSink};
+use pe_run::peano;
 use pe_stacks::{CellRec, Depot, VecDepot, Vertex};
 use std::alloc::{AllocError, Global};
 use std::process::Abort;
