@@ -5,3 +5,4 @@ pub mod Lawful
 pub mod Meanings
 pub mod Runs
 pub mod Pieces
+pub mod Interrupted

@@ -21,7 +21,7 @@ use Rattle.pe_eval.specs.Pieces.{Given, counted, print_lines, IsPieces, IsCutPie
 use Rattle.pe_eval.proofs.Runs.{appends-nothing, appends-then, opened}
 
 -- counts one after another
-counted-then : (n m first second third : ℕ) → second ≡ counted n first → third ≡ counted m second → third ≡ counted (n + m) first
+pub counted-then : (n m first second third : ℕ) → second ≡ counted n first → third ≡ counted m second → third ≡ counted (n + m) first
 counted-then n zero first second third a b = b ∙ a ∙ ap (λ k. counted k first) (omega_zero n)
   where
     omega_zero : (k : ℕ) → k ≡ k + 0
@@ -32,7 +32,7 @@ counted-then n (suc m) first second third a b =
     next : (k l : ℕ) → suc (k + l) ≡ k + suc l
     next k l = omega arith
 
-lines_of_both : (xs ys : List (List ℤ)) → print_lines (xs ++ ys) ≡ print_lines xs ++ print_lines ys
+pub lines_of_both : (xs ys : List (List ℤ)) → print_lines (xs ++ ys) ≡ print_lines xs ++ print_lines ys
 lines_of_both xs ys = flat_map-append print_line xs ys
 
 -- a text without lines

@@ -18,3 +18,5 @@ pub mod Sights
 pub mod Answers
 -- what a sink is given while a body runs
 pub mod Pieces
+-- where a body is when the sink fails
+pub mod Interrupted

@@ -1,4 +1,4 @@
-ghost use Rattle.std.specs.Prelude.{◌≡◌, IsTrue};
+ghost use Rattle.std.specs.Prelude.{◌≡◌, ◌∷◌, List, IsTrue};
 ghost use Rattle.std.specs.List.{list_all};
 ghost use Rattle.pe_base.specs.Acts.Effects.{MayLeave};
 ghost use Rattle.pe_check.specs.Fits.{fits, stmt_fits, expr_fits};
@@ -6,6 +6,8 @@ ghost use Rattle.pe_eval.specs.Meaning.{meaning, act_of, printed};
 ghost use Rattle.pe_eval.specs.Sights.{sight, globals_of, frame, reach_of, situation, IsReady};
 ghost use Rattle.pe_eval.specs.Answers.{Answers};
 ghost use Rattle.pe_eval.specs.Pieces.{GivesPieces};
+ghost use Rattle.pe_eval.specs.Interrupted.{IfSinkFails, StoodAt, PrintFails};
+ghost use Rattle.pe_check.specs.declared.checked.Stmt.{Stmt as Statement};
 
 use crate::print::print_line;
 use crate::value::value;
@@ -27,6 +29,9 @@ pub fn eval<K: Sink>(body: &Checked, view: &mut View, sink: &mut K) -> Result<()
     ensures pieces { GivesPieces (meaning body.now (frame view.old).setting (sight view.old) (globals_of view.old)).text
         (record { text = K.text sink.old; writes = K.writes sink.old })
         (record { text = K.text sink.new; writes = K.writes sink.new }) result }
+    ensures interrupted { IfSinkFails result (StoodAt (frame view.old).setting body.now (sight view.old) (globals_of view.old)
+        (record { text = K.text sink.old; writes = K.writes sink.old })
+        (record { text = K.text sink.new; writes = K.writes sink.new }) (sight view.new) (globals_of view.new)) }
     ensures lawful { MayLeave (frame view.old).setting.max_level (sight view.old) (sight view.new) }
     ensures frame { frame view.new ≡ frame view.old }
     ensures ready { IsReady view.new }
@@ -45,6 +50,9 @@ fn run<K: Sink>(body: &[Stmt], view: &mut View, sink: &mut K) -> Result<(), Stop
     ensures pieces { GivesPieces (meaning body.now (frame view.old).setting (sight view.old) (globals_of view.old)).text
         (record { text = K.text sink.old; writes = K.writes sink.old })
         (record { text = K.text sink.new; writes = K.writes sink.new }) result }
+    ensures interrupted { IfSinkFails result (StoodAt (frame view.old).setting body.now (sight view.old) (globals_of view.old)
+        (record { text = K.text sink.old; writes = K.writes sink.old })
+        (record { text = K.text sink.new; writes = K.writes sink.new }) (sight view.new) (globals_of view.new)) }
     ensures lawful { MayLeave (frame view.old).setting.max_level (sight view.old) (sight view.new) }
     ensures frame { frame view.new ≡ frame view.old }
     ensures ready { IsReady view.new }
@@ -69,6 +77,9 @@ fn step<K: Sink>(stmt: &Stmt, view: &mut View, sink: &mut K) -> Result<(), Stop>
     ensures pieces { GivesPieces (act_of stmt.now (frame view.old).setting (sight view.old) (globals_of view.old)).text
         (record { text = K.text sink.old; writes = K.writes sink.old })
         (record { text = K.text sink.new; writes = K.writes sink.new }) result }
+    ensures interrupted { (rest : List Statement) → IfSinkFails result (StoodAt (frame view.old).setting (stmt.now ∷ rest) (sight view.old) (globals_of view.old)
+        (record { text = K.text sink.old; writes = K.writes sink.old })
+        (record { text = K.text sink.new; writes = K.writes sink.new }) (sight view.new) (globals_of view.new)) }
     ensures lawful { MayLeave (frame view.old).setting.max_level (sight view.old) (sight view.new) }
     ensures frame { frame view.new ≡ frame view.old }
     ensures ready { IsReady view.new }
@@ -109,6 +120,9 @@ fn print<K: Sink>(values: &Values, view: &View, sink: &mut K) -> Result<(), Stop
     ensures pieces { GivesPieces (printed values.now (situation view.now)).text
         (record { text = K.text sink.old; writes = K.writes sink.old })
         (record { text = K.text sink.new; writes = K.writes sink.new }) result }
+    ensures interrupted { IfSinkFails result (PrintFails values.now (situation view.now)
+        (record { text = K.text sink.old; writes = K.writes sink.old })
+        (record { text = K.text sink.new; writes = K.writes sink.new })) }
 {
     let line = match print_line(values.as_slice(), view) {
         Ok(line) => line,
