@@ -25,10 +25,10 @@ use pe_mapping::Mapping;
 use pe_stacks::{CellRec, Corners, Depot, Vertex, close_slot, filled_mut};
 use pe_states::last_touch;
 
-/// Puts a record on a stack. Where there is no memory it is given up.
-#[inline]
-#[inline(always)]
-pub fn put_down<X, D: Depot<X>>(d: &mut D, s: u8, r: X) -> Result<(), Halt>
+// Puts a record on a stack that may have no room for it. Where there is no memory it is given up.
+#[cold]
+#[inline(never)]
+fn put_down_grown<X, D: Depot<X>>(d: &mut D, s: u8, r: X) -> Result<(), Halt>
     requires may { MayPush (D.holds d.old) s }
     ensures pushed { OnOk result (D.holds d.new ≡ pushed (D.holds d.old) s r) }
     ensures memory { IfErr result (λ halt. halt ≡ ForMemory) }
@@ -41,6 +41,23 @@ pub fn put_down<X, D: Depot<X>>(d: &mut D, s: u8, r: X) -> Result<(), Halt>
             d.give_up(back);
             Err(Halt::Memory)
         }
+    }
+}
+
+/// Puts a record on a stack. Where there is no memory it is given up.
+#[inline(always)]
+pub fn put_down<X, D: Depot<X>>(d: &mut D, s: u8, r: X) -> Result<(), Halt>
+    requires may { MayPush (D.holds d.old) s }
+    ensures pushed { OnOk result (D.holds d.new ≡ pushed (D.holds d.old) s r) }
+    ensures memory { IfErr result (λ halt. halt ≡ ForMemory) }
+    ensures overfull { OnErr result (D.room d.old s ≡ 0) }
+    ensures left { Left 1 0 (D.holds d.old) (D.room d.old) (D.holds d.new) (D.room d.new) (is_err result) }
+{
+    if d.spare(s) > 0 {
+        d.push_spare(s, r);
+        Ok(())
+    } else {
+        put_down_grown(d, s, r)
     }
 }
 

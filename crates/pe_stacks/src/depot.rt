@@ -79,6 +79,15 @@ pub trait Depot<R> {
         ensures room { KeepsRoom (holds self.old) (room self.old) (holds self.new) (room self.new) }
         ensures memory { 0 < room self.old s → IsOk result };
 
+    /// Puts a record that is out on top of a stack that has room for it. Takes no memory.
+    fn push_spare(&mut self, s: u8, r: R)
+        requires stack { s < stack_count (holds self.old) }
+        requires out { 0 < (holds self.old).out }
+        requires count { (stack_at (holds self.old) s).pushes < 2 ^ 63 }
+        requires spare { 0 < room self.old s }
+        ensures holds { holds self.new ≡ pushed (holds self.old) s r }
+        ensures room { KeepsRoom (holds self.old) (room self.old) (holds self.new) (room self.new) };
+
     /// Takes the record on top of a stack, which is then out. Takes no memory.
     fn pop(&mut self, s: u8) -> R
         requires stack { s < stack_count (holds self.old) }

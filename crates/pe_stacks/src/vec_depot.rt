@@ -76,6 +76,7 @@ impl<R: Drop> Depot<R> for VecDepot<R> {
         self.stacks[s as usize].items.len() as u64
     }
 
+    #[inline(always)]
     fn spare(&self, s: u8) -> u64 {
         self.stacks[s as usize].spare()
     }
@@ -118,7 +119,6 @@ impl<R: Drop> Depot<R> for VecDepot<R> {
         self.out -= 1;
     }
 
-    #[inline(always)]
     fn push(&mut self, s: u8, r: R) -> Result<(), R> {
         match self.stacks[s as usize].push(r) {
             Ok(()) => {
@@ -127,6 +127,12 @@ impl<R: Drop> Depot<R> for VecDepot<R> {
             }
             Err(back) => Err(back),
         }
+    }
+
+    #[inline(always)]
+    fn push_spare(&mut self, s: u8, r: R) {
+        self.out -= 1;
+        self.stacks[s as usize].push_spare(r);
     }
 
     // It is counted first, so that the record moves once, from its stack to where it is wanted.

@@ -24,13 +24,13 @@ impl<R> VecStack<R> {
         }
     }
 
+    #[inline(always)]
     pub(crate) fn spare(&self) -> u64
         ensures { result ≡ spare_of self.now }
     {
         (self.items.capacity() - self.items.len()) as u64
     }
 
-    #[inline(always)]
     pub(crate) fn push(&mut self, r: R) -> Result<(), R>
         requires { self.old.pushes < 2 ^ 63 }
         ensures handed { IfErr result (λ back. back ≡ r) }
@@ -48,6 +48,17 @@ impl<R> VecStack<R> {
     }
 
     #[inline(always)]
+    pub(crate) fn push_spare(&mut self, r: R)
+        requires count { self.old.pushes < 2 ^ 63 }
+        requires spare { 0 < spare_of self.old }
+        ensures holds { stack_of self.new ≡ pushed_on (stack_of self.old) r }
+        ensures room { capacity_of self.old ≤ capacity_of self.new }
+    {
+        self.pushes += 1;
+        self.items.push_reserved(r);
+    }
+
+    #[inline(always)]
     pub(crate) fn pop(&mut self) -> R
         requires full { 0 < vec_len self.old.items }
         requires count { self.old.pops < 2 ^ 63 }
@@ -56,7 +67,7 @@ impl<R> VecStack<R> {
         ensures room { capacity_of self.old ≤ capacity_of self.new }
     {
         self.pops += 1;
-        self.items.pop().unwrap()
+        self.items.take_last()
     }
 
     pub(crate) fn reserve(&mut self, n: u64) -> Result<(), AllocError>

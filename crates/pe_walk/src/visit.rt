@@ -212,6 +212,7 @@ pub(crate) fn enter_cell<M: Mapping, DC: Depot<CellRec<M::C>>>(
 }
 
 // Puts a cell's record on a stack. Where there is no memory it is given up.
+#[inline(always)]
 fn put_down<C, D: Depot<CellRec<C>>>(d: &mut D, s: u8, cell: CellRec<C>) -> Result<(), Halt>
     requires may { MayPush (D.holds d.old) s }
     ensures pushed { OnOk result (D.holds d.new ≡ pushed (D.holds d.old) s cell) }
@@ -220,13 +221,7 @@ fn put_down<C, D: Depot<CellRec<C>>>(d: &mut D, s: u8, cell: CellRec<C>) -> Resu
     ensures left { Left 1 0 (D.holds d.old) (D.room d.old) (D.holds d.new) (D.room d.new) (is_err result) }
     ensures fresh { (D.holds d.new).fresh ≡ (D.holds d.old).fresh }
 {
-    match d.push(s, cell) {
-        Ok(()) => Ok(()),
-        Err(back) => {
-            d.give_up(back);
-            Err(Halt::Memory)
-        }
-    }
+    pe_adapt::put_down(d, s, cell)
 }
 
 // Fires the events of a cell that is left.

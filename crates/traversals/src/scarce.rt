@@ -90,6 +90,10 @@ impl<R, D: Depot<R>> Depot<R> for Scarce<D> {
         self.depot.push(s, r)
     }
 
+    fn push_spare(&mut self, s: u8, r: R) {
+        self.depot.push_spare(s, r)
+    }
+
     fn pop(&mut self, s: u8) -> R {
         self.depot.pop(s)
     }
