@@ -65,8 +65,12 @@ fn a_depot_of_ten_stacks(rt: HostRuntime) -> Result<(), Fail> {
     for n in 0..100 {
         assert!(rt; depot.stacks() == 10 && depot.fresh() < 101 && depot.pushes(8) < 101);
         let r = depot.lend(n);
-        assert!(rt; depot.push(8, r).is_ok());
+        assert!(rt; depot.spare(8) > 0);
+        depot.push_spare(8, r);
     }
+    assert_eq!(rt; depot.stacks(), 10);
+    assert_eq!(rt; depot.len(8), 101);
+    assert_eq!(rt; depot.out(), 0);
     depot.clear();
     assert_eq!(rt; depot.stacks(), 10);
     assert_eq!(rt; depot.len(8), 0);
