@@ -34,6 +34,7 @@ fn put_down_grown<X, D: Depot<X>>(d: &mut D, s: u8, r: X) -> Result<(), Halt>
     ensures memory { IfErr result (λ halt. halt ≡ ForMemory) }
     ensures overfull { OnErr result (D.room d.old s ≡ 0) }
     ensures left { Left 1 0 (D.holds d.old) (D.room d.old) (D.holds d.new) (D.room d.new) (is_err result) }
+    ensures fresh { (D.holds d.new).fresh ≡ (D.holds d.old).fresh }
 {
     match d.push(s, r) {
         Ok(()) => Ok(()),
@@ -52,6 +53,7 @@ pub fn put_down<X, D: Depot<X>>(d: &mut D, s: u8, r: X) -> Result<(), Halt>
     ensures memory { IfErr result (λ halt. halt ≡ ForMemory) }
     ensures overfull { OnErr result (D.room d.old s ≡ 0) }
     ensures left { Left 1 0 (D.holds d.old) (D.room d.old) (D.holds d.new) (D.room d.new) (is_err result) }
+    ensures fresh { (D.holds d.new).fresh ≡ (D.holds d.old).fresh }
 {
     if d.spare(s) > 0 {
         d.push_spare(s, r);
