@@ -1,5 +1,5 @@
 // The visit of a cell: its record comes to hand, the cell is entered and left, and the record goes.
-ghost use Rattle.std.specs.Prelude.{◌≡◌, ℕ, ◌+◌, ◌≤◌, ◌<◌, ◌^◌, [], Err, is_err, OnOk, OnErr, IfErr};
+ghost use Rattle.std.specs.Prelude.{◌≡◌, ℕ, ◌+◌, ◌≤◌, ◌<◌, ◌^◌, [], Err, is_err, OnOk};
 ghost use Rattle.pe_base.specs.declared.kind.Kind.TheVariants.{Born, Dying};
 ghost use Rattle.pe_base.specs.declared.event.Event.TheVariants.{EnterCell};
 ghost use Rattle.pe_base.specs.declared.event.Sort.TheVariants.{Cell as OfCell};
@@ -7,20 +7,18 @@ ghost use Rattle.pe_base.specs.Acts.Events.{sort_of};
 ghost use Rattle.pe_base.specs.Walk.Core.{cell_event, enter_touch, leave_touch};
 ghost use Rattle.pe_stacks.specs.declared.record.Vertex.{Vertex as AVertex};
 ghost use Rattle.pe_stacks.specs.Corners.{IsFull};
-ghost use Rattle.pe_stacks.specs.Holdings.{Holdings, lent, given_up, pushed};
+ghost use Rattle.pe_stacks.specs.Holdings.{Holdings, lent};
 ghost use Rattle.pe_mapping.specs.Held.{Keeps};
 ghost use Rattle.pe_mapping.specs.Sights.{seen_corners};
 ghost use Rattle.pe_mapping.specs.Moments.{IsBelowRoot};
 ghost use Rattle.pe_hang.specs.InHand.{family_in_hand, own_in_hand, cells_on_stacks, KeepsMarks};
-ghost use Rattle.pe_hang.specs.Moves.{MayPush};
 ghost use Rattle.pe_hang.specs.Follows.{Follows, Fits, Left, read_by, found_of, held_by};
-ghost use Rattle.pe_adapt.specs.declared.stop.Halt.TheVariants.{Memory as ForMemory};
 ghost use Rattle.pe_walk.specs.Machine.{kind_among, enter_cell, leave_cell};
 ghost use Rattle.pe_walk.specs.InHand.{setting_in, ports_of, machine_in_hand, failure_in};
 
 use crate::progress::Progress;
 use crate::settings::Settings;
-use pe_adapt::Halt;
+use pe_adapt::{Halt, put_down};
 use pe_base::{Event, Kind, Place};
 use pe_mapping::Mapping;
 use pe_stacks::{CellRec, Corners, Depot};
@@ -209,19 +207,6 @@ pub(crate) fn enter_cell<M: Mapping, DC: Depot<CellRec<M::C>>>(
             )
         }
     }
-}
-
-// Puts a cell's record on a stack. Where there is no memory it is given up.
-#[inline(always)]
-fn put_down<C, D: Depot<CellRec<C>>>(d: &mut D, s: u8, cell: CellRec<C>) -> Result<(), Halt>
-    requires may { MayPush (D.holds d.old) s }
-    ensures pushed { OnOk result (D.holds d.new ≡ pushed (D.holds d.old) s cell) }
-    ensures memory { IfErr result (λ halt. halt ≡ ForMemory) }
-    ensures overfull { OnErr result (D.room d.old s ≡ 0) }
-    ensures left { Left 1 0 (D.holds d.old) (D.room d.old) (D.holds d.new) (D.room d.new) (is_err result) }
-    ensures fresh { (D.holds d.new).fresh ≡ (D.holds d.old).fresh }
-{
-    pe_adapt::put_down(d, s, cell)
 }
 
 // Fires the events of a cell that is left.
