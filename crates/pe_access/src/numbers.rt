@@ -42,6 +42,7 @@ impl Axis {
     }
 
     /// The child with digit `k` on this axis. An odd number of turns walks the axis backwards.
+    #[inline(always)]
     pub(crate) fn child(self, axis: u8, level: u8, turns: u8, k: u8) -> Axis
         requires axis { axis < 4 }
         requires level { 0 < level }
@@ -68,6 +69,7 @@ impl Axis {
 }
 
 // The parent's face, or a new face of this number towards an earlier or a later cell.
+#[inline(always)]
 fn inner_or(outer: bool, parent: Numbers, number: u32, earlier: bool) -> Numbers
     ensures { result ≡ (if outer then parent else (if earlier
         then (record { coming = number; going = 0 }) else (record { coming = 0; going = number }))) }

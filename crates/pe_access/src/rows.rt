@@ -55,8 +55,8 @@ fn a_row_of_children(rt: HostRuntime) -> Result<(), Fail> {
     let root = CellState::root(dim, Way::Forward);
     let mut child = root.descend(Digits { k: [1, 0, 0, 0] });
     let mut row = child.row();
-    let turns = root.row_turns(Digits { k: [1, 0, 0, 0] });
-    root.step(&mut child, &mut row, turns, Digits { k: [1, 1, 0, 0] });
+    let turns = root.row_turns(2, Digits { k: [1, 0, 0, 0] });
+    root.step(2, &mut child, &mut row, turns, Digits { k: [1, 1, 0, 0] });
     // The middle cell takes corner 3 from the stack of axis 1 and hands it to that of axis 0.
     assert_eq!(rt; child.coming_in(&row, 3), 8 + 2);
     assert_eq!(rt; child.going_in(&row, 3), 8);

@@ -47,16 +47,30 @@ impl CellState {
         ensures axes { axes_of result ≡ axes_of self.now }
         ensures level { level_of result ≡ level_of self.now + 1 }
     {
+        self.child(self.axes, k)
+    }
+
+    /// What `descend` gives, for a caller who has the number of axes at hand.
+    #[inline(always)]
+    pub fn child(&self, axes: u8, digits: Digits) -> CellState
+        requires same { axes ≡ axes_of self.now }
+        requires level { level_of self.now < 20 }
+        requires digits { IsDigits (axes_of self.now) digits }
+        ensures stands { (axes : ℕ) (way : AWay) (cell : APlace) → IsCellPlace axes cell → StandsFor axes way cell self.now
+            → StandsFor axes way (child_at cell digits) result }
+        ensures axes { axes_of result ≡ axes_of self.now }
+        ensures level { level_of result ≡ level_of self.now + 1 }
+    {
         let [x, y, z, w] = self.along;
-        let [i, j, k, l] = k.k;
+        let [i, j, k, l] = digits.k;
         let level = self.level + 1;
         let turns = self.turns();
-        let third = if 2 < self.axes {
+        let third = if 2 < axes {
             z.child(2, level, turns + i + j + bit(z.odd), k)
         } else {
             z
         };
-        let fourth = if 3 < self.axes {
+        let fourth = if 3 < axes {
             w.child(3, level, turns + i + j + k + bit(w.odd), l)
         } else {
             w
@@ -78,7 +92,9 @@ impl CellState {
     /// Makes the state of a child that of the child at these digits, which differ from its own on the last axis alone.
     ///
     /// That is what `descend` gives, with less to do along a row of children.
-    pub fn step(&self, child: &mut CellState, row: &mut Row, turns: u8, digits: Digits)
+    #[inline(always)]
+    pub fn step(&self, axes: u8, child: &mut CellState, row: &mut Row, turns: u8, digits: Digits)
+        requires same { axes ≡ axes_of self.now }
         requires level { level_of self.now < 20 }
         requires digits { IsDigits (axes_of self.now) digits }
         requires axes { IsDim (axes_of self.now) }
@@ -91,24 +107,26 @@ impl CellState {
         ensures level { level_of child.new ≡ level_of child.old }
         ensures row { axes_of child.old ≡ axes_of self.now → IsRow child.old row.old → IsRow child.new row.new }
     {
-        let axis = self.axes - 1;
+        let axis = axes - 1;
         let last = axis as usize;
         let parent = self.along[last];
         let turns = turns + bit(parent.odd);
         let end = parent.child(axis, self.level + 1, turns, digits.k[last]);
         child.along[last] = end;
-        set_ends(self.axes, &end, &mut row.ends);
+        set_ends(axes, &end, &mut row.ends);
     }
 
     /// The turns of the last axis, but for its own position: the same for the three children of a row.
-    pub fn row_turns(&self, digits: Digits) -> u8
+    #[inline(always)]
+    pub fn row_turns(&self, axes: u8, digits: Digits) -> u8
+        requires same { axes ≡ axes_of self.now }
         requires digits { IsDigits (axes_of self.now) digits }
         requires axes { IsDim (axes_of self.now) }
         ensures value { result ≡ row_turns self.now digits }
         ensures few { result < 12 }
     {
         let [i, j, k, _] = digits.k;
-        let before = match self.axes {
+        let before = match axes {
             2 => i,
             3 => i + j,
             _ => i + j + k,
@@ -178,35 +196,33 @@ impl CellState {
         ensures { IsRow self.now result }
     {
         let mut row = Row::empty();
-        self.set_row(&mut row);
+        self.set_row(self.axes, &mut row);
         row
     }
 
     /// Makes these numbers those of the cell's corners.
-    pub fn set_row(&self, row: &mut Row)
-        requires { IsDim (axes_of self.now) }
+    #[inline(always)]
+    pub fn set_row(&self, axes: u8, row: &mut Row)
+        requires same { axes ≡ axes_of self.now }
+        requires axes { IsDim (axes_of self.now) }
         ensures { IsRow self.now row.new }
     {
         let [x, y, z, _] = self.along;
         set_greatest(
-            self.axes,
+            axes,
             (x.near.coming, x.far.coming),
             (y.near.coming, y.far.coming),
             (z.near.coming, z.far.coming),
             &mut row.coming,
         );
         set_greatest(
-            self.axes,
+            axes,
             (x.near.going, x.far.going),
             (y.near.going, y.far.going),
             (z.near.going, z.far.going),
             &mut row.going,
         );
-        set_ends(
-            self.axes,
-            &self.along[(self.axes - 1) as usize],
-            &mut row.ends,
-        );
+        set_ends(axes, &self.along[(axes - 1) as usize], &mut row.ends);
     }
 
     /// The number by which the cell takes its corner, as `coming` tells it, from the numbers of its corners.
@@ -269,6 +285,7 @@ fn route_of(number: u32) -> Route
 }
 
 // Sets the greatest number at each corner along all axes but the last, by the numbers of both sides on axes 0 to 2.
+#[inline(always)]
 fn set_greatest(axes: u8, x: (u32, u32), y: (u32, u32), z: (u32, u32), numbers: &mut [u32; 8])
     requires { IsDim axes }
     ensures two { axes ≡ 2 → (corner : ℕ) → corner < 4 → slice_index numbers.new corner ≡ side_of x (corner % 2) }
@@ -302,6 +319,7 @@ fn set_greatest(axes: u8, x: (u32, u32), y: (u32, u32), z: (u32, u32), numbers: 
 }
 
 // Sets the face of each two corners along the last axis.
+#[inline(always)]
 fn set_ends(axes: u8, last: &Axis, ends: &mut [Numbers; 8])
     requires { IsDim axes }
     ensures { (pair : ℕ) → pair < 2 ^ (axes - 1) → slice_get ends.new pair ≡ Some (end_at last.now (pair / 2 ^ (axes - 2))) }

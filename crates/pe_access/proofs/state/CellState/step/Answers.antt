@@ -18,7 +18,8 @@ use Rattle.pe_access.proofs.state.CellState.step.Goals as goal
 pub returns-clause-stands : goal.returns-clause-stands
 returns-clause-stands c axes way cell from place d' h h' same =
     let self = c.args.self.now in
-    let n = self.axes in
+    let n = c.args.axes in
+    let same_axes = c.requires.same ∙ h.same_axes in
     let digits = c.args.digits in
     let extents = h.extents in
     let are = numbers_are self.along extents (omega (arith, c.type_inv.self)) h.numbers in
@@ -29,16 +30,16 @@ returns-clause-stands c axes way cell from place d' h h' same =
     let turns : t ≡ way_turns way + sum_by (λ extent. bit_of extent.odd) extents =
     ap (λ (w : Way). way_turns w + odd_count self.along) h.same_way ∙ ap (λ (m : ℕ). way_turns way + m) are.odd_sum in
     let parent = get_or extents (n - 1) root_extent in
-    let b_is : c.bit.result ≡ bit_of parent.odd = c.bit.ensures.value ∙ ap (λ (a : Axis). bit_of a.odd) (are.each (n - 1) _ root_extent (omega (arith, c.requires.axes))) in
+    let b_is : c.bit.result ≡ bit_of parent.odd = c.bit.ensures.value ∙ ap (λ (a : Axis). bit_of a.odd) (are.each (n - 1) _ root_extent (omega (arith, c.requires.axes, c.requires.same))) in
     let new : c.child-end.result ≡ axis_of (n - 1) (child_extent (self.level + 1) (t + before + c.bit.result) (slice_index digits.k (n - 1)) parent) =
-    c.child-end.ensures parent (are.each (n - 1) _ root_extent (omega (arith, c.requires.axes))) ∙ ap (λ (m : ℕ). axis_of (n - 1) (child_extent (self.level + 1) (m + c.bit.result) (slice_index digits.k (n - 1)) parent)) c.requires.turns in
+    c.child-end.ensures parent (are.each (n - 1) _ root_extent (omega (arith, c.requires.axes, c.requires.same))) ∙ ap (λ (m : ℕ). axis_of (n - 1) (child_extent (self.level + 1) (m + c.bit.result) (slice_index digits.k (n - 1)) parent)) (c.requires.turns ∙ ap (λ (m : ℕ). t + sum (take (m - 1) digits.k)) (sym c.requires.same)) in
     let last = last_extent n (self.level + 1) digits.k extents t before in
     let made : c.child-end.result ≡ axis_of (n - 1) last = new ∙ ap (λ (b : ℕ). axis_of (n - 1) (child_extent (self.level + 1) (t + before + b) (slice_index digits.k (n - 1)) parent)) b_is in
     let Sums : ℕ → Type 0 = λ m. BeforeLast m digits.k before in
     let is : last ≡ extent_of axes way (child_at cell digits) (axes - 1) =
-    ap (λ (m : ℕ). last_extent m (self.level + 1) digits.k extents t before) h.same_axes
+    ap (λ (m : ℕ). last_extent m (self.level + 1) digits.k extents t before) same_axes
     ∙ ap (λ (l : ℕ). last_extent axes (l + 1) digits.k extents t before) h.same_level
-    ∙ last_extent_is axes way cell digits extents t before h.grid.0 h.grid.1 place (omega (arith, c.requires.level, h.same_level)) fit are.four h.held turns (subst Sums h.same_axes (before_front n digits.k c.requires.digits.four)) in
+    ∙ last_extent_is axes way cell digits extents t before h.grid.0 h.grid.1 place (omega (arith, c.requires.level, h.same_level)) fit are.four h.held turns (subst Sums same_axes (before_front n digits.k c.requires.digits.four)) in
     record {
       grid = h.grid;
       same_axes = h'.same_axes;
@@ -46,9 +47,9 @@ returns-clause-stands c axes way cell from place d' h h' same =
       same_level = h'.same_level;
       extents = set h'.extents (axes - 1) last;
       held = HoldsCell-step axes way cell from digits h'.extents last h.grid.1 h.grid.0 place (omega (arith, c.requires.level, h.same_level)) d' fit same h'.held is;
-      numbers = ap (λ (m : ℕ). set c.args.child.now.along (m - 1) c.child-end.result) h.same_axes
+      numbers = ap (λ (m : ℕ). set c.args.child.now.along (m - 1) c.child-end.result) same_axes
           ∙ ap (λ xs. set xs (axes - 1) c.child-end.result) h'.numbers
-          ∙ ap (set (axes_from 0 h'.extents) (axes - 1)) (made ∙ ap (λ (m : ℕ). axis_of m last) (omega (arith, h.same_axes)))
+          ∙ ap (set (axes_from 0 h'.extents) (axes - 1)) (made ∙ ap (λ (m : ℕ). axis_of m last) (omega (arith, same_axes)))
           ∙ set-axes_from 0 h'.extents (axes - 1) last;
     }
 
@@ -56,7 +57,7 @@ pub returns-clause-row : goal.returns-clause-row
 returns-clause-row c same is =
     let state = c.args.child.now in
     let last = c.child-end.result in
-    let one : c.args.self.now.axes ≡ state.axes = sym same in
+    let one : c.args.axes ≡ state.axes = c.requires.same ∙ sym same in
     let Ends : ℕ → Type 0 = λ m. (pair : ℕ) → pair < 2 ^ (m - 1) → slice_get c.set_ends.new.ends pair ≡ Some (end_at last (pair / 2 ^ (m - 2))) in
     let With : ℕ → Type 0 = λ m. IsRow (record { axes = state.axes; way = state.way; level = state.level; along = set state.along (m - 1) last }) (record { coming = c.args.row.now.coming; going = c.args.row.now.going; ends = c.set_ends.new.ends }) in
-    subst With same (IsRow-step state c.args.row.now last c.set_ends.new.ends is (omega (arith, c.type_inv, c.requires.axes, same)) (subst Ends one c.set_ends.ensures))
+    subst With (sym one) (IsRow-step state c.args.row.now last c.set_ends.new.ends is (omega (arith, c.type_inv, c.requires.axes, same)) (subst Ends one c.set_ends.ensures))
