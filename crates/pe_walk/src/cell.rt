@@ -18,19 +18,23 @@ use crate::corners::{load_corners, store_corners};
 use crate::count::count_cell;
 use crate::hand::give_up_from;
 use crate::progress::Progress;
-use crate::settings::Settings;
+use crate::settings::{Settings, cursor_in};
 use crate::visit::{enter_cell, leave_cell};
 use crate::walked::WalkedCell;
 use pe_adapt::{Halt, marks_of};
 use pe_base::{Digits, Kind};
-use pe_curve::Cursor;
 use pe_mapping::Mapping;
 use pe_stacks::{CellRec, Corners, Depot, Vertex};
 use pe_states::kind_of;
 
 /// Walks a cell: it is counted, its corners are loaded, it is visited, and its corners are stored.
 #[cycle(cells)]
-pub(crate) fn walk_cell<M: Mapping, DV: Depot<Vertex<M::V>>, DC: Depot<CellRec<M::C>>>(
+pub(crate) fn walk_cell<
+    const AXES: u8,
+    M: Mapping,
+    DV: Depot<Vertex<M::V>>,
+    DC: Depot<CellRec<M::C>>,
+>(
     settings: &Settings,
     cell: &WalkedCell,
     kind: Kind,
@@ -43,6 +47,7 @@ pub(crate) fn walk_cell<M: Mapping, DV: Depot<Vertex<M::V>>, DC: Depot<CellRec<M
     parents: &mut Corners<M::V>,
     parent: &mut CellRec<M::C>,
 ) -> Result<(), Halt>
+    requires axes { settings.now.setup.dim ≡ AXES }
     requires dim { (M.held m.old).dim ≡ settings.now.setup.dim }
     requires walked { IsWalked (M.held m.old).dim settings.now cell.now }
     requires levels { cell.now.place.level + levels ≤ 20 }
@@ -73,14 +78,16 @@ pub(crate) fn walk_cell<M: Mapping, DV: Depot<Vertex<M::V>>, DC: Depot<CellRec<M
         Ok(()) => {}
         Err(halt) => return Err(halt),
     }
-    match load_corners(settings, cell, progress, m, dv, corners, parents, parent) {
+    match load_corners::<AXES, M, DV>(settings, cell, progress, m, dv, corners, parents, parent) {
         Ok(()) => {}
         Err(halt) => return Err(halt),
     }
-    match visit_cell(
+    match visit_cell::<AXES, M, DV, DC>(
         settings, cell, kind, levels, progress, m, dv, dc, corners, parents, parent,
     ) {
-        Ok(()) => store_corners(settings, cell, progress, m, dv, corners, parents, parent),
+        Ok(()) => store_corners::<AXES, M, DV>(
+            settings, cell, progress, m, dv, corners, parents, parent,
+        ),
         Err(halt) => {
             give_up_from(dim, 0, corners, dv);
             Err(halt)
@@ -90,7 +97,7 @@ pub(crate) fn walk_cell<M: Mapping, DV: Depot<Vertex<M::V>>, DC: Depot<CellRec<M
 
 // Visits a cell whose corners are in hand: it is entered, its children are walked, and it is left.
 #[cycle(cells)]
-fn visit_cell<M: Mapping, DV: Depot<Vertex<M::V>>, DC: Depot<CellRec<M::C>>>(
+fn visit_cell<const AXES: u8, M: Mapping, DV: Depot<Vertex<M::V>>, DC: Depot<CellRec<M::C>>>(
     settings: &Settings,
     cell: &WalkedCell,
     kind: Kind,
@@ -103,6 +110,7 @@ fn visit_cell<M: Mapping, DV: Depot<Vertex<M::V>>, DC: Depot<CellRec<M::C>>>(
     parents: &mut Corners<M::V>,
     parent: &mut CellRec<M::C>,
 ) -> Result<(), Halt>
+    requires axes { settings.now.setup.dim ≡ AXES }
     requires dim { (M.held m.old).dim ≡ settings.now.setup.dim }
     requires walked { IsWalked (M.held m.old).dim settings.now cell.now }
     requires levels { cell.now.place.level + levels ≤ 20 }
@@ -136,7 +144,7 @@ fn visit_cell<M: Mapping, DV: Depot<Vertex<M::V>>, DC: Depot<CellRec<M::C>>>(
     ) {
         Ok(entered) => {
             let mut own = entered;
-            match walk_below(
+            match walk_below::<AXES, M, DV, DC>(
                 settings, cell, levels, progress, m, dv, dc, corners, &mut own,
             ) {
                 Ok(()) => leave_cell(
@@ -154,7 +162,7 @@ fn visit_cell<M: Mapping, DV: Depot<Vertex<M::V>>, DC: Depot<CellRec<M::C>>>(
 
 // Walks the children of a cell, if there are any: by its corners in hand.
 #[cycle(cells)]
-fn walk_below<M: Mapping, DV: Depot<Vertex<M::V>>, DC: Depot<CellRec<M::C>>>(
+fn walk_below<const AXES: u8, M: Mapping, DV: Depot<Vertex<M::V>>, DC: Depot<CellRec<M::C>>>(
     settings: &Settings,
     cell: &WalkedCell,
     levels: u8,
@@ -165,6 +173,7 @@ fn walk_below<M: Mapping, DV: Depot<Vertex<M::V>>, DC: Depot<CellRec<M::C>>>(
     corners: &mut Corners<M::V>,
     own: &mut CellRec<M::C>,
 ) -> Result<(), Halt>
+    requires axes { settings.now.setup.dim ≡ AXES }
     requires dim { (M.held m.old).dim ≡ settings.now.setup.dim }
     requires walked { IsWalked (M.held m.old).dim settings.now cell.now }
     requires levels { cell.now.place.level + levels ≤ 20 }
@@ -210,7 +219,7 @@ fn walk_below<M: Mapping, DV: Depot<Vertex<M::V>>, DC: Depot<CellRec<M::C>>>(
                 state: cell.state,
                 marks,
             };
-            walk_children(
+            walk_children::<AXES, M, DV, DC>(
                 settings, &above, kind, levels, progress, m, dv, dc, corners, own,
             )
         }
@@ -219,7 +228,12 @@ fn walk_below<M: Mapping, DV: Depot<Vertex<M::V>>, DC: Depot<CellRec<M::C>>>(
 
 /// Walks the children of a cell, one after another along rows.
 #[cycle(cells)]
-pub(crate) fn walk_children<M: Mapping, DV: Depot<Vertex<M::V>>, DC: Depot<CellRec<M::C>>>(
+pub(crate) fn walk_children<
+    const AXES: u8,
+    M: Mapping,
+    DV: Depot<Vertex<M::V>>,
+    DC: Depot<CellRec<M::C>>,
+>(
     settings: &Settings,
     above: &Above,
     kind: Kind,
@@ -231,6 +245,7 @@ pub(crate) fn walk_children<M: Mapping, DV: Depot<Vertex<M::V>>, DC: Depot<CellR
     parents: &mut Corners<M::V>,
     parent: &mut CellRec<M::C>,
 ) -> Result<(), Halt>
+    requires axes { settings.now.setup.dim ≡ AXES }
     requires dim { (M.held m.old).dim ≡ settings.now.setup.dim }
     requires above { IsAbove (M.held m.old).dim settings.now above.now }
     requires levels { above.now.place.level + levels ≤ 20 }
@@ -255,13 +270,12 @@ pub(crate) fn walk_children<M: Mapping, DV: Depot<Vertex<M::V>>, DC: Depot<CellR
     ensures full { IsFull (M.held m.old).dim parents.new }
     ensures marks { KeepsMarks M.numbers.vertex parents.old parents.new }
 {
-    let dim = settings.setup.dim;
-    let mut corners = Corners::empty(dim);
-    let mut child = child_of(settings, above, Digits { k: [0; 4] });
-    for digits in Cursor::new(dim, settings.way, above.state.flips()) {
-        move_to(settings, above, &mut child, digits);
+    let mut corners = Corners::empty(settings.setup.dim);
+    let mut child = child_of::<AXES>(settings, above, Digits { k: [0; 4] });
+    for digits in cursor_in::<AXES>(settings, above.state.flips()) {
+        move_to::<AXES>(settings, above, &mut child, digits);
         let cell = &child.cell;
-        match walk_cell(
+        match walk_cell::<AXES, M, DV, DC>(
             settings,
             cell,
             kind,

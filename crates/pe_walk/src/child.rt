@@ -1,5 +1,6 @@
 // The children of a cell, one after another along rows: along a row only the digit on the last axis changes.
 ghost use Rattle.std.specs.Prelude.{◌≡◌, ℕ, ◌-◌, ◌<◌, List, slice_index, IsTrue};
+ghost use Rattle.pe_base.specs.Tree.Dim.{IsDim};
 ghost use Rattle.pe_base.specs.Tree.Places.{IsCellPlace, IsDigits, child_at};
 ghost use Rattle.pe_base.specs.declared.place.Digits.{Digits as SomeDigits};
 ghost use Rattle.pe_base.specs.Acts.Effects.{VertexRecord};
@@ -7,10 +8,10 @@ ghost use Rattle.pe_states.specs.Sides.{IsRow as IsRowOfMarks};
 ghost use Rattle.pe_adapt.specs.Marked.{AreMarksOf, GiveKinds};
 ghost use Rattle.pe_walk.specs.Children.{IsAbove, IsChild, AreInOneRow};
 
-use crate::settings::Settings;
+use crate::settings::{Settings, dim_in};
 use crate::walked::WalkedCell;
 use pe_access::{CellState, Row};
-use pe_base::{Digits, Dim, Place};
+use pe_base::{Digits, Place};
 use pe_curve::child_at;
 use pe_states::Marks;
 
@@ -40,42 +41,51 @@ pub(crate) struct Child {
 
 // The marks of a child's corners.
 #[inline(always)]
-fn child_marks(settings: &Settings, above: &Above, row_marks: Marks, digits: Digits) -> Marks
+fn child_marks<const AXES: u8>(
+    settings: &Settings,
+    above: &Above,
+    row_marks: Marks,
+    digits: Digits,
+) -> Marks
+    requires axes { settings.now.setup.dim ≡ AXES }
     requires above { IsAbove settings.now.setup.dim settings.now above.now }
     requires digits { IsDigits settings.now.setup.dim digits }
     requires row { IsRowOfMarks settings.now.setup.dim digits above.now.marks row_marks }
     ensures { (its : List VertexRecord) → AreMarksOf settings.now.setup.dim its above.now.marks
         → GiveKinds settings.now.setup.dim settings.now.traversal (child_at above.now.place digits) its result }
 {
+    let dim = dim_in::<AXES>(settings);
     if above.place.level == 0 {
-        Marks::level_one(settings.setup.dim, digits, settings.traversal)
+        Marks::level_one(dim, digits, settings.traversal)
     } else {
-        row_marks.of_row(settings.setup.dim, digits)
+        row_marks.of_row(dim, digits)
     }
 }
 
 // Makes a child the one at these digits, of whatever row.
-fn turn_to(settings: &Settings, above: &Above, child: &mut Child, digits: Digits)
+fn turn_to<const AXES: u8>(settings: &Settings, above: &Above, child: &mut Child, digits: Digits)
+    requires axes { settings.now.setup.dim ≡ AXES }
     requires above { IsAbove settings.now.setup.dim settings.now above.now }
     requires digits { IsDigits settings.now.setup.dim digits }
     ensures child { IsChild settings.now.setup.dim settings.now above.now child.new }
     ensures digits { child.new.digits ≡ digits }
 {
-    let dim = settings.setup.dim;
+    let dim = dim_in::<AXES>(settings);
     let place = child_at(&above.place, digits);
     child.cell.place = place;
-    child.cell.state = above.state.descend(digits);
-    child.cell.state.set_row(&mut child.cell.row);
-    child.turns = above.state.row_turns(digits);
+    child.cell.state = above.state.child(AXES, digits);
+    child.cell.state.set_row(AXES, &mut child.cell.row);
+    child.turns = above.state.row_turns(AXES, digits);
     let row_marks = above.marks.row(dim, digits);
     child.row_marks = row_marks;
-    let marks = child_marks(settings, above, row_marks, digits);
+    let marks = child_marks::<AXES>(settings, above, row_marks, digits);
     child.cell.marks = marks;
     child.digits = digits;
 }
 
 /// The child at these digits.
-pub(crate) fn child_of(settings: &Settings, above: &Above, digits: Digits) -> Child
+pub(crate) fn child_of<const AXES: u8>(settings: &Settings, above: &Above, digits: Digits) -> Child
+    requires axes { settings.now.setup.dim ≡ AXES }
     requires above { IsAbove settings.now.setup.dim settings.now above.now }
     requires digits { IsDigits settings.now.setup.dim digits }
     ensures child { IsChild settings.now.setup.dim settings.now above.now result }
@@ -92,23 +102,25 @@ pub(crate) fn child_of(settings: &Settings, above: &Above, digits: Digits) -> Ch
         row_marks: above.marks,
         turns: 0,
     };
-    turn_to(settings, above, &mut child, digits);
+    turn_to::<AXES>(settings, above, &mut child, digits);
     child
 }
 
 // Makes the place of a child that of the child at these digits, of the same row.
-fn step_place(dim: Dim, parent: &Place, place: &mut Place, digits: Digits)
-    requires parent { IsCellPlace dim parent.now }
-    requires digits { IsDigits dim digits }
-    ensures { (from : SomeDigits) → IsDigits dim from → AreInOneRow dim from digits
+fn step_place<const AXES: u8>(parent: &Place, place: &mut Place, digits: Digits)
+    requires axes { IsDim AXES }
+    requires parent { IsCellPlace AXES parent.now }
+    requires digits { IsDigits AXES digits }
+    ensures { (from : SomeDigits) → IsDigits AXES from → AreInOneRow AXES from digits
         → place.old ≡ child_at parent.now from → place.new ≡ child_at parent.now digits }
 {
-    let last = (dim.axes() - 1) as usize;
+    let last = (AXES - 1) as usize;
     place.pos[last] = 3 * parent.pos[last] + digits.k[last] as u64;
 }
 
 // Makes a child the one at these digits, of the same row.
-fn step_to(settings: &Settings, above: &Above, child: &mut Child, digits: Digits)
+fn step_to<const AXES: u8>(settings: &Settings, above: &Above, child: &mut Child, digits: Digits)
+    requires axes { settings.now.setup.dim ≡ AXES }
     requires above { IsAbove settings.now.setup.dim settings.now above.now }
     requires digits { IsDigits settings.now.setup.dim digits }
     requires child { IsChild settings.now.setup.dim settings.now above.now child.old }
@@ -117,26 +129,26 @@ fn step_to(settings: &Settings, above: &Above, child: &mut Child, digits: Digits
     ensures digits { child.new.digits ≡ digits }
 {
     let turns = child.turns;
-    above
-        .state
-        .step(&mut child.cell.state, &mut child.cell.row, turns, digits);
-    step_place(
-        settings.setup.dim,
-        &above.place,
-        &mut child.cell.place,
+    above.state.step(
+        AXES,
+        &mut child.cell.state,
+        &mut child.cell.row,
+        turns,
         digits,
     );
-    child.cell.marks = child_marks(settings, above, child.row_marks, digits);
+    step_place::<AXES>(&above.place, &mut child.cell.place, digits);
+    child.cell.marks = child_marks::<AXES>(settings, above, child.row_marks, digits);
     child.digits = digits;
 }
 
 // Whether digits differ on the last axis alone.
-fn are_in_one_row(dim: Dim, a: &Digits, b: &Digits) -> bool
-    ensures { IsTrue result → AreInOneRow dim a.now b.now }
+fn are_in_one_row<const AXES: u8>(a: &Digits, b: &Digits) -> bool
+    requires { IsDim AXES }
+    ensures { IsTrue result → AreInOneRow AXES a.now b.now }
 {
     let [i, j, k, _] = a.k;
     let [x, y, z, _] = b.k;
-    match dim.axes() {
+    match AXES {
         2 => i == x,
         3 => i == x && j == y,
         _ => i == x && j == y && k == z,
@@ -144,16 +156,22 @@ fn are_in_one_row(dim: Dim, a: &Digits, b: &Digits) -> bool
 }
 
 /// Makes a child the one at these digits: along its row, or the first of another row.
-pub(crate) fn move_to(settings: &Settings, above: &Above, child: &mut Child, digits: Digits)
+pub(crate) fn move_to<const AXES: u8>(
+    settings: &Settings,
+    above: &Above,
+    child: &mut Child,
+    digits: Digits,
+)
+    requires axes { settings.now.setup.dim ≡ AXES }
     requires above { IsAbove settings.now.setup.dim settings.now above.now }
     requires digits { IsDigits settings.now.setup.dim digits }
     requires child { IsChild settings.now.setup.dim settings.now above.now child.old }
     ensures child { IsChild settings.now.setup.dim settings.now above.now child.new }
     ensures digits { child.new.digits ≡ digits }
 {
-    if are_in_one_row(settings.setup.dim, &child.digits, &digits) {
-        step_to(settings, above, child, digits);
+    if are_in_one_row::<AXES>(&child.digits, &digits) {
+        step_to::<AXES>(settings, above, child, digits);
     } else {
-        turn_to(settings, above, child, digits);
+        turn_to::<AXES>(settings, above, child, digits);
     }
 }

@@ -48,7 +48,7 @@ fn give_up_filled<V, D: Depot<Vertex<V>>>(dim: Dim, d: &mut D, corners: &mut Cor
 
 // Loads all corners. On an error those that were loaded stay in their slots.
 #[inline(always)]
-fn load_quads<M: Mapping, DV: Depot<Vertex<M::V>>>(
+fn load_quads<const AXES: u8, M: Mapping, DV: Depot<Vertex<M::V>>>(
     settings: &Settings,
     cell: &WalkedCell,
     progress: &mut Progress,
@@ -58,6 +58,7 @@ fn load_quads<M: Mapping, DV: Depot<Vertex<M::V>>>(
     parents: &mut Corners<M::V>,
     parent: &mut CellRec<M::C>,
 ) -> Result<(), Halt>
+    requires axes { settings.now.setup.dim ≡ AXES }
     requires dim { (M.held m.old).dim ≡ settings.now.setup.dim }
     requires walked { IsWalked (M.held m.old).dim settings.now cell.now }
     requires kinds { GiveKinds (M.held m.old).dim settings.now.traversal cell.now.place (seen_corners M.numbers.vertex parents.old) cell.now.marks }
@@ -72,14 +73,14 @@ fn load_quads<M: Mapping, DV: Depot<Vertex<M::V>>>(
     ensures corners { AreOf (M.held m.old).dim corners.new }
     ensures loaded { OnOk result (filled_in_corners corners.new ≡ 2 ^ (M.held m.old).dim) }
 {
-    load_last(settings, cell, progress, m, dv, corners, parents, parent)?;
-    load_quad(settings, cell, 1, progress, m, dv, corners, parents, parent)?;
-    load_quad(settings, cell, 0, progress, m, dv, corners, parents, parent)
+    load_last::<AXES, M, DV>(settings, cell, progress, m, dv, corners, parents, parent)?;
+    load_quad::<AXES, M, DV>(settings, cell, 1, progress, m, dv, corners, parents, parent)?;
+    load_quad::<AXES, M, DV>(settings, cell, 0, progress, m, dv, corners, parents, parent)
 }
 
 // Stores all corners. On an error those that were not stored stay in their slots.
 #[inline]
-fn store_quads<M: Mapping, DV: Depot<Vertex<M::V>>>(
+fn store_quads<const AXES: u8, M: Mapping, DV: Depot<Vertex<M::V>>>(
     settings: &Settings,
     cell: &WalkedCell,
     progress: &mut Progress,
@@ -89,6 +90,7 @@ fn store_quads<M: Mapping, DV: Depot<Vertex<M::V>>>(
     parents: &mut Corners<M::V>,
     parent: &mut CellRec<M::C>,
 ) -> Result<(), Halt>
+    requires axes { settings.now.setup.dim ≡ AXES }
     requires dim { (M.held m.old).dim ≡ settings.now.setup.dim }
     requires walked { IsWalked (M.held m.old).dim settings.now cell.now }
     requires full { IsFull (M.held m.old).dim parents.old }
@@ -104,15 +106,15 @@ fn store_quads<M: Mapping, DV: Depot<Vertex<M::V>>>(
     ensures corners { AreOf (M.held m.old).dim corners.new }
     ensures emptied { OnOk result (filled_in_corners corners.new ≡ 0) }
 {
-    store_quad(settings, cell, 0, progress, m, dv, corners, parents, parent)?;
-    store_quad(settings, cell, 1, progress, m, dv, corners, parents, parent)?;
-    store_quad(settings, cell, 2, progress, m, dv, corners, parents, parent)?;
-    store_quad(settings, cell, 3, progress, m, dv, corners, parents, parent)
+    store_quad::<AXES, M, DV>(settings, cell, 0, progress, m, dv, corners, parents, parent)?;
+    store_quad::<AXES, M, DV>(settings, cell, 1, progress, m, dv, corners, parents, parent)?;
+    store_quad::<AXES, M, DV>(settings, cell, 2, progress, m, dv, corners, parents, parent)?;
+    store_quad::<AXES, M, DV>(settings, cell, 3, progress, m, dv, corners, parents, parent)
 }
 
 /// Loads all corners of the cell that is walked, in descending number. On an error all that were loaded are given up.
 #[inline(always)]
-pub(crate) fn load_corners<M: Mapping, DV: Depot<Vertex<M::V>>>(
+pub(crate) fn load_corners<const AXES: u8, M: Mapping, DV: Depot<Vertex<M::V>>>(
     settings: &Settings,
     cell: &WalkedCell,
     progress: &mut Progress,
@@ -122,6 +124,7 @@ pub(crate) fn load_corners<M: Mapping, DV: Depot<Vertex<M::V>>>(
     parents: &mut Corners<M::V>,
     parent: &mut CellRec<M::C>,
 ) -> Result<(), Halt>
+    requires axes { settings.now.setup.dim ≡ AXES }
     requires dim { (M.held m.old).dim ≡ settings.now.setup.dim }
     requires walked { IsWalked (M.held m.old).dim settings.now cell.now }
     requires kinds { GiveKinds (M.held m.old).dim settings.now.traversal cell.now.place (seen_corners M.numbers.vertex parents.old) cell.now.marks }
@@ -143,7 +146,7 @@ pub(crate) fn load_corners<M: Mapping, DV: Depot<Vertex<M::V>>>(
     ensures loaded { OnOk result (IsFull (M.held m.old).dim corners.new) }
     ensures emptied { OnErr result (corners.new ≡ no_vertices (M.held m.old).dim) }
 {
-    match load_quads(settings, cell, progress, m, dv, corners, parents, parent) {
+    match load_quads::<AXES, M, DV>(settings, cell, progress, m, dv, corners, parents, parent) {
         Ok(()) => Ok(()),
         Err(halt) => {
             give_up_filled(settings.setup.dim, dv, corners);
@@ -155,7 +158,7 @@ pub(crate) fn load_corners<M: Mapping, DV: Depot<Vertex<M::V>>>(
 /// Stores all corners of the cell that is walked, in ascending number. Whatever the answer, no corner is left: on an error
 /// those that were not stored are given up.
 #[inline]
-pub(crate) fn store_corners<M: Mapping, DV: Depot<Vertex<M::V>>>(
+pub(crate) fn store_corners<const AXES: u8, M: Mapping, DV: Depot<Vertex<M::V>>>(
     settings: &Settings,
     cell: &WalkedCell,
     progress: &mut Progress,
@@ -165,6 +168,7 @@ pub(crate) fn store_corners<M: Mapping, DV: Depot<Vertex<M::V>>>(
     parents: &mut Corners<M::V>,
     parent: &mut CellRec<M::C>,
 ) -> Result<(), Halt>
+    requires axes { settings.now.setup.dim ≡ AXES }
     requires dim { (M.held m.old).dim ≡ settings.now.setup.dim }
     requires walked { IsWalked (M.held m.old).dim settings.now cell.now }
     requires full { IsFull (M.held m.old).dim parents.old }
@@ -185,7 +189,7 @@ pub(crate) fn store_corners<M: Mapping, DV: Depot<Vertex<M::V>>>(
     ensures counted { progress.new.tally.cells ≡ progress.old.tally.cells }
     ensures emptied { corners.new ≡ no_vertices (M.held m.old).dim }
 {
-    match store_quads(settings, cell, progress, m, dv, corners, parents, parent) {
+    match store_quads::<AXES, M, DV>(settings, cell, progress, m, dv, corners, parents, parent) {
         Ok(()) => Ok(()),
         Err(halt) => {
             give_up_filled(settings.setup.dim, dv, corners);

@@ -15,7 +15,7 @@ ghost use Rattle.pe_walk.specs.InHand.{IsWalked, machine_in_hand};
 ghost use Rattle.pe_walk.specs.CellTraffic.{CountsAreFew};
 ghost use Rattle.pe_walk.specs.FaceLaw.{Moment, IsCalledAt, MayCall, CellAnswers, by_address};
 
-use crate::cell;
+use crate::axes;
 use crate::progress::Progress;
 use crate::root::kind_of_children;
 use crate::settings::{Settings, settings_at};
@@ -119,7 +119,7 @@ pub fn walk_cell<M: Mapping, DV: Depot<Vertex<M::V>>, DC: Depot<CellRec<M::C>>>(
         at: *at,
     };
     let mut corners = Corners::empty(setup.dim);
-    let walked = cell::walk_cell(
+    let walked = axes::walk_cell(
         &settings,
         &cell,
         kind,

@@ -1,6 +1,7 @@
 //! The walk of the cells of a grid.
 #![tactic(auto)]
 
+mod axes;
 mod cell;
 mod child;
 mod corner;

@@ -5,7 +5,7 @@ ghost use Rattle.pe_walk.specs.Corners.{AreOf, MayLoad, MayStore, TouchesOn, han
 
 use crate::corner::{load_corner, store_corner};
 use crate::progress::Progress;
-use crate::settings::Settings;
+use crate::settings::{Settings, corners_in};
 use crate::walked::WalkedCell;
 use pe_adapt::Halt;
 use pe_mapping::Mapping;
@@ -71,7 +71,7 @@ fn store_next<M: Mapping, DV: Depot<Vertex<M::V>>>(
 
 // Loads corners `4 q` to `4 q + 3`, if the cell has them. All behind them are loaded, and none before them is.
 #[inline(always)]
-pub(crate) fn load_quad<M: Mapping, DV: Depot<Vertex<M::V>>>(
+pub(crate) fn load_quad<const AXES: u8, M: Mapping, DV: Depot<Vertex<M::V>>>(
     settings: &Settings,
     cell: &WalkedCell,
     q: u8,
@@ -82,6 +82,7 @@ pub(crate) fn load_quad<M: Mapping, DV: Depot<Vertex<M::V>>>(
     parents: &mut Corners<M::V>,
     parent: &mut CellRec<M::C>,
 ) -> Result<(), Halt>
+    requires axes { settings.now.setup.dim ≡ AXES }
     requires ready { MayLoad M.rules M.numbers settings.now cell.now corners.old
         (hand_of (M.held m.old) (DV.holds dv.old) (DV.room dv.old) parents.old parent.old progress.old) }
     requires quad { q < 4 }
@@ -95,7 +96,7 @@ pub(crate) fn load_quad<M: Mapping, DV: Depot<Vertex<M::V>>>(
     ensures corners { AreOf settings.now.setup.dim corners.new }
 {
     let first = 4 * q;
-    if settings.setup.dim.corners() <= first + 3 {
+    if corners_in::<AXES>(settings) <= first + 3 {
         return Ok(());
     }
     load_next(
@@ -138,7 +139,7 @@ pub(crate) fn load_quad<M: Mapping, DV: Depot<Vertex<M::V>>>(
 
 // Stores corners `4 q` to `4 q + 3`, if the cell has them. All behind them are still to be stored, and none before them is.
 #[inline(always)]
-pub(crate) fn store_quad<M: Mapping, DV: Depot<Vertex<M::V>>>(
+pub(crate) fn store_quad<const AXES: u8, M: Mapping, DV: Depot<Vertex<M::V>>>(
     settings: &Settings,
     cell: &WalkedCell,
     q: u8,
@@ -149,6 +150,7 @@ pub(crate) fn store_quad<M: Mapping, DV: Depot<Vertex<M::V>>>(
     parents: &mut Corners<M::V>,
     parent: &mut CellRec<M::C>,
 ) -> Result<(), Halt>
+    requires axes { settings.now.setup.dim ≡ AXES }
     requires ready { MayStore M.rules M.numbers settings.now cell.now corners.old
         (hand_of (M.held m.old) (DV.holds dv.old) (DV.room dv.old) parents.old parent.old progress.old) }
     requires quad { q < 4 }
@@ -162,7 +164,7 @@ pub(crate) fn store_quad<M: Mapping, DV: Depot<Vertex<M::V>>>(
     ensures corners { AreOf settings.now.setup.dim corners.new }
 {
     let first = 4 * q;
-    if settings.setup.dim.corners() <= first + 3 {
+    if corners_in::<AXES>(settings) <= first + 3 {
         return Ok(());
     }
     store_next(
@@ -205,7 +207,7 @@ pub(crate) fn store_quad<M: Mapping, DV: Depot<Vertex<M::V>>>(
 
 // Loads corners 8 to 15, as a call of its own: all sixteen in one place are too much code.
 #[inline(never)]
-fn load_upper<M: Mapping, DV: Depot<Vertex<M::V>>>(
+fn load_upper<const AXES: u8, M: Mapping, DV: Depot<Vertex<M::V>>>(
     settings: &Settings,
     cell: &WalkedCell,
     progress: &mut Progress,
@@ -215,6 +217,7 @@ fn load_upper<M: Mapping, DV: Depot<Vertex<M::V>>>(
     parents: &mut Corners<M::V>,
     parent: &mut CellRec<M::C>,
 ) -> Result<(), Halt>
+    requires axes { settings.now.setup.dim ≡ AXES }
     requires ready { MayLoad M.rules M.numbers settings.now cell.now corners.old
         (hand_of (M.held m.old) (DV.holds dv.old) (DV.room dv.old) parents.old parent.old progress.old) }
     requires behind { filled_in_corners corners.old ≡ 2 ^ settings.now.setup.dim - 16 }
@@ -226,13 +229,13 @@ fn load_upper<M: Mapping, DV: Depot<Vertex<M::V>>>(
     ensures behind { OnOk result (filled_in_corners corners.new ≡ 2 ^ settings.now.setup.dim - 8) }
     ensures corners { AreOf settings.now.setup.dim corners.new }
 {
-    load_quad(settings, cell, 3, progress, m, dv, corners, parents, parent)?;
-    load_quad(settings, cell, 2, progress, m, dv, corners, parents, parent)
+    load_quad::<AXES, M, DV>(settings, cell, 3, progress, m, dv, corners, parents, parent)?;
+    load_quad::<AXES, M, DV>(settings, cell, 2, progress, m, dv, corners, parents, parent)
 }
 
 // Loads corners 8 to 15, if the cell has them.
 #[inline(always)]
-pub(crate) fn load_last<M: Mapping, DV: Depot<Vertex<M::V>>>(
+pub(crate) fn load_last<const AXES: u8, M: Mapping, DV: Depot<Vertex<M::V>>>(
     settings: &Settings,
     cell: &WalkedCell,
     progress: &mut Progress,
@@ -242,6 +245,7 @@ pub(crate) fn load_last<M: Mapping, DV: Depot<Vertex<M::V>>>(
     parents: &mut Corners<M::V>,
     parent: &mut CellRec<M::C>,
 ) -> Result<(), Halt>
+    requires axes { settings.now.setup.dim ≡ AXES }
     requires ready { MayLoad M.rules M.numbers settings.now cell.now corners.old
         (hand_of (M.held m.old) (DV.holds dv.old) (DV.room dv.old) parents.old parent.old progress.old) }
     requires behind { filled_in_corners corners.old ≡ 2 ^ settings.now.setup.dim - 16 }
@@ -253,8 +257,8 @@ pub(crate) fn load_last<M: Mapping, DV: Depot<Vertex<M::V>>>(
     ensures behind { OnOk result (filled_in_corners corners.new ≡ 2 ^ settings.now.setup.dim - 8) }
     ensures corners { AreOf settings.now.setup.dim corners.new }
 {
-    if settings.setup.dim.corners() <= 8 {
+    if corners_in::<AXES>(settings) <= 8 {
         return Ok(());
     }
-    load_upper(settings, cell, progress, m, dv, corners, parents, parent)
+    load_upper::<AXES, M, DV>(settings, cell, progress, m, dv, corners, parents, parent)
 }

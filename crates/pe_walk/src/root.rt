@@ -13,7 +13,7 @@ ghost use Rattle.pe_walk.specs.Machine.{Machine as AMachine, root_corners, trave
 ghost use Rattle.pe_walk.specs.InHand.{setting_in, ports_of, machine_in_hand, machine_between, failure_in};
 ghost use Rattle.pe_walk.specs.Visits.{walk_root, with_vertices, CountsCells};
 
-use crate::cell::walk_children;
+use crate::axes::walk_children;
 use crate::child::Above;
 use crate::hand::give_up_from;
 use crate::progress::Progress;

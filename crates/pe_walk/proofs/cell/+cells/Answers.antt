@@ -67,28 +67,34 @@ visit_cell-walk_below-requires g t c κs within =
     let few : c.enter_cell.new.progress.tally.cells ≤ s.setup.max_cells = subst (λ (tally : Tally). tally.cells ≤ s.setup.max_cells) (sym c.in-Ok.ensures.tally) c.requires.few in (
       search the_rules,
       (
-        within.0,
+        search the_rules,
         (
-          within.1.0,
+          within.0,
           (
-            within.1.1.0,
+            within.1.0,
             (
-              within.1.1.1.0,
+              within.1.1.0,
               (
-                within.1.1.1.1.0,
+                within.1.1.1.0,
                 (
-                  within.1.1.1.1.1,
+                  within.1.1.1.1.0,
                   (
-                    c.in-Ok.ensures.keeps.dim ∙ c.requires.dim,
+                    within.1.1.1.1.1,
                     (
-                      walked,
+                      c.requires.axes,
                       (
-                        c.requires.levels,
+                        c.in-Ok.ensures.keeps.dim ∙ c.requires.dim,
                         (
-                          full,
+                          walked,
                           (
-                            few,
-                            (outer, and_then-fits (below ports levels place (entered c.in-Ok.entered) (set_in rules numbers s mid)) _ fits),
+                            c.requires.levels,
+                            (
+                              full,
+                              (
+                                few,
+                                (outer, and_then-fits (below ports levels place (entered c.in-Ok.entered) (set_in rules numbers s mid)) _ fits),
+                              ),
+                            ),
                           ),
                         ),
                       ),
@@ -246,34 +252,40 @@ walk_below-walk_children-requires g t c κs within =
     record { place = c.requires.walked.place; level = omega (arith, c.requires.levels, few); state = c.requires.walked.state } in (
       search the_rules,
       (
-        within.0,
+        search the_rules,
         (
-          within.1.0,
+          within.0,
           (
-            within.1.1.0,
+            within.1.0,
             (
-              within.1.1.1.0,
+              within.1.1.0,
               (
-                within.1.1.1.1.0,
+                within.1.1.1.0,
                 (
-                  within.1.1.1.1.1,
+                  within.1.1.1.1.0,
                   (
-                    c.requires.dim,
+                    within.1.1.1.1.1,
                     (
-                      above,
+                      c.requires.axes,
                       (
-                        c.requires.levels,
+                        c.requires.dim,
                         (
-                          few,
+                          above,
                           (
-                            marked,
+                            c.requires.levels,
                             (
-                              (λ cell level. kind_among-deep s.traversal cell (seen_corners numbers.vertex c.args.corners.now) (omega (arith, level, c.requires.walked.deep)) ∙ is_kind),
+                              few,
                               (
-                                c.requires.own_full,
+                                marked,
                                 (
-                                  c.requires.few,
-                                  and_then-fits (walk_children set ports levels place (machine_of rules numbers s old)) _ (subst Fits walked c.requires.fits.1),
+                                  (λ cell level. kind_among-deep s.traversal cell (seen_corners numbers.vertex c.args.corners.now) (omega (arith, level, c.requires.walked.deep)) ∙ is_kind),
+                                  (
+                                    c.requires.own_full,
+                                    (
+                                      c.requires.few,
+                                      and_then-fits (walk_children set ports levels place (machine_of rules numbers s old)) _ (subst Fits walked c.requires.fits.1),
+                                    ),
+                                  ),
                                 ),
                               ),
                             ),
@@ -421,32 +433,38 @@ walk_cell-visit_cell-requires g t c κs within =
     let few : c.load_corners.new.progress.tally.cells ≤ s.setup.max_cells = omega (arith, c.in-Ok-load_corners.ensures.counted, c.in-Ok.ensures.within) in (
       search the_rules,
       (
-        within.0,
+        search the_rules,
         (
-          within.1.0,
+          within.0,
           (
-            within.1.1.0,
+            within.1.0,
             (
-              within.1.1.1.0,
+              within.1.1.0,
               (
-                within.1.1.1.1.0,
+                within.1.1.1.0,
                 (
-                  within.1.1.1.1.1,
+                  within.1.1.1.1.0,
                   (
-                    dim ∙ c.requires.dim,
+                    within.1.1.1.1.1,
                     (
-                      walked,
+                      c.requires.axes,
                       (
-                        c.requires.levels,
+                        dim ∙ c.requires.dim,
                         (
-                          kind,
+                          walked,
                           (
-                            full,
+                            c.requires.levels,
                             (
-                              own,
+                              kind,
                               (
-                                few,
-                                and_then-fits (visits (set_in rules numbers s loaded)) (storing ports levels place (set_in rules numbers s loaded)) fits_visit,
+                                full,
+                                (
+                                  own,
+                                  (
+                                    few,
+                                    and_then-fits (visits (set_in rules numbers s loaded)) (storing ports levels place (set_in rules numbers s loaded)) fits_visit,
+                                  ),
+                                ),
                               ),
                             ),
                           ),
@@ -589,11 +607,11 @@ walk_children-loop-digits-init g t c =
     let kept = c.into_iter-digits-iterator.ensures.into_iter_gives in
     let same : IsAbove axes s above = subst (λ d. IsAbove d s above) c.requires.dim c.requires.above in
     let all : map (child_at place) c.into_iter-digits-iterator.result ≡ children old.held.dim (way_of s.traversal) place =
-    all-children axes (way_of s.traversal) s.way place c.flips.result c.new-digits-items.result c.into_iter-digits-iterator.result s.turned kept c.new-digits-items.ensures.digits (c.flips.ensures axes s.way place same.place same.state)
+    all-children axes (way_of s.traversal) s.way place c.flips.result c.cursor_in-digits-items.result c.into_iter-digits-iterator.result s.turned kept c.cursor_in-digits-items.ensures.digits (c.flips.ensures axes s.way place same.place same.state)
     ∙ ap (λ d. children d (way_of s.traversal) place) (sym c.requires.dim) in
     record {
       leads = subst (λ cells. Leads whole (found_in rules numbers s old) (found_in rules numbers s old) (each (walk_cell set ports levels) cells (machine_of rules numbers s old))) (sym all) (leads_start whole (found_in rules numbers s old));
-      digits = subst (All (IsDigits axes)) (sym kept) c.new-digits-items.ensures.places;
+      digits = subst (All (IsDigits axes)) (sym kept) c.cursor_in-digits-items.ensures.places;
       child = c.child_of-child.ensures.child;
       left = record { count = refl; keeps = λ n. omega arith; out = omega arith };
       cells_left = record { count = refl; keeps = λ n. omega arith; out = omega arith };
@@ -633,34 +651,40 @@ walk_children-walk_cell-requires g t c κs within =
     let may = child-may ports set levels place whole (found_in rules numbers s old) (found_in rules numbers s now) c.loop-digits.digits-iterator (machine_of rules numbers s now) c.in-Some.digits c.next.new.self c.in-Some.ensures.steps is.leads c.requires.fits in (
       search the_rules,
       (
-        within.0,
+        search the_rules,
         (
-          within.1.0,
+          within.0,
           (
-            within.1.1.0,
+            within.1.0,
             (
-              within.1.1.1.0,
+              within.1.1.0,
               (
-                within.1.1.1.1.0,
+                within.1.1.1.0,
                 (
-                  within.1.1.1.1.1,
+                  within.1.1.1.1.0,
                   (
-                    dim,
+                    within.1.1.1.1.1,
                     (
-                      subst (λ d. IsWalked d s c.move_to.new.child.cell) (sym dim) walked,
+                      c.requires.axes,
                       (
-                        omega (arith, level, c.requires.levels, c.requires.some),
+                        dim,
                         (
-                          subst (λ d. GiveKinds d s.traversal c.move_to.new.child.cell.place (seen_corners numbers.vertex c.loop-digits.parents) c.move_to.new.child.cell.marks) (sym dim) kinds,
+                          subst (λ d. IsWalked d s c.move_to.new.child.cell) (sym dim) walked,
                           (
-                            kind,
+                            omega (arith, level, c.requires.levels, c.requires.some),
                             (
-                              subst (λ d. IsFull d c.loop-digits.parents) (sym dim) is.full,
+                              subst (λ d. GiveKinds d s.traversal c.move_to.new.child.cell.place (seen_corners numbers.vertex c.loop-digits.parents) c.move_to.new.child.cell.marks) (sym dim) kinds,
                               (
-                                is.empty ∙ ap no_vertices (sym dim),
+                                kind,
                                 (
-                                  omega (arith, is.counts.few),
-                                  subst Fits (sym same) may,
+                                  subst (λ d. IsFull d c.loop-digits.parents) (sym dim) is.full,
+                                  (
+                                    is.empty ∙ ap no_vertices (sym dim),
+                                    (
+                                      omega (arith, is.counts.few),
+                                      subst Fits (sym same) may,
+                                    ),
+                                  ),
                                 ),
                               ),
                             ),

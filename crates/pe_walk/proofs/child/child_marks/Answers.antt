@@ -1,19 +1,29 @@
-use Rattle.std.proofs.Common.{arith}
+use Rattle.std.proofs.Common.{◌≡◌, ℕ, ◌^◌, ◌<◌, sym, subst, arith}
+use Rattle.pe_states.specs.Marks.{is_old_at, is_new_at, is_first_old, is_first_new, some_carrier}
+use Rattle.pe_states.specs.Sides.{IsRow}
 use Rattle.pe_walk.proofs.Children.{first-kinds, carried-kinds}
 use Rattle.pe_walk.proofs.child.child_marks.Goals as goal
 
 pub returns-then-above-eq0 : goal.returns-then-above-eq0
-returns-then-above-eq0 c = λ its are.
+returns-then-above-eq0 g c = λ its are.
     let s = c.args.settings.now in
     let above = c.args.above.now in
     let is = c.requires.above in
-    first-kinds s.setup.dim s.traversal above.place c.args.digits is.state.grid is.place is.level c.requires.digits c.level_one.result its (omega arith)
-    c.level_one.ensures.old c.level_one.ensures.new
+    let marks = c.level_one.result in
+    let Old : ℕ → Type 0 = λ d. (k : ℕ) → k < 2 ^ d → is_old_at marks k ≡ is_first_old d c.args.digits s.traversal k in
+    let New : ℕ → Type 0 = λ d. (k : ℕ) → k < 2 ^ d → is_new_at marks k ≡ is_first_new d c.args.digits k in
+    first-kinds s.setup.dim s.traversal above.place c.args.digits is.state.grid is.place is.level c.requires.digits marks its (omega arith)
+    (subst Old c.dim_in-dim.ensures c.level_one.ensures.old) (subst New c.dim_in-dim.ensures c.level_one.ensures.new)
 
 pub returns-else-above-eq0 : goal.returns-else-above-eq0
-returns-else-above-eq0 c = λ its are.
+returns-else-above-eq0 g c = λ its are.
     let s = c.args.settings.now in
     let above = c.args.above.now in
     let is = c.requires.above in
-    carried-kinds s.setup.dim s.traversal above.place c.args.digits is.state.grid is.place is.level c.requires.digits c.of_row.result above.marks its (omega arith) are
-    (c.of_row.ensures.old above.marks c.requires.row) (c.of_row.ensures.new above.marks c.requires.row)
+    let marks = c.of_row.result in
+    let Row : ℕ → Type 0 = λ d. IsRow d c.args.digits above.marks c.args.row_marks in
+    let Old : ℕ → Type 0 = λ d. (k : ℕ) → k < 2 ^ d → is_old_at marks k ≡ some_carrier d c.args.digits k (is_old_at above.marks) in
+    let New : ℕ → Type 0 = λ d. (k : ℕ) → k < 2 ^ d → is_new_at marks k ≡ some_carrier d c.args.digits k (is_new_at above.marks) in
+    let row = subst Row (sym c.dim_in-dim.ensures) c.requires.row in
+    carried-kinds s.setup.dim s.traversal above.place c.args.digits is.state.grid is.place is.level c.requires.digits marks above.marks its (omega arith) are
+    (subst Old c.dim_in-dim.ensures (c.of_row.ensures.old above.marks row)) (subst New c.dim_in-dim.ensures (c.of_row.ensures.new above.marks row))

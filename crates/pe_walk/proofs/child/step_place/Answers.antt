@@ -8,24 +8,18 @@ use Rattle.pe_walk.proofs.Children.{child_at-step}
 use Rattle.pe_walk.proofs.child.step_place.Goals as goal
 
 pub overflow_mul-place : goal.overflow_mul-place
-overflow_mul-place c = omega (arith, cell_coordinate_below c.args.dim c.args.parent.now c.requires.parent (c.axes.result - 1))
+overflow_mul-place g c = omega (arith, cell_coordinate_below g.row.AXES c.args.parent.now c.requires.parent (g.row.AXES - 1))
 
 pub overflow_add-place : goal.overflow_add-place
-overflow_add-place c =
-    omega (arith, cell_coordinate_below c.args.dim c.args.parent.now c.requires.parent (c.axes.result - 1), c.requires.digits.inside (c.axes.result - 1) (omega (arith, c.axes.ensures.value, c.axes.ensures.range)))
+overflow_add-place g c = omega (arith, cell_coordinate_below g.row.AXES c.args.parent.now c.requires.parent (g.row.AXES - 1), c.requires.digits.inside (g.row.AXES - 1) (omega (arith, c.requires.axes)))
 
 pub returns : goal.returns
-returns c from fit one is =
-    let axes = c.args.dim in
+returns g c from fit one is =
+    let axes = g.row.AXES in
     let parent = c.args.parent.now in
     let digits = c.args.digits in
-    let last = c.axes.result - 1 in
-    let same : last ≡ axes - 1 = ap (λ (n : ℕ). n - 1) c.axes.ensures.value in
-    let low = c.axes.ensures.range.0 in
-    let high = c.axes.ensures.range.1 in
-    let moved = child_at-step axes parent from digits (omega (arith, low, c.axes.ensures.value)) (omega (arith, high, c.axes.ensures.value)) c.requires.parent fit c.requires.digits one in
-    let to : List ℕ → ℕ → List ℕ = λ pos i. set pos i (3 * slice_index parent.pos i + slice_index digits.k i) in
+    let moved = child_at-step axes parent from digits (omega (arith, c.requires.axes)) (omega (arith, c.requires.axes)) c.requires.parent fit c.requires.digits one in
+    let to : List ℕ → List ℕ = λ pos. set pos (axes - 1) (3 * slice_index parent.pos (axes - 1) + slice_index digits.k (axes - 1)) in
     let place : ℕ → List ℕ → Place = λ level pos. record { level = level; pos = pos } in
-    ap (λ (p : Place). place p.level (to p.pos last)) is
-    ∙ ap (λ (i : ℕ). place (parent.level + 1) (to (finer parent.pos from.k) i)) same
+    ap (λ (p : Place). place p.level (to p.pos)) is
     ∙ ap (place (parent.level + 1)) moved

@@ -4,12 +4,12 @@ use Rattle.pe_walk.proofs.Going.{goes-nowhere, goes-then}
 use Rattle.pe_walk.proofs.CornerSteps.{quad_beyond}
 use Rattle.pe_walk.proofs.quad.store_quad.Goals as goal
 
-pub returns-then-corners-first-clause-goes : goal.returns-then-corners-first-clause-goes
-returns-then-corners-first-clause-goes g c = goes-nowhere _ _ _ c.requires.ready.here.full
+pub returns-then-corners_in-first-clause-goes : goal.returns-then-corners_in-first-clause-goes
+returns-then-corners_in-first-clause-goes g c = goes-nowhere _ _ _ c.requires.ready.here.full
 
-pub returns-then-corners-first-clause-behind : goal.returns-then-corners-first-clause-behind
-returns-then-corners-first-clause-behind g c =
-    let beyond = quad_beyond c.args.settings.now.setup.dim c.args.q c.corners.ensures.range (omega (arith, c.if-corners-first.true, c.corners.ensures.value)) in
+pub returns-then-corners_in-first-clause-behind : goal.returns-then-corners_in-first-clause-behind
+returns-then-corners_in-first-clause-behind g c =
+    let beyond = quad_beyond c.args.settings.now.setup.dim c.args.q c.corners_in.ensures.range (omega (arith, c.if-corners_in-first.true, c.corners_in.ensures.value)) in
     omega (arith, c.requires.behind, beyond)
 
 pub returns-in_err-store_next-2-clause-goes : goal.returns-in_err-store_next-2-clause-goes
