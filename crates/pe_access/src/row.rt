@@ -1,3 +1,5 @@
+ghost use Rattle.std.specs.Prelude.{◌≡◌, All};
+
 use crate::numbers::Numbers;
 
 /// The numbers of a cell's corners, in two parts: along all axes but the last, and along the last one.
@@ -15,7 +17,11 @@ pub struct Row {
 
 impl Row {
     /// Numbers of no cell.
-    pub fn empty() -> Row {
+    pub fn empty() -> Row
+        ensures coming { All (λ number. number ≡ 0) result.coming }
+        ensures going { All (λ number. number ≡ 0) result.going }
+        ensures ends { All (λ face. face ≡ (record { coming = 0; going = 0 })) result.ends }
+    {
         let none = Numbers {
             coming: 0,
             going: 0,
