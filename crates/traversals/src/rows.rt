@@ -19,7 +19,7 @@ const NEVER: u64 = u64::MAX;
 
 const MOST_CELLS: u64 = 4_194_304;
 
-/// More than any walk here asks for memory.
+/// More pushes than make a stack longer than it ever was, in any walk here.
 const MANY: u64 = 1000;
 
 /// On level 1 in the plane, a vertex that is refined in the first traversal, and erased in the third.
@@ -215,7 +215,8 @@ fn each_event_may_refuse(rt: HostRuntime) -> Result<(), Fail> {
     Ok(())
 }
 
-// Five traversals in depots that are granted memory so often: why they stopped, and the grants that are left.
+// Five traversals in depots of which so many pushes may make a stack longer than it ever was: why they
+// stopped, and the grants that are left.
 fn granted(
     rt: &impl Abort,
     alloc: Global,

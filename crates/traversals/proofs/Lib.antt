@@ -1,0 +1,3 @@
+-- # Depots that lack room
+-- peaks that are all none
+pub mod Peaks
