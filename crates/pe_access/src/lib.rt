@@ -7,8 +7,6 @@ mod laws;
 mod numbers;
 mod route;
 mod row;
-#[cfg(test)]
-mod rows;
 mod state;
 
 pub use laws::{order_around, rows_of_children};

@@ -22,5 +22,3 @@ pub mod Foreseen
 pub mod Streams
 -- laws that these definitions owe
 pub mod Laws
--- small rules of events for the worked rows
-pub mod Examples

@@ -12,15 +12,11 @@ pub mod laws;
 mod list;
 mod order;
 mod place;
-#[cfg(test)]
-mod rows;
 mod setup;
 mod state;
 mod stop;
 mod tally;
 mod text;
-#[cfg(test)]
-mod walk_rows;
 mod way;
 
 pub use boxed::Boxed;

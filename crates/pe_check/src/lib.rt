@@ -7,8 +7,6 @@ mod checked;
 mod head;
 mod laws;
 mod resolve;
-#[cfg(test)]
-mod rows;
 
 pub use bodies::check;
 pub use cause::CheckFault;

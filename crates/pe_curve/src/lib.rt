@@ -7,8 +7,6 @@
 mod children;
 mod cursor;
 mod digits;
-#[cfg(test)]
-mod rows;
 
 pub use children::{child, child_at};
 pub use cursor::Cursor;

@@ -6,8 +6,6 @@ mod fault;
 mod laws;
 mod names;
 mod print;
-#[cfg(test)]
-mod rows;
 mod run;
 mod value;
 mod view;

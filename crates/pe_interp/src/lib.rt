@@ -3,7 +3,5 @@
 
 mod interp;
 mod lines;
-#[cfg(test)]
-mod rows;
 
 pub use interp::Interp;

@@ -14,8 +14,6 @@ mod sink;
 mod std_sink;
 mod sure_shelf;
 mod sure_sink;
-#[cfg(test)]
-mod tests;
 mod whole;
 
 pub use file_shelf::FileShelf;
@@ -27,3 +25,4 @@ pub use sink::{Sink, SinkFailed};
 pub use std_sink::StdSink;
 pub use sure_shelf::SureShelf;
 pub use sure_sink::SureSink;
+pub use whole::{read_whole, write_whole};

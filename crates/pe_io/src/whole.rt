@@ -27,7 +27,7 @@ fn again(e: Error) -> io::Result<()>
 
 /// What a reader has left, where that is no more than `limit`. A read that is interrupted is asked again; an
 /// `Err` is the reader's, or that of an endless row of interruptions.
-pub(crate) fn read_whole<F: Read>(alloc: Global, file: &mut F, limit: u64) -> io::Result<Got>
+pub fn read_whole<F: Read>(alloc: Global, file: &mut F, limit: u64) -> io::Result<Got>
     ensures limit { IfOk result (IsWithinLimit limit) }
     ensures read { IfOk result IsRead }
 
@@ -72,7 +72,7 @@ fn append(bytes: &mut Vec<u8>, more: &[u8], limit: u64) -> Result<(), AllocError
 /// Writes all bytes. A write that is interrupted is asked again, and one that takes nothing has failed; any
 /// other `Err` is the writer's, or that of an endless row of interruptions. After an `Err` a part of the
 /// bytes was written.
-pub(crate) fn write_whole<W: Write>(writer: &mut W, bytes: &[u8]) -> io::Result<()>
+pub fn write_whole<W: Write>(writer: &mut W, bytes: &[u8]) -> io::Result<()>
     ensures ok { OnOk result (Appends (W.contents writer.old) (W.contents writer.new) bytes.now) }
     ensures err { OnErr result (AppendsPart (W.contents writer.old) (W.contents writer.new) bytes.now) }
     ensures retried { IfErr result (λ e. error_kind e ≢ ErrorKind.Interrupted) }

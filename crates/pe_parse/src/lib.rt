@@ -7,8 +7,6 @@ mod laws;
 mod rank;
 mod read;
 mod reader;
-#[cfg(test)]
-mod rows;
 mod stmt;
 mod tree;
 mod words;

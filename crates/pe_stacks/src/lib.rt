@@ -7,8 +7,6 @@ mod depot;
 mod grid;
 mod quad;
 mod record;
-#[cfg(test)]
-mod rows;
 mod slots;
 mod vec_depot;
 mod vec_stack;

@@ -8,8 +8,6 @@
 mod carriers;
 mod laws;
 mod marks;
-#[cfg(test)]
-mod rows;
 mod sides;
 mod table;
 

@@ -12,8 +12,6 @@ mod parts;
 mod range;
 mod reading;
 mod saved;
-#[cfg(test)]
-mod tests;
 mod writing;
 
 pub use expect::Expect;

@@ -1,5 +1,7 @@
-//! Worked rows of scenarios: what is read, and what is refused for which cause.
+//! Worked rows of scenarios: what is read, what is refused for which cause, and what events do.
 #![tactic(auto)]
 
+#[cfg(test)]
+mod events;
 #[cfg(test)]
 mod rows;

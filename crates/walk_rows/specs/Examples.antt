@@ -3,7 +3,7 @@ use Rattle.std.specs.Prelude.{ℕ, Bool, true, false, List, [], ◌∷◌, map}
 use Rattle.pe_base.specs.Lines.{tally_line}
 use Rattle.pe_base.specs.Walk.Course.{Course, Ending, done, halts, stuck, and_then}
 use Rattle.pe_base.specs.Walk.Working.{no_tally}
-use Rattle.pe_base.specs.Walk.Examples.{Trial, trial_setting}
+use Rattle.walk_rows.specs.Trials.{Trial, trial_setting}
 use Rattle.pe_stacks.specs.Grid.{input_stack, cell_input_stack}
 use Rattle.pe_stacks.specs.Holdings.{Holdings, new_holdings}
 use Rattle.pe_walk.specs.Machine.{Machine, Ports, traverse}

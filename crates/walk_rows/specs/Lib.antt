@@ -2,5 +2,7 @@
 
 -- grids and streams
 pub mod Grids
+-- small rules of events, and traversals by address
+pub mod Trials
 -- traversals of the machine of lists
 pub mod Examples

@@ -1,6 +1,6 @@
 //! Worked rows of the walk on stacks, computed on the machine of lists.
 ghost use Rattle.std.specs.Prelude.{◌≡◌, [], ◌∷◌, ◌++◌, codes};
-ghost use Rattle.pe_base.specs.Walk.Examples.{in_plane, text_of, one_refined, nowhere};
+ghost use Rattle.walk_rows.specs.Trials.{in_plane, text_of, one_refined, nowhere};
 ghost use Rattle.walk_rows.specs.Examples.{twice, counts_of};
 
 // One vertex refined: 25 vertices and 36 cells are born in the second traversal.

@@ -1,0 +1,133 @@
+//! Worked rows of depots, and a caller that knows a depot by its bound alone.
+ghost use Rattle.std.specs.Prelude.{◌≡◌, ℕ, ◌+◌, ◌*◌, ◌^◌, ◌<◌, [], ◌∷◌, drop, true, false, IsSome};
+ghost use Rattle.std.specs.Option.{option_map};
+ghost use Rattle.pe_stacks.specs.declared.record.Vertex.{Vertex as AVertex};
+ghost use Rattle.pe_stacks.specs.Corners.{vertex_at, with_vertex};
+ghost use Rattle.pe_stacks.specs.Grid.{input_stack, cell_input_stack};
+ghost use Rattle.pe_stacks.specs.Holdings.{new_holdings, stack_count, stack_at, items_at, len_at, lent, popped, given_up, pushed};
+
+use pe_base::{Dim, Kind, State};
+use pe_stacks::{CellRec, Corners, Depot, Grid, Shown, VecDepot, Vertex};
+use std::test::Fail;
+
+// Gives up the top of a stack and puts a fresh record in its place, which never wants memory.
+fn replace_top<R, D: Depot<R>>(depot: &mut D, s: u8, r: R)
+    requires stack { s < stack_count (D.holds depot.old) }
+    requires full { 0 < len_at (D.holds depot.old) s }
+    requires fresh { (D.holds depot.old).fresh < 2 ^ 63 }
+    requires pushes { (stack_at (D.holds depot.old) s).pushes < 2 ^ 63 }
+    requires pops { (stack_at (D.holds depot.old) s).pops < 2 ^ 63 }
+    ensures calls { D.holds depot.new ≡ pushed (given_up (popped (lent (D.holds depot.old)) s)) s r }
+    ensures top { items_at (D.holds depot.new) s ≡ r ∷ drop 1 (items_at (D.holds depot.old) s) }
+    ensures spent { (D.holds depot.new).spent ≡ (D.holds depot.old).spent + 1 }
+{
+    let r = depot.lend(r);
+    let top = depot.pop(s);
+    depot.give_up(top);
+    match depot.push(s, r) {
+        Ok(()) => {}
+        Err(_) => unreachable!(),
+    }
+}
+
+// Changes the state of one corner, and nothing else.
+fn depart_at<P>(corners: &mut Corners<P>, k: u8, state: State)
+    requires { IsSome (vertex_at corners.old k) }
+    ensures { corners.new ≡ with_vertex corners.old k (option_map (λ (v : AVertex P). record v { state = state }) (vertex_at corners.old k)) }
+{
+    corners.at_mut(k).depart(state);
+}
+
+// Changes the state of one corner in its quad, and nothing else.
+fn depart_in_place<P>(corners: &mut Corners<P>, q: u8, state: State)
+    requires quad { 4 * q < 2 ^ corners.old.dim }
+    requires full { IsSome (vertex_at corners.old (4 * q + 3)) }
+    ensures { corners.new ≡ with_vertex corners.old (4 * q + 3) (option_map (λ (v : AVertex P). record v { state = state }) (vertex_at corners.old (4 * q + 3))) }
+{
+    let quad = corners.quad_mut(q);
+    match &mut quad.p3 {
+        Some(v) => v.depart(state),
+        None => unreachable!(),
+    }
+}
+
+#[test]
+fn a_depot_of_ten_stacks(rt: HostRuntime) -> Result<(), Fail> {
+    let alloc = rt.alloc();
+    let mut depot = VecDepot::new(alloc, 10)?;
+    let r = depot.lend(1);
+    assert!(rt; depot.push(8, r).is_ok());
+    assert_eq!(rt; depot.len(8), 1);
+    assert_eq!(rt; depot.out(), 0);
+    assert_eq!(rt; depot.most(), 1);
+    depot.reserve(8, 100)?;
+    assert!(rt; depot.spare(8) >= 100);
+    for n in 0..100 {
+        assert!(rt; depot.stacks() == 10 && depot.fresh() < 101 && depot.pushes(8) < 101);
+        let r = depot.lend(n);
+        assert!(rt; depot.spare(8) > 0);
+        depot.push_spare(8, r);
+    }
+    assert_eq!(rt; depot.stacks(), 10);
+    assert_eq!(rt; depot.len(8), 101);
+    assert_eq!(rt; depot.out(), 0);
+    depot.clear();
+    assert_eq!(rt; depot.stacks(), 10);
+    assert_eq!(rt; depot.len(8), 0);
+    assert_eq!(rt; depot.fresh(), 101);
+    assert_eq!(rt; depot.spent(), 101);
+    assert_eq!(rt; depot.pops(8), 0);
+    Ok(())
+}
+
+#[test]
+fn a_record_that_cannot_be_copied(rt: HostRuntime) -> Result<(), Fail> {
+    let alloc = rt.alloc();
+    let mut depot = VecDepot::new(alloc, 2)?;
+    let r = depot.lend(CellRec::new(Box::new(alloc, 3)?));
+    assert!(rt; depot.push(1, r).is_ok());
+    replace_top(&mut depot, 1, CellRec::new(Box::new(alloc, 4)?));
+    assert_eq!(rt; **depot.look(1, 0).payload(), 4);
+    assert_eq!(rt; depot.spent(), 1);
+    assert_eq!(rt; depot.pops(1), 1);
+    Ok(())
+}
+
+#[test]
+fn a_vertex_in_a_corner(rt: HostRuntime) -> Result<(), Fail> {
+    let dim = Dim::new(2).ok_or("a dimension")?;
+    let mut corners = Corners::empty(dim);
+    corners.put(3, Vertex::new(State::Unrefined, Kind::Kept, 5));
+    depart_at(&mut corners, 3, State::Unrefined);
+    depart_in_place(&mut corners, 0, State::Refined);
+    assert!(rt; corners.quad(0).p3.is_some());
+    *corners.at_mut(3).payload_mut() = 6;
+    assert!(rt; corners.at(3).is_old() && corners.at(3).is_new());
+    let mut v = corners.take(3);
+    corners.close();
+    v.erase();
+    assert_eq!(rt; v.state(), State::EraseTriggered);
+    v.arrive(Kind::Born, State::Unrefined);
+    v.refine(1, 2);
+    assert_eq!(rt; v.state(), State::RefinementTriggered);
+    assert_eq!(rt; v.kind(), Kind::Born);
+    assert_eq!(rt; *v.payload(), 6);
+    Ok(())
+}
+
+#[test]
+fn a_grid_is_handed_on(rt: HostRuntime) -> Result<(), Fail> {
+    let dim = Dim::new(3).ok_or("a dimension")?;
+    let mut grid = Grid::fresh(dim, 7);
+    *grid.root_mut().payload_mut() = 8;
+    let grid = grid.advanced();
+    assert_eq!(rt; (grid.dim(), grid.finished()), (dim, 1));
+    assert_eq!(rt; (grid.input(), grid.cell_input()), (9, 1));
+    assert_eq!(rt; *grid.root().payload(), 8);
+    let root = grid.close();
+    assert_eq!(rt; *root.payload(), 8);
+    let grid = Grid::resume(dim, 4, *root.payload());
+    assert_eq!(rt; (grid.input(), grid.cell_input()), (8, 0));
+    assert_eq!(rt; *grid.close().payload(), 8);
+    Ok(())
+}

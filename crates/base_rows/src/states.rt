@@ -1,0 +1,71 @@
+//! Worked rows of marks. A function without a body computes the definitions that its contract names.
+ghost use Rattle.std.specs.Prelude.{◌≡◌, [], ◌∷◌, map, true, false};
+ghost use Rattle.pe_base.specs.Tree.Places.{at, child_at, corner};
+ghost use Rattle.pe_base.specs.Tree.Curve.{digits_of};
+ghost use Rattle.pe_base.specs.Life.Carriers.{carriers};
+ghost use Rattle.pe_states.specs.Carriers.{carrier_numbers};
+ghost use Rattle.pe_states.specs.Marks.{is_first_old, is_first_new};
+
+use pe_base::{Digits, Dim, Kind, State};
+use pe_states::{Marks, carrier, first_touch, kind_of, last_touch, level_one, start_state};
+use std::test::Fail;
+
+// The corners of the child at the middle left of a cell of the plane, and of the child in the middle.
+fn carriers_in_the_plane()
+    ensures at_the_side { map (carrier_numbers 2 (digits_of (0 ∷ 1 ∷ []))) (0 ∷ 1 ∷ 2 ∷ 3 ∷ []) ≡ (0 ∷ 2 ∷ []) ∷ (0 ∷ 2 ∷ 1 ∷ 3 ∷ []) ∷ (0 ∷ 2 ∷ []) ∷ (0 ∷ 2 ∷ 1 ∷ 3 ∷ []) ∷ [] }
+    ensures inside { carrier_numbers 2 (digits_of (1 ∷ 1 ∷ [])) 0 ≡ 0 ∷ 2 ∷ 1 ∷ 3 ∷ [] }
+    ensures at_the_corner { carrier_numbers 2 (digits_of (2 ∷ 0 ∷ [])) 1 ≡ 1 ∷ [] }
+    ensures by_address { carriers (corner 2 (child_at (at 1 (1 ∷ 0 ∷ [])) (digits_of (2 ∷ 0 ∷ []))) 1) ≡ at 1 (2 ∷ 0 ∷ []) ∷ [] }
+    ensures first { is_first_old 2 (digits_of (0 ∷ 0 ∷ [])) 1 3 ≡ false }
+    ensures boundary { is_first_new 2 (digits_of (0 ∷ 0 ∷ [])) 1 ≡ false }
+{}
+
+#[test]
+fn the_definitions_give_the_rows() {
+    carriers_in_the_plane();
+}
+
+#[test]
+fn a_child_at_the_left(rt: HostRuntime) -> Result<(), Fail> {
+    let dim = Dim::new(2).ok_or("a dimension")?;
+    let digits = Digits { k: [0, 1, 0, 0] };
+    // The parent's corner 2 is old, and its corner 1 is new.
+    let parents = Marks::new(4, 2);
+    let child = parents.carried(dim, digits);
+    assert_eq!(rt; child, parents.row(dim, digits).of_row(dim, digits));
+    for corner in 0..4 {
+        assert_eq!(rt; child.at(corner), carrier(dim, digits, corner, 4, 2));
+    }
+    assert_eq!(rt; child.kind_at(0), Kind::Dying);
+    assert_eq!(rt; child.kind_at(1), Kind::Kept);
+    Ok(())
+}
+
+#[test]
+fn marks_one_by_one(rt: HostRuntime) {
+    let marks = Marks::new(0, 0).with(2, true, false).with(1, false, true);
+    assert_eq!(rt; marks, Marks::new(4, 2));
+    assert_eq!(rt; marks.any(), (true, true));
+}
+
+#[test]
+fn level_one_of_the_plane(rt: HostRuntime) -> Result<(), Fail> {
+    let dim = Dim::new(2).ok_or("a dimension")?;
+    let digits = Digits { k: [0, 2, 0, 0] };
+    assert_eq!(rt; level_one(dim, digits, 1, 1), (false, true));
+    assert_eq!(rt; level_one(dim, digits, 1, 2), (true, true));
+    assert_eq!(rt; Marks::level_one(dim, digits, 2).at(3), (false, false));
+    Ok(())
+}
+
+#[test]
+fn a_life(rt: HostRuntime) {
+    assert_eq!(rt; kind_of(false, true), Kind::Born);
+    assert_eq!(rt; start_state(1, 1, 2), State::Refining);
+    assert_eq!(rt; last_touch(State::Refining, Kind::Born), State::Refined);
+    assert_eq!(rt;
+        first_touch(State::EraseTriggered, Kind::Kept),
+        State::Erasing
+    );
+    assert_eq!(rt; first_touch(State::Refined, Kind::Dying), State::Erasing);
+}
