@@ -1,19 +1,18 @@
 -- What the mapping for tests does: the corner that it erases, and the events at which it does nothing.
-use Rattle.std.proofs.Common.{◌≡◌, ℕ, ℤ, List, [], ◌∷◌, Option, None, Some, refl, sym, ap, ◌∙◌}
+use Rattle.std.proofs.Common.{◌≡◌, ℕ, ℤ, List, [], ◌∷◌, Option, None, Some, refl, sym, ap}
 use Rattle.std.specs.Option.{option_map_or}
 use Rattle.pe_base.specs.declared.event.Event.{Event}
 use Rattle.pe_base.specs.declared.event.Event.TheVariants.{TouchVertexFirstTime, EnterCell}
-use Rattle.pe_base.specs.declared.event.Sort.{Sort}
 use Rattle.pe_base.specs.declared.event.Sort.TheVariants.{Vertex, Cell}
 use Rattle.pe_base.specs.Acts.Events.{sort_of}
 use Rattle.pe_base.specs.Acts.Effects.{Seen, Outcome}
 use Rattle.pe_base.specs.Life.States.{erased_state}
 use Rattle.pe_stacks.specs.declared.record.Vertex.{Vertex as Held_vertex}
-use Rattle.pe_stacks.specs.Corners.{CornerList, vertex_at, with_vertex, vertices_of}
+use Rattle.pe_stacks.specs.Corners.{CornerList, vertex_at, with_vertex}
 use Rattle.pe_mapping.specs.Sights.{seen_vertex, seen_corners}
-use Rattle.pe_mapping.specs.Held.{Held, Told, Adds, outcome_of}
+use Rattle.pe_mapping.specs.Held.{Held, outcome_of}
 use Rattle.pe_mapping.specs.Answers.{IsOutcome}
-use Rattle.ledger.specs.Effects.{effect_of, nothing_done, first_erased, ledger_rules}
+use Rattle.ledger.specs.Effects.{nothing_done, first_erased, ledger_rules}
 use Rattle.pe_mapping.proofs.Texts.{adds-nothing}
 
 -- a vertex that was asked to erase

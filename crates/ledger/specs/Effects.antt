@@ -1,11 +1,11 @@
 -- A mapping for tests. Its list counts the vertices that it makes. A first touch raises the vertex's number and asks it to
 -- refine; on entering a cell, the cell takes the list, and its first corner is asked to erase.
-use Rattle.std.specs.Prelude.{ℕ, ℤ, pos, negsuc, ◌+◌, ◌-◌, ◌^◌, min, Bool, true, false, ◌==◌, List, [], ◌∷◌, map, Option, Some, None, if◌then◌else◌}
-use Rattle.std.specs.Option.{option_map, option_map_or}
+use Rattle.std.specs.Prelude.{ℕ, ℤ, pos, negsuc, ◌+◌, ◌-◌, ◌^◌, min, Bool, false, ◌==◌, List, [], ◌∷◌, map, Option, Some, None, if◌then◌else◌}
+use Rattle.std.specs.Option.{option_map}
 use Rattle.pe_base.specs.declared.event.Event.{Event}
 use Rattle.pe_base.specs.declared.event.Event.TheVariants.{TouchVertexFirstTime, EnterCell}
 use Rattle.pe_base.specs.Life.States.{refined_state, erased_state}
-use Rattle.pe_base.specs.Acts.Effects.{VertexRecord, Seen, Outcome, Fault, Overflow, Fresh, Rules}
+use Rattle.pe_base.specs.Acts.Effects.{VertexRecord, Seen, Outcome, Fault, Overflow, Rules}
 
 -- the greatest number
 abbrev pub last_number : ℕ

@@ -1,13 +1,13 @@
 -- The mapping for tests is lawful.
-use Rattle.std.proofs.Common.{◌≡◌, ℕ, ℤ, ◌-◌, List, [], ◌∷◌, All, Bool, true, false, Option, Some, None, refl, inl, inr, arith}
+use Rattle.std.proofs.Common.{◌≡◌, ℕ, ℤ, ◌-◌, List, [], ◌∷◌, All, true, false, Option, Some, None, refl, inl, inr, arith}
 use Rattle.std.specs.Prelude.{pos, if◌then◌else◌}
 use Rattle.std.specs.Option.{option_map}
 use Rattle.std.proofs.lemmas.List.Elements.{All-cons}
 use Rattle.pe_base.specs.declared.event.Event.{Event}
 use Rattle.pe_base.specs.declared.event.Event.TheVariants.{TouchVertexFirstTime, EnterCell}
-use Rattle.pe_base.specs.Acts.Effects.{VertexRecord, Seen, Outcome, Fault, Overflow, AreTriggered, AreBoth, MayLeave, AreLawful}
-use Rattle.ledger.specs.Effects.{is_at_end, nothing_done, touched, touch, first_erased, entered, effect_of, ledger_rules}
-use Rattle.pe_mapping.proofs.Lawful.{triggered_same, all_triggered_same, any_triggered_same, both_same, leaves_same}
+use Rattle.pe_base.specs.Acts.Effects.{VertexRecord, Seen, Overflow, AreTriggered, AreBoth, MayLeave, AreLawful}
+use Rattle.ledger.specs.Effects.{is_at_end, nothing_done, touched, touch, first_erased, effect_of, ledger_rules}
+use Rattle.pe_mapping.proofs.Lawful.{all_triggered_same, any_triggered_same, both_same, leaves_same}
 
 touch-lawful : (greatest : ℕ) (list : List ℤ) (seen : Seen) (vertex : Option VertexRecord) → seen.vertex ≡ vertex → MayLeave greatest seen (touch greatest list seen vertex).seen
 touch-lawful greatest list seen None is = leaves_same greatest seen

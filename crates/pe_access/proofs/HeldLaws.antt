@@ -12,7 +12,7 @@ use Rattle.pe_base.specs.Tree.Places.{IsCellPlace, padded, at, is_same, is_same_
 use Rattle.pe_base.specs.Tree.Curve.{order}
 use Rattle.pe_base.specs.Steps.Around.{threes}
 use Rattle.pe_base.specs.Steps.Routes.{way_turns}
-use Rattle.pe_base.specs.Steps.Neighbours.{is_place}
+use Rattle.pe_access.specs.Neighbours.{is_place}
 use Rattle.pe_base.proofs.Steps.RouteLaws.{Below, Below-front, length-front, at-front}
 use Rattle.pe_base.proofs.Steps.Spans.{parents}
 use Rattle.pe_base.proofs.Steps.Levels.{cells}

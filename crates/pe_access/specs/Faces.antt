@@ -3,7 +3,7 @@ use Rattle.std.specs.Prelude.{ℕ, ◌%◌, ◌==◌, if◌then◌else◌, Optio
 use Rattle.pe_base.specs.declared.place.Place.{Place}
 use Rattle.pe_base.specs.declared.way.Way.{Way}
 use Rattle.pe_access.specs.Extents.{Face, Relation, Earlier, Later, Outside, Extent}
-use Rattle.pe_base.specs.Steps.Neighbours.{neighbour, comes_first, face_level}
+use Rattle.pe_access.specs.Neighbours.{neighbour, comes_first, face_level}
 
 -- when a neighbour comes
 abbrev pub relation_to : ℕ → Way → Place → Option Place → Relation

@@ -4,6 +4,8 @@
 pub mod Extents
 -- the numbers of faces
 pub mod Numbers
+-- which of two cells at a face comes first, and on which level the face appears
+pub mod Neighbours
 -- what a state holds of each face, by the order of the walk
 pub mod Faces
 -- what a state is of a cell

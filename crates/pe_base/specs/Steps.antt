@@ -4,8 +4,6 @@
 pub mod Around
 -- the steps around a vertex, the axis that each crosses, and the stack on which the vertex waits meanwhile
 pub mod Routes
--- which of two cells at a face comes first, and on which level the face appears
-pub mod Neighbours
 -- faces of cells, loads and stores, what arrives in a cell at a face and what it leaves there
 pub mod Faces
 -- the corners of a cell by the stacks on which they come and go

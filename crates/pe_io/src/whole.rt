@@ -25,8 +25,9 @@ fn again(e: Error) -> io::Result<()>
     }
 }
 
-/// What a reader has left, where that is no more than `limit`. A read that is interrupted is asked again; an
-/// `Err` is the reader's, or that of an endless row of interruptions.
+/// Reads what a reader has left: `Got::Whole` where that is at most `limit` bytes, `Got::Longer` where it is more, and
+/// `Got::Memory` where there is no memory for it. A read that is interrupted is asked again. An `Err` is the
+/// reader's, or that of an endless row of interruptions; what was read until then is dropped.
 pub fn read_whole<F: Read>(alloc: Global, file: &mut F, limit: u64) -> io::Result<Got>
     ensures limit { IfOk result (IsWithinLimit limit) }
     ensures read { IfOk result IsRead }

@@ -1,5 +1,5 @@
 -- Events that meet the law of effects, for those who write a mapping.
-use Rattle.std.proofs.Common.{◌≡◌, ℕ, ℤ, ◌-◌, List, [], ◌∷◌, Option, Some, None, refl, subst, inl, inr}
+use Rattle.std.proofs.Common.{◌≡◌, ℕ, ℤ, ◌-◌, List, [], ◌∷◌, Option, Some, None, refl, subst, inl}
 use Rattle.pe_base.specs.declared.event.Event.{Event}
 use Rattle.pe_base.specs.Acts.Effects.{VertexRecord, Seen, Rules, IsTriggered, AreTriggered, IsTriggeredIfAny, AreBoth, MayLeave, AreLawful}
 

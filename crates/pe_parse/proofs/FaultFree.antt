@@ -5,7 +5,7 @@ use Rattle.pe_parse.specs.declared.fault.ParseFault.TheVariants.{Syntax}
 use Rattle.pe_parse.specs.Lexemes.{Lexeme, lexemes_of}
 use Rattle.pe_parse.specs.Frames.{Frame, Sequence, step, ends}
 use Rattle.pe_parse.specs.Faults.{passed_limit, or_fault, at_token, fault_from}
-use Rattle.pe_parse.specs.Trees.{Tree, AreSpelled}
+use Rattle.pe_parse.specs.Trees.{AreSpelled}
 use Rattle.pe_parse.proofs.Accepts.{accepts, on_step}
 use Rattle.pe_parse.proofs.Completes.{accepted_body}
 

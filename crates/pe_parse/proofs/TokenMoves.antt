@@ -181,9 +181,6 @@ refuse_is Refuses h = refl
 refuse_is (Takes g) h = absurd (cc)
 refuse_is Skips h = absurd (cc)
 
-later_or : (size : ℕ) (fs : List Frame) (x : Lexeme) (rest : List Lexeme) → at_token (step fs x.kind) x (λ gs. fault_from size gs rest) ≡ fault_from size fs (x ∷ rest)
-later_or size fs x rest = refl
-
 skipped_on : (size : ℕ) (xs : List Lexeme) (f : Frame) (at : ℕ) (fs : List Frame) (o : Option Lexeme) → slice_get xs at ≡ o → skips f (kind_in o) ≡ true → fault_from size (f ∷ fs) (drop at xs) ≡ fault_from size fs (drop at xs)
 skipped_on size xs f at fs None e h =
     ap (fault_from size (f ∷ fs)) (at_none xs at e) ∙ ap (λ (b : Bool). cond (b && ends fs) None (Some (Syntax size))) h ∙ ap (fault_from size fs) (sym (at_none xs at e))

@@ -1,5 +1,5 @@
 -- The mapping that follows a plan is lawful.
-use Rattle.std.proofs.Common.{◌≡◌, ℕ, ℤ, pos, ◌-◌, List, [], ◌∷◌, All, Bool, true, false, ◌==◌, Option, Some, None, refl, inl, inr, arith}
+use Rattle.std.proofs.Common.{◌≡◌, ℕ, pos, ◌-◌, [], ◌∷◌, All, true, false, ◌==◌, Option, Some, None, refl, inl, inr, arith}
 use Rattle.std.specs.Prelude.{if◌then◌else◌}
 use Rattle.std.specs.Option.{option_map}
 use Rattle.std.proofs.lemmas.List.Elements.{All-cons}

@@ -248,9 +248,6 @@ pub record HasPut (axes greatest : ℕ) (o : Outlook) (parent : Place) (it : Fam
   pub idle : (k : ℕ) → k < 2 ^ axes → IsIdle (record_at axes w parent k) → IsIdle (record_at axes after parent k)
 
 module _ (axes greatest : ℕ) (o : Outlook) (parent : Place) (family : Family) (w before : Working) (t : Tokens) (puts : PutsBack axes greatest o parent family w before t) where
-  after_put : Working
-  after_put = put_family axes parent family before
-
   pub put_count : length family.parents ≡ 2 ^ axes
   put_count = length-alike greatest parent.level (records_of axes w parent) family.parents puts.alike ∙ length-map-range_with_len (record_at axes w parent) 0 (2 ^ axes)
 

@@ -26,9 +26,9 @@ use Rattle.pe_stacks.specs.Grid.{input_stack, cell_input_stack}
 use Rattle.pe_base.specs.Walk.Streams.{stream_vertices, stream_cells}
 use Rattle.pe_hang.specs.InHand.{map_holdings}
 use Rattle.pe_hang.specs.Follows.{is_fit, Fits}
-use Rattle.pe_walk.specs.Machine.{Machine, Ports, with_parents}
+use Rattle.pe_walk.specs.Machine.{Machine, with_parents}
 use Rattle.pe_walk.specs.Machine as machine
-use Rattle.pe_walk.specs.Tokens.{Outlook, Tokens, begun, ended, numbers, each_some, lent_for}
+use Rattle.pe_walk.specs.Tokens.{Tokens, ended, numbers, each_some, lent_for}
 use Rattle.pe_walk.specs.Tokens as tokens
 use Rattle.pe_walk.specs.Takings.{HasTraversed}
 use Rattle.pe_walk.specs.Outlooks.{outlook}

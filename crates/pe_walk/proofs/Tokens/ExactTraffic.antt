@@ -86,13 +86,6 @@ module _ (o : Outlook) (walked : Place → Bool) (greatest : ℕ) (dim : IsDim o
   own_hung : count_by (is_hung o) (reverse (corner_touches o.axes root)) ≡ 2 ^ o.axes
   own_hung = count_all (is_hung o) own (Each-weaker (λ t. o.counts t.vertex ≡ false) _ (λ t c. ap not c) own (root_corners o walked greatest dim grown)) ∙ length-reverse (corner_touches o.axes root) ∙ corners_of o.axes root
 
-  -- hanging vertices are stored as often as they are loaded
-  deep_hung : count_by (is_hung o) (flat_map (stores_of o (greatest - 1)) (children o.axes o.way root)) ≡ count_by (is_hung o) (flat_map (loads_of o (greatest - 1)) (children o.axes o.way root))
-  deep_hung =
-      count-flat_map (is_hung o) (stores_of o (greatest - 1)) kids
-      ∙ sum-same (λ c. count_by (is_hung o) (stores_of o (greatest - 1) c)) (λ c. count_by (is_hung o) (loads_of o (greatest - 1) c)) kids (Each-all _ (stores-loads o (λ v. not (o.counts v)) (greatest - 1)) kids)
-      ∙ sym (count-flat_map (is_hung o) (loads_of o (greatest - 1)) kids)
-
   -- the cells that are left are those that were entered
   pub deep_left : (p : Place → Bool) → count_by p (departed_cells o greatest) ≡ count_by p (entered_cells o greatest)
   deep_left p =

@@ -12,7 +12,7 @@ use Rattle.pe_base.specs.Walk.Touches as model
 use Rattle.pe_walk.specs.Laws.{IsCell}
 use Rattle.pe_walk.specs.Machine.{Machine}
 use Rattle.pe_walk.specs.Machine as machine
-use Rattle.pe_walk.specs.Tokens.{Tokens, each_some}
+use Rattle.pe_walk.specs.Tokens.{each_some}
 use Rattle.pe_walk.specs.Tokens as tokens
 use Rattle.pe_walk.specs.Standing.{Outset, Stage, Holds, IsStage}
 use Rattle.pe_walk.proofs.Simulation.Matching.{Sim, Alike, sim-nothing, sim-then, sim-alike, turned-then}

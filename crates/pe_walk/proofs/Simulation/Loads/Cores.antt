@@ -14,7 +14,7 @@ use Rattle.pe_base.specs.Acts.Effects.{VertexRecord}
 use Rattle.pe_base.specs.Walk.Course.{Push, Course, at_once, course_map}
 use Rattle.pe_base.specs.Walk.Core.{Setting, way, Family, read_vertex, load_touch}
 use Rattle.pe_base.specs.Walk.Working.{Working, vertex_at, cell_at, loads_of, family_of}
-use Rattle.pe_base.specs.Walk.Touches.{tally_load, kind_of_vertex, after_load}
+use Rattle.pe_base.specs.Walk.Touches.{tally_load, after_load}
 use Rattle.pe_base.specs.Walk.Touches as model
 use Rattle.pe_stacks.specs.Holdings.{stack_at}
 use Rattle.pe_stacks.specs.Grid.{input_stack}

@@ -14,7 +14,7 @@ use Rattle.pe_base.specs.Walk.Maps.{at}
 use Rattle.pe_base.specs.Walk.Course.{Course, done, and_then}
 use Rattle.pe_base.specs.Walk.Core.{Setting, Family, Own, plain_event, enter_touch, leave_touch}
 use Rattle.pe_base.specs.Walk.Working.{Working, no_vertex, cell_at, records_of, family_of, own_of, record_at, put_family, put_own, put_cell}
-use Rattle.pe_base.specs.Walk.Touches.{tally_load, tally_store, tally_cell, within_limit, put_loaded, put_stored, after_cell, put_left}
+use Rattle.pe_base.specs.Walk.Touches.{tally_load, tally_store, tally_cell, within_limit, put_loaded, after_cell, put_left}
 use Rattle.pe_base.specs.Walk.Touches as model
 use Rattle.pe_base.specs.Walk.Walk as walks
 use Rattle.pe_base.proofs.Walk.Courses.{done_same, mapped-done, then-done}

@@ -22,7 +22,7 @@ use Rattle.pe_base.specs.Steps.Stacks.{is_stack}
 use Rattle.pe_base.proofs.Tree.Ranks.{same_places}
 use Rattle.pe_walk.specs.Machine.{Machine, cell_comes}
 use Rattle.pe_walk.specs.Machine as machine
-use Rattle.pe_walk.specs.Tokens.{Outlook, Tokens, given, taken, cell_source, is_top}
+use Rattle.pe_walk.specs.Tokens.{Tokens, given, taken, cell_source, is_top}
 use Rattle.pe_walk.specs.Tokens as tokens
 use Rattle.pe_walk.specs.CoreKeeps.{AreAlike, KeepsParents}
 use Rattle.pe_walk.specs.CellsAhead.{CellsAhead}
@@ -137,12 +137,6 @@ module _ {Plan : Type 0} (set : Setting Plan) (e : Outset) (walked : Place → B
 
   same_vertices : t'.vertices ≡ t.vertices
   same_vertices = sym (ap (λ (x : Tokens). x.vertices) took.2)
-
-  same_held : t'.held ≡ t.held
-  same_held = sym (ap (λ (x : Tokens). x.held) took.2)
-
-  same_met : t'.met ≡ t.met
-  same_met = sym (ap (λ (x : Tokens). x.met) took.2)
 
   took_counts : Took (cell_source e.outlook st.cell) t.cells t'.cells
   took_counts = subst (λ c. Took (cell_source e.outlook st.cell) t.cells c) (ap (λ (x : Tokens). x.cells) took.2) (take_counts (cell_source e.outlook st.cell) st.cell t.cells took.0 took.1)

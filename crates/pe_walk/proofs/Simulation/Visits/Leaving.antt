@@ -24,9 +24,9 @@ use Rattle.pe_stacks.specs.Holdings.{Holdings, stack_count, stack_at, items_at, 
 use Rattle.pe_stacks.specs.Grid.{cell_input_stack, cell_output_stack}
 use Rattle.pe_hang.specs.InHand.{map_holdings}
 use Rattle.pe_hang.specs.Moves.{give_up, push}
-use Rattle.pe_walk.specs.Machine.{Machine, cell_goes, kind_of_cell}
+use Rattle.pe_walk.specs.Machine.{Machine, cell_goes}
 use Rattle.pe_walk.specs.Machine as machine
-use Rattle.pe_walk.specs.Tokens.{Outlook, Tokens, given, put, cell_target}
+use Rattle.pe_walk.specs.Tokens.{Tokens, given, put, cell_target}
 use Rattle.pe_walk.specs.Tokens as tokens
 use Rattle.pe_walk.specs.CoreKeeps.{AreAlike, KeepsParents}
 use Rattle.pe_walk.specs.CellsAhead.{CellsAhead}

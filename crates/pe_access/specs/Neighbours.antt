@@ -1,5 +1,5 @@
--- Faces of cells. Along each axis a cell has two: side 0 at its near end, where the coordinate is its position, and
--- side 1 at its far end, one further.
+-- The neighbours of a cell. Along each axis a cell has two faces: side 0 at its near end, where the coordinate is its
+-- position, and side 1 at its far end, one further.
 use Rattle.std.specs.Prelude.{ℕ, ◌+◌, ◌-◌, ◌^◌, Bool, false, ◌||◌, ◌==◌, if◌then◌else◌, Option, Some, None, find, slice_index, slice_set}
 use Rattle.pe_base.specs.declared.place.Place.{Place}
 use Rattle.pe_base.specs.declared.way.Way.{Way}
