@@ -167,7 +167,9 @@ fn erasure(rt: HostRuntime) -> Result<(), Fail> {
                 traversals = 6\n\
                 \n\
                 [events]\n\
-                touch_vertex_first_time = \"if t == 1 && level == 1 && x0 == 1 && x1 == 1 { refine v; } if t == 2 && level == 2 && x0 == 3 && x1 == 3 { refine v; } if t == 4 && level == 1 && x0 == 1 && x1 == 1 { erase v; }\"\n",
+                touch_vertex_first_time = \"if t == 1 && level == 1 && x0 == 1 && x1 == 1 { refine v; } \
+                    if t == 2 && level == 2 && x0 == 3 && x1 == 3 { refine v; } \
+                    if t == 4 && level == 1 && x0 == 1 && x1 == 1 { erase v; }\"\n",
             "\
                 traversal 1 forward cells 9 in 0 out 4 created 4 destroyed 0 hanging 20\n\
                 traversal 2 inverted cells 45 in 4 out 29 created 25 destroyed 0 hanging 64\n\
@@ -190,7 +192,10 @@ fn erasure(rt: HostRuntime) -> Result<(), Fail> {
                 \n\
                 [events]\n\
                 begin_iteration = \"if t <= 6 { global.line = 1; } else { global.line = 2; }\"\n\
-                touch_vertex_first_time = \"if level == 1 { global.w = 1; } if level == 2 { global.w = 3; } if level == 3 { global.w = 9; } if level == 4 { global.w = 27; } if level == 5 { global.w = 81; } if x0 == global.line * global.w { refine v; } else { erase v; }\"\n",
+                touch_vertex_first_time = \"if level == 1 { global.w = 1; } if level == 2 { global.w = 3; } \
+                    if level == 3 { global.w = 9; } if level == 4 { global.w = 27; } \
+                    if level == 5 { global.w = 81; } \
+                    if x0 == global.line * global.w { refine v; } else { erase v; }\"\n",
             "\
                 traversal 1 forward cells 9 in 0 out 4 created 4 destroyed 0 hanging 20\n\
                 traversal 2 inverted cells 63 in 4 out 44 created 40 destroyed 0 hanging 76\n\
