@@ -57,9 +57,9 @@ fn a_depot_of_ten_stacks(rt: HostRuntime) -> Result<(), Fail> {
     let mut depot = VecDepot::new(alloc, 10)?;
     let r = depot.lend(1);
     assert!(rt; depot.push(8, r).is_ok());
-    assert_eq!(rt; depot.len(8), 1);
-    assert_eq!(rt; depot.out(), 0);
-    assert_eq!(rt; depot.most(), 1);
+    assert!(rt; depot.len(8) == 1);
+    assert!(rt; depot.out() == 0);
+    assert!(rt; depot.most() == 1);
     depot.reserve(8, 100)?;
     assert!(rt; depot.spare(8) >= 100);
     for n in 0..100 {
@@ -68,15 +68,15 @@ fn a_depot_of_ten_stacks(rt: HostRuntime) -> Result<(), Fail> {
         assert!(rt; depot.spare(8) > 0);
         depot.push_spare(8, r);
     }
-    assert_eq!(rt; depot.stacks(), 10);
-    assert_eq!(rt; depot.len(8), 101);
-    assert_eq!(rt; depot.out(), 0);
+    assert!(rt; depot.stacks() == 10);
+    assert!(rt; depot.len(8) == 101);
+    assert!(rt; depot.out() == 0);
     depot.clear();
-    assert_eq!(rt; depot.stacks(), 10);
-    assert_eq!(rt; depot.len(8), 0);
-    assert_eq!(rt; depot.fresh(), 101);
-    assert_eq!(rt; depot.spent(), 101);
-    assert_eq!(rt; depot.pops(8), 0);
+    assert!(rt; depot.stacks() == 10);
+    assert!(rt; depot.len(8) == 0);
+    assert!(rt; depot.fresh() == 101);
+    assert!(rt; depot.spent() == 101);
+    assert!(rt; depot.pops(8) == 0);
     Ok(())
 }
 
@@ -87,9 +87,9 @@ fn a_record_that_cannot_be_copied(rt: HostRuntime) -> Result<(), Fail> {
     let r = depot.lend(CellRec::new(Box::new(alloc, 3)?));
     assert!(rt; depot.push(1, r).is_ok());
     replace_top(&mut depot, 1, CellRec::new(Box::new(alloc, 4)?));
-    assert_eq!(rt; **depot.look(1, 0).payload(), 4);
-    assert_eq!(rt; depot.spent(), 1);
-    assert_eq!(rt; depot.pops(1), 1);
+    assert!(rt; **depot.look(1, 0).payload() == 4);
+    assert!(rt; depot.spent() == 1);
+    assert!(rt; depot.pops(1) == 1);
     Ok(())
 }
 
@@ -106,12 +106,12 @@ fn a_vertex_in_a_corner(rt: HostRuntime) -> Result<(), Fail> {
     let mut v = corners.take(3);
     corners.close();
     v.erase();
-    assert_eq!(rt; v.state(), State::EraseTriggered);
+    assert!(rt; v.state() == State::EraseTriggered);
     v.arrive(Kind::Born, State::Unrefined);
     v.refine(1, 2);
-    assert_eq!(rt; v.state(), State::RefinementTriggered);
-    assert_eq!(rt; v.kind(), Kind::Born);
-    assert_eq!(rt; *v.payload(), 6);
+    assert!(rt; v.state() == State::RefinementTriggered);
+    assert!(rt; v.kind() == Kind::Born);
+    assert!(rt; *v.payload() == 6);
     Ok(())
 }
 
@@ -121,13 +121,13 @@ fn a_grid_is_handed_on(rt: HostRuntime) -> Result<(), Fail> {
     let mut grid = Grid::fresh(dim, 7);
     *grid.root_mut().payload_mut() = 8;
     let grid = grid.advanced();
-    assert_eq!(rt; (grid.dim(), grid.finished()), (dim, 1));
-    assert_eq!(rt; (grid.input(), grid.cell_input()), (9, 1));
-    assert_eq!(rt; *grid.root().payload(), 8);
+    assert!(rt; (grid.dim(), grid.finished()) == (dim, 1));
+    assert!(rt; (grid.input(), grid.cell_input()) == (9, 1));
+    assert!(rt; *grid.root().payload() == 8);
     let root = grid.close();
-    assert_eq!(rt; *root.payload(), 8);
+    assert!(rt; *root.payload() == 8);
     let grid = Grid::resume(dim, 4, *root.payload());
-    assert_eq!(rt; (grid.input(), grid.cell_input()), (8, 0));
-    assert_eq!(rt; *grid.close().payload(), 8);
+    assert!(rt; (grid.input(), grid.cell_input()) == (8, 0));
+    assert!(rt; *grid.close().payload() == 8);
     Ok(())
 }

@@ -43,8 +43,8 @@ fn the_middle_cell_of_the_plane(rt: HostRuntime) -> Result<(), Fail> {
     ];
     for corner in 0..4 {
         let (route_in, route_out) = rows[corner as usize];
-        assert_eq!(rt; middle.route_in(corner), route_in);
-        assert_eq!(rt; middle.route_out(corner), route_out);
+        assert!(rt; middle.route_in(corner) == route_in);
+        assert!(rt; middle.route_out(corner) == route_out);
     }
     Ok(())
 }
@@ -58,10 +58,10 @@ fn a_row_of_children(rt: HostRuntime) -> Result<(), Fail> {
     let turns = root.row_turns(2, Digits { k: [1, 0, 0, 0] });
     root.step(2, &mut child, &mut row, turns, Digits { k: [1, 1, 0, 0] });
     // The middle cell takes corner 3 from the stack of axis 1 and hands it to that of axis 0.
-    assert_eq!(rt; child.coming_in(&row, 3), 8 + 2);
-    assert_eq!(rt; child.going_in(&row, 3), 8);
-    assert_eq!(rt; child.coming(3), 8 + 2);
-    assert_eq!(rt; child.going(3), 8);
+    assert!(rt; child.coming_in(&row, 3) == 8 + 2);
+    assert!(rt; child.going_in(&row, 3) == 8);
+    assert!(rt; child.coming(3) == 8 + 2);
+    assert!(rt; child.going(3) == 8);
     Ok(())
 }
 
@@ -171,10 +171,7 @@ fn each_vertex_is_found_where_it_was_put(rt: HostRuntime) -> Result<(), Fail> {
             let mut table = [UNTOUCHED; 256];
             let root = CellState::root(dim, way);
             assert!(rt; walk(dim, way, &root, &[0; 4], 1, levels, &mut table));
-            assert_eq!(rt;
-                table.iter().filter(|place| **place == DONE).count(),
-                vertices
-            );
+            assert!(rt; table.iter().filter(|place| **place == DONE).count() == vertices);
         }
     }
     Ok(())

@@ -32,40 +32,37 @@ fn a_child_at_the_left(rt: HostRuntime) -> Result<(), Fail> {
     // The parent's corner 2 is old, and its corner 1 is new.
     let parents = Marks::new(4, 2);
     let child = parents.carried(dim, digits);
-    assert_eq!(rt; child, parents.row(dim, digits).of_row(dim, digits));
+    assert!(rt; child == parents.row(dim, digits).of_row(dim, digits));
     for corner in 0..4 {
-        assert_eq!(rt; child.at(corner), carrier(dim, digits, corner, 4, 2));
+        assert!(rt; child.at(corner) == carrier(dim, digits, corner, 4, 2));
     }
-    assert_eq!(rt; child.kind_at(0), Kind::Dying);
-    assert_eq!(rt; child.kind_at(1), Kind::Kept);
+    assert!(rt; child.kind_at(0) == Kind::Dying);
+    assert!(rt; child.kind_at(1) == Kind::Kept);
     Ok(())
 }
 
 #[test]
 fn marks_one_by_one(rt: HostRuntime) {
     let marks = Marks::new(0, 0).with(2, true, false).with(1, false, true);
-    assert_eq!(rt; marks, Marks::new(4, 2));
-    assert_eq!(rt; marks.any(), (true, true));
+    assert!(rt; marks == Marks::new(4, 2));
+    assert!(rt; marks.any() == (true, true));
 }
 
 #[test]
 fn level_one_of_the_plane(rt: HostRuntime) -> Result<(), Fail> {
     let dim = Dim::new(2).ok_or("a dimension")?;
     let digits = Digits { k: [0, 2, 0, 0] };
-    assert_eq!(rt; level_one(dim, digits, 1, 1), (false, true));
-    assert_eq!(rt; level_one(dim, digits, 1, 2), (true, true));
-    assert_eq!(rt; Marks::level_one(dim, digits, 2).at(3), (false, false));
+    assert!(rt; level_one(dim, digits, 1, 1) == (false, true));
+    assert!(rt; level_one(dim, digits, 1, 2) == (true, true));
+    assert!(rt; Marks::level_one(dim, digits, 2).at(3) == (false, false));
     Ok(())
 }
 
 #[test]
 fn a_life(rt: HostRuntime) {
-    assert_eq!(rt; kind_of(false, true), Kind::Born);
-    assert_eq!(rt; start_state(1, 1, 2), State::Refining);
-    assert_eq!(rt; last_touch(State::Refining, Kind::Born), State::Refined);
-    assert_eq!(rt;
-        first_touch(State::EraseTriggered, Kind::Kept),
-        State::Erasing
-    );
-    assert_eq!(rt; first_touch(State::Refined, Kind::Dying), State::Erasing);
+    assert!(rt; kind_of(false, true) == Kind::Born);
+    assert!(rt; start_state(1, 1, 2) == State::Refining);
+    assert!(rt; last_touch(State::Refining, Kind::Born) == State::Refined);
+    assert!(rt; first_touch(State::EraseTriggered, Kind::Kept) == State::Erasing);
+    assert!(rt; first_touch(State::Refined, Kind::Dying) == State::Erasing);
 }

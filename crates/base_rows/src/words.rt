@@ -56,25 +56,22 @@ fn the_definitions_give_the_rows() {
 
 #[test]
 fn the_calls_answer(rt: HostRuntime) -> Result<(), Fail> {
-    assert_eq!(rt; Dim::new(1), None);
-    assert_eq!(rt; Dim::new(5), None);
+    assert!(rt; Dim::new(1) == None);
+    assert!(rt; Dim::new(5) == None);
     for (n, corners, parts) in [(2, 4, 9), (3, 8, 27), (4, 16, 81)] {
         let dim = Dim::new(n).ok_or("a dimension")?;
-        assert_eq!(rt; dim.axes(), n);
-        assert_eq!(rt; dim.corners(), corners);
-        assert_eq!(rt; dim.parts(), parts);
+        assert!(rt; dim.axes() == n);
+        assert!(rt; dim.corners() == corners);
+        assert!(rt; dim.parts() == parts);
     }
-    assert_eq!(rt; Way::of(1), Way::Forward);
-    assert_eq!(rt; Way::of(2), Way::Inverted);
-    assert_eq!(rt; Event::of_name("enter_cell"), Some(Event::EnterCell));
-    assert_eq!(rt; Event::of_name("enter"), None);
-    assert_eq!(rt; Event::DestroyCell.name(), "destroy_cell");
-    assert_eq!(rt; Event::CreateHangingVertex.sort(), Sort::Vertex);
+    assert!(rt; Way::of(1) == Way::Forward);
+    assert!(rt; Way::of(2) == Way::Inverted);
+    assert!(rt; Event::of_name("enter_cell") == Some(Event::EnterCell));
+    assert!(rt; Event::of_name("enter") == None);
+    assert!(rt; Event::DestroyCell.name() == "destroy_cell");
+    assert!(rt; Event::CreateHangingVertex.sort() == Sort::Vertex);
     let alloc = rt.alloc();
-    assert_eq!(rt; Text::new("form".to_string(alloc)?).as_str(), "form");
-    assert_eq!(rt;
-        List::new(vec![in alloc; 1, 2]?).as_slice(),
-        [1, 2].as_slice()
-    );
+    assert!(rt; Text::new("form".to_string(alloc)?).as_str() == "form");
+    assert!(rt; List::new(vec![in alloc; 1, 2]?).as_slice() == [1, 2].as_slice());
     Ok(())
 }

@@ -51,7 +51,7 @@ fn a_shelf_in_memory(rt: HostRuntime) -> Result<(), Fail> {
     assert!(rt; is_whole(&shelf.get("b", 0), b""));
     assert!(rt; matches!(&shelf.get("c", 5), Got::Absent));
     assert!(rt; shelf.held("c").is_none());
-    assert_eq!(rt; shelf.held("a").ok_or("held")?.len(), 5);
+    assert!(rt; shelf.held("a").ok_or("held")?.len() == 5);
     Ok(())
 }
 
@@ -60,13 +60,10 @@ fn puts_in_memory(rt: HostRuntime) -> Result<(), Fail> {
     let alloc = rt.alloc();
     let mut shelf = MemShelf::new(alloc, &[2, 4])?;
     shelf.add(alloc, "b", b"stays")?;
-    assert_eq!(rt; shelf.put("a", b"first".to_vec(alloc)?), Ok(()));
-    assert_eq!(rt;
-        shelf.put("a", b"second".to_vec(alloc)?),
-        Err(PutFault::Failed)
-    );
+    assert!(rt; shelf.put("a", b"first".to_vec(alloc)?) == Ok(()));
+    assert!(rt; shelf.put("a", b"second".to_vec(alloc)?) == Err(PutFault::Failed));
     assert!(rt; is_held(shelf.held("a"), b"first"));
-    assert_eq!(rt; shelf.put("a", b"third".to_vec(alloc)?), Ok(()));
+    assert!(rt; shelf.put("a", b"third".to_vec(alloc)?) == Ok(()));
     assert!(rt; matches!(&shelf.get("a", 9), Got::Failed));
     assert!(rt; is_whole(&shelf.get("a", 9), b"third"));
     assert!(rt; is_held(shelf.held("b"), b"stays"));
@@ -79,7 +76,7 @@ fn sure_twins(rt: HostRuntime) -> Result<(), Fail> {
     let mut shelf = SureShelf::new(alloc)?;
     shelf.add(alloc, "a", b"first")?;
     assert!(rt; matches!(&shelf.get("a", 4), Got::Longer));
-    assert_eq!(rt; shelf.put("b", b"second".to_vec(alloc)?), Ok(()));
+    assert!(rt; shelf.put("b", b"second".to_vec(alloc)?) == Ok(()));
     assert!(rt; is_whole(&shelf.get("b", 6), b"second"));
     assert!(rt; is_held(shelf.held("a"), b"first"));
     assert!(rt; matches!(&shelf.get("c", 4), Got::Absent));
@@ -92,13 +89,12 @@ fn sure_twins(rt: HostRuntime) -> Result<(), Fail> {
 fn a_sink_in_memory(rt: HostRuntime) -> Result<(), Fail> {
     let mut sink = MemSink::new(rt.alloc(), 56, &[2])?;
     print_cells(&mut sink, u64::MAX, i64::MIN)?;
-    assert_eq!(rt; print_cells(&mut sink, 9, -1), Err(SinkFailed));
+    assert!(rt; print_cells(&mut sink, 9, -1) == Err(SinkFailed));
     sink.write(b"")?;
-    assert_eq!(rt; sink.write(b"too long"), Err(SinkFailed));
+    assert!(rt; sink.write(b"too long") == Err(SinkFailed));
     sink.write(b"ok\n")?;
-    assert_eq!(rt;
-        sink.text(),
-        b"cells 18446744073709551615 at -9223372036854775808\nok\n".as_slice()
+    assert!(rt;
+        sink.text() == b"cells 18446744073709551615 at -9223372036854775808\nok\n".as_slice()
     );
     Ok(())
 }
@@ -108,19 +104,13 @@ fn the_edges(rt: HostRuntime) -> Result<(), Fail> {
     let alloc = rt.alloc();
     let path = format!(in alloc; "/tmp/pe_io_{}", process::id(rt.process()))?;
     let mut shelf = FileShelf::new(alloc, &rt);
-    assert_eq!(rt;
-        shelf.put(path.as_str(), b"longer than three".to_vec(alloc)?),
-        Ok(())
-    );
-    assert_eq!(rt; shelf.put(path.as_str(), b"three".to_vec(alloc)?), Ok(()));
+    assert!(rt; shelf.put(path.as_str(), b"longer than three".to_vec(alloc)?) == Ok(()));
+    assert!(rt; shelf.put(path.as_str(), b"three".to_vec(alloc)?) == Ok(()));
     assert!(rt; is_whole(&shelf.get(path.as_str(), 5), b"three"));
     assert!(rt; matches!(&shelf.get(path.as_str(), 4), Got::Longer));
     fs::remove_file(&rt, path.as_str())?;
     assert!(rt; matches!(&shelf.get(path.as_str(), 5), Got::Failed));
-    assert_eq!(rt;
-        shelf.put("/", b"three".to_vec(alloc)?),
-        Err(PutFault::Failed)
-    );
+    assert!(rt; shelf.put("/", b"three".to_vec(alloc)?) == Err(PutFault::Failed));
     let mut sink = StdSink::new(io::writer(&rt));
     print_cells(&mut sink, 81, 4)?;
     Ok(())
@@ -190,19 +180,19 @@ fn a_read_that_stops(rt: HostRuntime) -> Result<(), Fail> {
     assert!(rt; is_whole(&read_whole(alloc, &mut Slow::new(9, 0), 3)?, &[]));
     assert!(rt; matches!(&read_whole(alloc, &mut Slow::new(9, 3), 2)?, Got::Longer));
     let stopped = read_whole(alloc, &mut Slow::new(4, 3), 3);
-    assert_eq!(rt; kind_of(&stopped), Some(ErrorKind::BrokenPipe));
+    assert!(rt; kind_of(&stopped) == Some(ErrorKind::BrokenPipe));
     Ok(())
 }
 
 #[test]
 fn a_write_that_stops(rt: HostRuntime) {
-    assert_eq!(rt; kind_of(&write_whole(&mut Slow::new(9, 3), b"abc")), None);
+    assert!(rt; kind_of(&write_whole(&mut Slow::new(9, 3), b"abc")) == None);
     let full = write_whole(&mut Slow::new(9, 2), b"abc");
-    assert_eq!(rt; kind_of(&full), Some(ErrorKind::WriteZero));
+    assert!(rt; kind_of(&full) == Some(ErrorKind::WriteZero));
     let stopped = write_whole(&mut Slow::new(4, 3), b"abc");
-    assert_eq!(rt; kind_of(&stopped), Some(ErrorKind::BrokenPipe));
+    assert!(rt; kind_of(&stopped) == Some(ErrorKind::BrokenPipe));
     let mut sink = StdSink::new(Slow::new(9, 3));
-    assert_eq!(rt; sink.write(b"abc"), Ok(()));
-    assert_eq!(rt; sink.write(b"d"), Err(SinkFailed));
-    assert_eq!(rt; sink.write(b""), Ok(()));
+    assert!(rt; sink.write(b"abc") == Ok(()));
+    assert!(rt; sink.write(b"d") == Err(SinkFailed));
+    assert!(rt; sink.write(b"") == Ok(()));
 }

@@ -75,16 +75,16 @@ fn plain_both_ways(rt: HostRuntime) -> Result<(), Fail> {
     let alloc = rt.alloc();
     let expect = expected().ok_or("two axes")?;
     let saved = read_stream(alloc, &plain(), Some(&expect))?;
-    assert_eq!(rt; saved.dim.axes(), 2);
-    assert_eq!(rt; saved.max_level, 5);
-    assert_eq!(rt; saved.finished, 2);
-    assert_eq!(rt; saved.vertices.as_slice().len(), 29);
+    assert!(rt; saved.dim.axes() == 2);
+    assert!(rt; saved.max_level == 5);
+    assert!(rt; saved.finished == 2);
+    assert!(rt; saved.vertices.as_slice().len() == 29);
     let first = saved.vertices.as_slice().first().ok_or("first")?;
-    assert_eq!(rt; first.state, State::Refined);
-    assert_eq!(rt; saved.cell_count, 45);
+    assert!(rt; first.state == State::Refined);
+    assert!(rt; saved.cell_count == 45);
     assert!(rt; saved.cells.as_slice().is_empty());
     let bytes = write_stream(alloc, &saved)?;
-    assert_eq!(rt; bytes.as_slice(), plain().as_slice());
+    assert!(rt; bytes.as_slice() == plain().as_slice());
     Ok(())
 }
 
@@ -92,20 +92,20 @@ fn plain_both_ways(rt: HostRuntime) -> Result<(), Fail> {
 fn full_both_ways(rt: HostRuntime) -> Result<(), Fail> {
     let alloc = rt.alloc();
     let saved = read_stream(alloc, &FULL, None)?;
-    assert_eq!(rt; saved.globals.get(0), -2);
-    assert_eq!(rt; saved.globals.get(1), 0);
-    assert_eq!(rt; saved.root.get(0), 1);
+    assert!(rt; saved.globals.get(0) == -2);
+    assert!(rt; saved.globals.get(1) == 0);
+    assert!(rt; saved.root.get(0) == 1);
     let vertices = saved.vertices.as_slice();
-    assert_eq!(rt; vertices.len(), 2);
-    assert_eq!(rt; vertices[0].state, State::RefinementTriggered);
-    assert_eq!(rt; vertices[0].fields.get(0), 258);
-    assert_eq!(rt; vertices[1].state, State::EraseTriggered);
-    assert_eq!(rt; vertices[1].fields.get(0), i64::MIN);
+    assert!(rt; vertices.len() == 2);
+    assert!(rt; vertices[0].state == State::RefinementTriggered);
+    assert!(rt; vertices[0].fields.get(0) == 258);
+    assert!(rt; vertices[1].state == State::EraseTriggered);
+    assert!(rt; vertices[1].fields.get(0) == i64::MIN);
     let cells = saved.cells.as_slice();
-    assert_eq!(rt; cells.len(), 3);
-    assert_eq!(rt; cells[1].get(0), -1);
-    assert_eq!(rt; cells[2].get(0), i64::MAX);
-    assert_eq!(rt; write_stream(alloc, &saved)?.as_slice(), FULL.as_slice());
+    assert!(rt; cells.len() == 3);
+    assert!(rt; cells[1].get(0) == -1);
+    assert!(rt; cells[2].get(0) == i64::MAX);
+    assert!(rt; write_stream(alloc, &saved)?.as_slice() == FULL.as_slice());
     Ok(())
 }
 
@@ -115,19 +115,13 @@ fn other_lengths(rt: HostRuntime) {
     let bytes = plain();
     for n in 0..69 {
         let expected = if n < 40 { 40 } else { 69 };
-        assert_eq!(rt;
-            fault_of(alloc, &bytes[..n], None),
-            length(expected, n as u64)
-        );
+        assert!(rt; fault_of(alloc, &bytes[..n], None) == length(expected, n as u64));
     }
     let mut longer = [0; 70];
     longer[..69].copy_from_slice(&bytes);
-    assert_eq!(rt; fault_of(alloc, &longer, None), length(69, 70));
+    assert!(rt; fault_of(alloc, &longer, None) == length(69, 70));
     let many = with_number(24, u64::MAX);
-    assert_eq!(rt;
-        fault_of(alloc, &many, None),
-        length(18_446_744_073_709_551_655, 69)
-    );
+    assert!(rt; fault_of(alloc, &many, None) == length(18_446_744_073_709_551_655, 69));
 }
 
 #[test]
@@ -152,7 +146,10 @@ fn changed_bytes(rt: HostRuntime) -> Result<(), Fail> {
         let mut bytes = plain();
         assert!(rt; place < 69);
         bytes[place] = byte;
-        assert_eq!(rt; fault_of(alloc, &bytes, Some(&expect)), fault, "at {place}");
+        assert!(rt;
+            fault_of(alloc, &bytes, Some(&expect)) == fault,
+            "at {place}"
+        );
     }
     Ok(())
 }
@@ -174,15 +171,12 @@ fn headers_out_of_their_limits(rt: HostRuntime) {
         let mut bytes = plain();
         assert!(rt; place < 69);
         bytes[place] = byte;
-        assert_eq!(rt;
-            fault_of(alloc, &bytes, None),
-            header(field, u64::from(byte))
-        );
+        assert!(rt; fault_of(alloc, &bytes, None) == header(field, u64::from(byte)));
     }
     let mut bytes = plain();
     bytes[14] = 1;
     bytes[15] = 2;
-    assert_eq!(rt; fault_of(alloc, &bytes, None), header(Zero, 513));
+    assert!(rt; fault_of(alloc, &bytes, None) == header(Zero, 513));
 }
 
 #[test]
@@ -193,13 +187,13 @@ fn finished_traversals(rt: HostRuntime) -> Result<(), Fail> {
     let alone = [None, None, None, header(Traversals, 1_000_000_001)];
     for (count, fault) in finished.iter().zip(alone) {
         let bytes = with_number(16, *count);
-        assert_eq!(rt; fault_of(alloc, &bytes, None), fault);
+        assert!(rt; fault_of(alloc, &bytes, None) == fault);
         let together = if *count > 999_999_998 {
             header(Traversals, *count)
         } else {
             None
         };
-        assert_eq!(rt; fault_of(alloc, &bytes, Some(&expect)), together);
+        assert!(rt; fault_of(alloc, &bytes, Some(&expect)) == together);
     }
     Ok(())
 }
@@ -217,7 +211,7 @@ fn states_of_each_vertex(rt: HostRuntime) {
                 found: byte,
             };
             let wanted = if known { None } else { Some(fault) };
-            assert_eq!(rt; fault_of(alloc, &bytes, None), wanted);
+            assert!(rt; fault_of(alloc, &bytes, None) == wanted);
         }
     }
 }
@@ -226,7 +220,7 @@ fn states_of_each_vertex(rt: HostRuntime) {
 fn cells_without_fields(rt: HostRuntime) -> Result<(), Fail> {
     let bytes = with_number(32, u64::MAX);
     let saved = read_stream(rt.alloc(), &bytes, None)?;
-    assert_eq!(rt; saved.cell_count, u64::MAX);
+    assert!(rt; saved.cell_count == u64::MAX);
     assert!(rt; saved.cells.as_slice().is_empty());
     Ok(())
 }

@@ -19,9 +19,9 @@ fn fault_of_text(alloc: Global, text: &str) -> Result<Option<ParseFault>, LexFau
 #[test]
 fn characters_that_begin_no_token(rt: HostRuntime) -> Result<(), Fail> {
     for (text, at) in [("a & b", 2), ("print é;", 6), ("Print 1;", 0), ("a | b", 2)] {
-        assert_eq!(rt;
-            fault_of_text(rt.alloc(), text),
-            Err(LexFault::Character { at })
+        assert!(rt;
+            fault_of_text(rt.alloc(), text) == Err(LexFault::Character { at }),
+            "{text}"
         );
     }
     Ok(())
@@ -38,9 +38,9 @@ fn tokens_that_begin_no_body(rt: HostRuntime) -> Result<(), Fail> {
         ("print;", 5),
         ("}", 0),
     ] {
-        assert_eq!(rt;
-            fault_of_text(rt.alloc(), text),
-            Ok(Some(ParseFault::Syntax { at }))
+        assert!(rt;
+            fault_of_text(rt.alloc(), text) == Ok(Some(ParseFault::Syntax { at })),
+            "{text}"
         );
     }
     Ok(())
@@ -52,23 +52,17 @@ fn limits(rt: HostRuntime) -> Result<(), Fail> {
         "print ((((((((((((((((((((((((((((((((((((((((((((((((((((((((((((((((1))))))))))))))))))))))))))))))))))))))))))))))))))))))))))))))));";
     let deeper =
         "print (((((((((((((((((((((((((((((((((((((((((((((((((((((((((((((((((1)))))))))))))))))))))))))))))))))))))))))))))))))))))))))))))))));";
-    assert_eq!(rt; fault_of_text(rt.alloc(), deepest), Ok(None));
-    assert_eq!(rt;
-        fault_of_text(rt.alloc(), deeper),
-        Ok(Some(ParseFault::TooDeep { at: 70 }))
+    assert!(rt; fault_of_text(rt.alloc(), deepest) == Ok(None));
+    assert!(rt; fault_of_text(rt.alloc(), deeper) == Ok(Some(ParseFault::TooDeep { at: 70 })));
+    assert!(rt;
+        fault_of_text(rt.alloc(), "print 1,1,1,1,1,1,1,1,1;")
+            == Ok(Some(ParseFault::TooMany { at: 21 }))
     );
-    assert_eq!(rt;
-        fault_of_text(rt.alloc(), "print 1,1,1,1,1,1,1,1,1;"),
-        Ok(Some(ParseFault::TooMany { at: 21 }))
+    assert!(rt;
+        fault_of_text(rt.alloc(), "print 9223372036854775808;")
+            == Ok(Some(ParseFault::Literal { at: 6 }))
     );
-    assert_eq!(rt;
-        fault_of_text(rt.alloc(), "print 9223372036854775808;"),
-        Ok(Some(ParseFault::Literal { at: 6 }))
-    );
-    assert_eq!(rt;
-        fault_of_text(rt.alloc(), "print 9223372036854775807;"),
-        Ok(None)
-    );
+    assert!(rt; fault_of_text(rt.alloc(), "print 9223372036854775807;") == Ok(None));
     Ok(())
 }
 
@@ -80,7 +74,7 @@ fn bodies(rt: HostRuntime) -> Result<(), Fail> {
         "refine v0; erase p12;",
         "if !(a >= 1) && 2 || min(1, abs(-x)) { print 1, 2; } else { if max(1, 2) {} }",
     ] {
-        assert_eq!(rt; fault_of_text(rt.alloc(), text), Ok(None));
+        assert!(rt; fault_of_text(rt.alloc(), text) == Ok(None), "{text}");
     }
     Ok(())
 }

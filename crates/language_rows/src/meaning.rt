@@ -79,8 +79,8 @@ fn values(rt: HostRuntime) -> Result<(), Fail> {
         ),
     ] {
         let ran = run_text(rt.alloc(), text)?;
-        assert_eq!(rt; ran.answer, Ok(()));
-        assert_eq!(rt; ran.sink.text(), lines);
+        assert!(rt; ran.answer == Ok(()), "{text}");
+        assert!(rt; ran.sink.text() == lines, "{text}");
     }
     Ok(())
 }
@@ -126,8 +126,8 @@ fn faults(rt: HostRuntime) -> Result<(), Fail> {
         ),
     ] {
         let ran = run_text(rt.alloc(), text)?;
-        assert_eq!(rt; ran.answer, Err(stop));
-        assert_eq!(rt; ran.sink.text(), lines);
+        assert!(rt; ran.answer == Err(stop), "{text}");
+        assert!(rt; ran.sink.text() == lines, "{text}");
     }
     Ok(())
 }

@@ -75,7 +75,10 @@ fn first_words(rt: HostRuntime) -> Result<(), Fail> {
             CheckFault::UnknownName { at: 25 },
         ),
     ] {
-        assert_eq!(rt; fault_of_text(rt.alloc(), event, text)?, Some(fault));
+        assert!(rt;
+            fault_of_text(rt.alloc(), event, text)? == Some(fault),
+            "{text}"
+        );
     }
     Ok(())
 }
@@ -90,9 +93,9 @@ fn unknown_at_every_event(rt: HostRuntime) -> Result<(), Fail> {
             ("print t.u;", 6),
             ("print u;", 6),
         ] {
-            assert_eq!(rt;
-                fault_of_text(rt.alloc(), event, text)?,
-                Some(CheckFault::UnknownName { at })
+            assert!(rt;
+                fault_of_text(rt.alloc(), event, text)? == Some(CheckFault::UnknownName { at }),
+                "{text}"
             );
         }
     }
@@ -112,7 +115,7 @@ fn seen(rt: HostRuntime) -> Result<(), Fail> {
             "cell.cell = v0.t + v3.state + parent.t + x1 + level; refine v0; erase p3;",
         ),
     ] {
-        assert_eq!(rt; fault_of_text(rt.alloc(), event, text)?, None);
+        assert!(rt; fault_of_text(rt.alloc(), event, text)? == None, "{text}");
     }
     Ok(())
 }

@@ -171,11 +171,8 @@ fn events_see_boxes(rt: HostRuntime) -> Result<(), Fail> {
         &mut parent,
     );
     let states = (opened(corners), opened(parents));
-    assert_eq!(rt;
-        (*vertex.payload().0, vertex.state()),
-        (1, State::RefinementTriggered)
-    );
-    assert_eq!(rt; (kind, *cell.payload().0), (Some(Kind::Kept), 9));
-    assert_eq!(rt; states, (State::EraseTriggered, State::Refined));
+    assert!(rt; (*vertex.payload().0, vertex.state()) == (1, State::RefinementTriggered));
+    assert!(rt; (kind, *cell.payload().0) == (Some(Kind::Kept), 9));
+    assert!(rt; states == (State::EraseTriggered, State::Refined));
     Ok(())
 }

@@ -347,19 +347,13 @@ fn the_traffic_of_one_refined_vertex(rt: HostRuntime) -> Result<(), Fail> {
         (9, 4, 4),
     ] {
         assert!(rt; s < depots.vertices.stacks());
-        assert_eq!(rt;
-            (depots.vertices.pushes(s), depots.vertices.pops(s)),
-            (pushes, pops)
-        );
+        assert!(rt; (depots.vertices.pushes(s), depots.vertices.pops(s)) == (pushes, pops));
     }
-    assert_eq!(rt;
-        (depots.vertices.fresh(), depots.vertices.most()),
-        (121, 12)
-    );
-    assert_eq!(rt; depots.cells.stacks(), 2);
-    assert_eq!(rt; (depots.cells.pushes(0), depots.cells.pops(0)), (45, 0));
-    assert_eq!(rt; (depots.cells.pushes(1), depots.cells.pops(1)), (9, 9));
-    assert_eq!(rt; (depots.cells.fresh(), depots.cells.most()), (45, 2));
+    assert!(rt; (depots.vertices.fresh(), depots.vertices.most()) == (121, 12));
+    assert!(rt; depots.cells.stacks() == 2);
+    assert!(rt; (depots.cells.pushes(0), depots.cells.pops(0)) == (45, 0));
+    assert!(rt; (depots.cells.pushes(1), depots.cells.pops(1)) == (9, 9));
+    assert!(rt; (depots.cells.fresh(), depots.cells.most()) == (45, 2));
     Ok(())
 }
 
@@ -378,7 +372,7 @@ fn run(rt: &impl Abort, alloc: Global, scenario: &[u8], expected: u8) -> Result<
         &mut depots.vertices,
         &mut depots.cells,
     );
-    assert_eq!(rt; status, expected);
+    assert!(rt; status == expected);
     Ok(sink)
 }
 
@@ -415,7 +409,7 @@ fn vertices_that_hang_among_all_their_cells(rt: HostRuntime) -> Result<(), Fail>
             1,
         ),
     ] {
-        assert_eq!(rt; times(sink.text(), line.as_bytes()), count, "{line}");
+        assert!(rt; times(sink.text(), line.as_bytes()) == count, "{line}");
     }
     Ok(())
 }
@@ -447,7 +441,7 @@ fn as_many_cells_as_may_be(rt: HostRuntime) -> Result<(), Fail> {
         4,
     )?;
     let last = "enter_cell 1 2 2\nfault cells traversal 1 2 6 6\n";
-    assert_eq!(rt; times(sink.text(), b"enter_cell "), 81);
+    assert!(rt; times(sink.text(), b"enter_cell ") == 81);
     assert!(rt; sink.text().ends_with(last.as_bytes()));
     Ok(())
 }

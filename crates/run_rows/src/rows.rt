@@ -125,15 +125,15 @@ pub(crate) fn new_depots(alloc: Global) -> Result<Depots, AllocError>
 
 // Whatever came of a run, nothing lies on a stack, nothing is out, and all that was lent was given up.
 fn check_settled(rt: &impl Abort, depots: &Depots) {
-    assert_eq!(rt; depots.vertices.out(), 0);
-    assert_eq!(rt; depots.vertices.fresh(), depots.vertices.spent());
-    assert_eq!(rt; depots.cells.out(), 0);
-    assert_eq!(rt; depots.cells.fresh(), depots.cells.spent());
+    assert!(rt; depots.vertices.out() == 0);
+    assert!(rt; depots.vertices.fresh() == depots.vertices.spent());
+    assert!(rt; depots.cells.out() == 0);
+    assert!(rt; depots.cells.fresh() == depots.cells.spent());
     for s in 0..depots.vertices.stacks() {
-        assert_eq!(rt; depots.vertices.len(s), 0);
+        assert!(rt; depots.vertices.len(s) == 0);
     }
     for s in 0..depots.cells.stacks() {
-        assert_eq!(rt; depots.cells.len(s), 0);
+        assert!(rt; depots.cells.len(s) == 0);
     }
 }
 
@@ -153,8 +153,9 @@ pub(crate) fn check(rt: &impl Abort, alloc: Global, row: &Row) -> Result<Depots,
         &mut depots.vertices,
         &mut depots.cells,
     );
-    assert_eq!(rt; status, row.status);
-    assert_eq!(rt; sink.text(), row.text.as_bytes());
+    let text = row.text;
+    assert!(rt; status == row.status, "{status} in place of: {text}");
+    assert!(rt; sink.text() == text.as_bytes(), "not: {text}");
     check_settled(rt, &depots);
     Ok(depots)
 }
@@ -201,18 +202,18 @@ fn the_traffic_of_one_traversal(rt: HostRuntime) -> Result<(), Fail> {
         (9, 4, 0),
     ] {
         assert!(rt; s < depots.vertices.stacks());
-        assert_eq!(rt; depots.vertices.pushes(s), pushes);
-        assert_eq!(rt; depots.vertices.pops(s), pops);
+        assert!(rt; depots.vertices.pushes(s) == pushes);
+        assert!(rt; depots.vertices.pops(s) == pops);
     }
-    assert_eq!(rt; depots.vertices.fresh(), 28);
-    assert_eq!(rt; depots.vertices.spent(), 28);
-    assert_eq!(rt; depots.vertices.most(), 8);
-    assert_eq!(rt; depots.cells.stacks(), 2);
-    assert_eq!(rt; depots.cells.pushes(1), 9);
-    assert_eq!(rt; depots.cells.pops(1), 0);
-    assert_eq!(rt; depots.cells.fresh(), 9);
-    assert_eq!(rt; depots.cells.spent(), 9);
-    assert_eq!(rt; depots.cells.most(), 1);
+    assert!(rt; depots.vertices.fresh() == 28);
+    assert!(rt; depots.vertices.spent() == 28);
+    assert!(rt; depots.vertices.most() == 8);
+    assert!(rt; depots.cells.stacks() == 2);
+    assert!(rt; depots.cells.pushes(1) == 9);
+    assert!(rt; depots.cells.pops(1) == 0);
+    assert!(rt; depots.cells.fresh() == 9);
+    assert!(rt; depots.cells.spent() == 9);
+    assert!(rt; depots.cells.most() == 1);
     Ok(())
 }
 
@@ -309,7 +310,7 @@ fn the_first_hanging_vertices(rt: HostRuntime) -> Result<(), Fail> {
         &mut depots.vertices,
         &mut depots.cells,
     );
-    assert_eq!(rt; status, 0);
+    assert!(rt; status == 0);
     assert!(rt; sink.text().starts_with(HANGING.as_bytes()));
     Ok(())
 }
@@ -330,7 +331,7 @@ fn edges_that_never_fail(rt: HostRuntime) -> Result<(), Fail> {
         &mut depots.vertices,
         &mut depots.cells,
     );
-    assert_eq!(rt; status, 0);
+    assert!(rt; status == 0);
     Ok(())
 }
 
@@ -406,8 +407,8 @@ fn check_scenario(
         &mut depots.vertices,
         &mut depots.cells,
     );
-    assert_eq!(rt; sink.text(), text);
-    assert_eq!(rt; answer, status);
+    assert!(rt; sink.text() == text);
+    assert!(rt; answer == status);
     check_settled(rt, &depots);
     Ok(())
 }
@@ -469,7 +470,7 @@ fn a_scenario_that_is_too_long(rt: HostRuntime) -> Result<(), Fail> {
         let mut sink = MemSink::new(alloc, 4096, &[])?;
         let words = words_of(alloc, RUN)?;
         let mut depots = new_depots(alloc)?;
-        assert_eq!(rt;
+        assert!(rt;
             peano(
                 alloc,
                 words.as_slice(),
@@ -477,10 +478,9 @@ fn a_scenario_that_is_too_long(rt: HostRuntime) -> Result<(), Fail> {
                 &mut sink,
                 &mut depots.vertices,
                 &mut depots.cells
-            ),
-            status
+            ) == status
         );
-        assert_eq!(rt; sink.text(), text.as_bytes());
+        assert!(rt; sink.text() == text.as_bytes());
     }
     Ok(())
 }

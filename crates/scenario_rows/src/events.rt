@@ -76,10 +76,10 @@ fn plain_events(rt: HostRuntime) -> Result<(), Fail> {
     let scenario = read_scenario(rt.alloc(), SCENARIO.as_bytes())?;
     let mut sink = MemSink::new(rt.alloc(), 1000, &[])?;
     let mut mapping = Interp::new(&scenario, Fields::zero(), &mut sink);
-    assert_eq!(rt; mapping.plain_event(Event::BeginIteration, 7), Ok(()));
-    assert_eq!(rt; mapping.plain_event(Event::EndIteration, 7), Ok(()));
-    assert_eq!(rt; mapping.globals().get(0), 5);
-    assert_eq!(rt; sink.text(), b"begin_iteration 7\nprint 7\n".as_slice());
+    assert!(rt; mapping.plain_event(Event::BeginIteration, 7) == Ok(()));
+    assert!(rt; mapping.plain_event(Event::EndIteration, 7) == Ok(()));
+    assert!(rt; mapping.globals().get(0) == 5);
+    assert!(rt; sink.text() == b"begin_iteration 7\nprint 7\n".as_slice());
     Ok(())
 }
 
@@ -91,7 +91,7 @@ fn fresh_payloads(rt: HostRuntime) -> Result<(), Fail> {
     let of_vertex = mapping.fresh_v();
     let of_cell = mapping.fresh_c();
     let _globals = mapping.globals();
-    assert_eq!(rt; (of_vertex?.get(7), of_cell?.get(7)), (0, 0));
+    assert!(rt; (of_vertex?.get(7), of_cell?.get(7)) == (0, 0));
     Ok(())
 }
 
@@ -115,16 +115,10 @@ fn vertex_events(rt: HostRuntime) -> Result<(), Fail> {
         &mut parents,
         &mut parent,
     );
-    assert_eq!(rt; answer, Ok(()));
-    assert_eq!(rt; mapping.globals().get(0), 0);
-    assert_eq!(rt;
-        (vertex.state(), vertex.payload().get(0)),
-        (State::RefinementTriggered, 14)
-    );
-    assert_eq!(rt;
-        sink.text(),
-        b"touch_vertex_last_time 1 1 2\nprint 1 14 0\n".as_slice()
-    );
+    assert!(rt; answer == Ok(()));
+    assert!(rt; mapping.globals().get(0) == 0);
+    assert!(rt; (vertex.state(), vertex.payload().get(0)) == (State::RefinementTriggered, 14));
+    assert!(rt; sink.text() == b"touch_vertex_last_time 1 1 2\nprint 1 14 0\n".as_slice());
     open(parents);
     Ok(())
 }
@@ -152,7 +146,7 @@ fn cell_events(rt: HostRuntime) -> Result<(), Fail> {
         &mut parents,
         &mut parent,
     );
-    assert_eq!(rt; entered, Ok(()));
+    assert!(rt; entered == Ok(()));
     let left = mapping.cell_event(
         Event::LeaveCell,
         1,
@@ -162,12 +156,9 @@ fn cell_events(rt: HostRuntime) -> Result<(), Fail> {
         &mut parents,
         &mut parent,
     );
-    assert_eq!(rt; left, Err(Stop::Division));
-    assert_eq!(rt; (cell.payload().get(0), mapping.globals().get(0)), (41, 41));
-    assert_eq!(rt;
-        sink.text(),
-        b"leave_cell 1 1 2\nprint -3 1 -3 -1 1 0\n".as_slice()
-    );
+    assert!(rt; left == Err(Stop::Division));
+    assert!(rt; (cell.payload().get(0), mapping.globals().get(0)) == (41, 41));
+    assert!(rt; sink.text() == b"leave_cell 1 1 2\nprint -3 1 -3 -1 1 0\n".as_slice());
     open(corners);
     open(parents);
     Ok(())

@@ -171,7 +171,10 @@ fn read_text(alloc: Global, text: &str) -> Result<Scenario, SceneFault> {
 fn assert_refused(rt: &impl Abort, alloc: Global, text: &str, refusal: &str) -> Result<(), Fail> {
     match read_text(alloc, text) {
         Ok(_) => panic!(rt; "{text}"),
-        Err(fault) => assert_eq!(rt; described(alloc, &fault)?.as_str(), refusal, "{text}"),
+        Err(fault) => {
+            let told = described(alloc, &fault)?;
+            assert!(rt; told.as_str() == refusal, "{told} of {text}");
+        }
     }
     Ok(())
 }
@@ -256,11 +259,8 @@ fn long_keys(rt: HostRuntime) -> Result<(), Fail> {
 fn defaults(rt: HostRuntime) -> Result<(), Fail> {
     let scenario = read_text(rt.alloc(), "dim = 3\ntraversals = 1000")?;
     let setup = scenario.setup;
-    assert_eq!(rt; (setup.dim.axes(), scenario.traversals), (3, 1000));
-    assert_eq!(rt;
-        (setup.max_level, setup.start_level, setup.max_cells),
-        (20, 1, 4_194_304)
-    );
+    assert!(rt; (setup.dim.axes(), scenario.traversals) == (3, 1000));
+    assert!(rt; (setup.max_level, setup.start_level, setup.max_cells) == (20, 1, 4_194_304));
     assert!(rt; !scenario.trace.has(Event::EnterCell));
     assert!(rt; scenario.names.vertex.as_slice().is_empty());
     assert!(rt; scenario.bodies.of(Event::EnterCell).is_none());
@@ -295,10 +295,7 @@ fn is_one(names: &[Text], name: &str) -> bool {
 fn a_scenario_as_it_is_written(rt: HostRuntime) -> Result<(), Fail> {
     let scenario = read_text(rt.alloc(), WRITTEN)?;
     let setup = scenario.setup;
-    assert_eq!(rt;
-        (setup.dim.axes(), scenario.traversals, setup.max_level),
-        (2, 2, 5)
-    );
+    assert!(rt; (setup.dim.axes(), scenario.traversals, setup.max_level) == (2, 2, 5));
     assert!(rt; is_one(scenario.names.vertex.as_slice(), "u"));
     assert!(rt; is_one(scenario.names.cell.as_slice(), "c"));
     assert!(rt; is_one(scenario.names.global.as_slice(), "sum"));
@@ -309,8 +306,8 @@ fn a_scenario_as_it_is_written(rt: HostRuntime) -> Result<(), Fail> {
         (Event::TouchVertexFirstTime, false, true),
         (Event::LeaveCell, false, false),
     ] {
-        assert_eq!(rt; scenario.trace.has(event), traced);
-        assert_eq!(rt; scenario.bodies.of(event).is_some(), has_body);
+        assert!(rt; scenario.trace.has(event) == traced);
+        assert!(rt; scenario.bodies.of(event).is_some() == has_body);
     }
     Ok(())
 }
@@ -350,7 +347,7 @@ fn spellings(rt: HostRuntime) -> Result<(), Fail> {
     for text in [SPELLED_OTHERWISE, ORDERED_OTHERWISE] {
         let scenario = read_text(rt.alloc(), text)?;
         let scenario = format!(in rt.alloc(); "{scenario:?}")?;
-        assert_eq!(rt; scenario.as_str(), written.as_str());
+        assert!(rt; scenario.as_str() == written.as_str());
     }
     Ok(())
 }

@@ -104,16 +104,16 @@ fn cell_depot(alloc: Global) -> Result<VecDepot<CellRec<Number>>, AllocError> {
 fn check_moved<R, D: Depot<R>>(rt: &impl Abort, depot: &D, moved: &Moved) {
     for s in 0..depot.stacks() {
         let counts = (depot.pushes(s), depot.pops(s));
-        assert_eq!(rt; moved.stacks.get(s as usize), Some(&counts), "stack {s}");
+        assert!(rt; moved.stacks.get(s as usize) == Some(&counts), "stack {s}");
     }
-    assert_eq!(rt; (depot.fresh(), depot.most()), (moved.fresh, moved.most));
+    assert!(rt; (depot.fresh(), depot.most()) == (moved.fresh, moved.most));
 }
 
 // Nothing is out, and once the stacks are cleared all that was lent was given up.
 fn check_settles<R, D: Depot<R>>(rt: &impl Abort, depot: &mut D) {
-    assert_eq!(rt; depot.out(), 0);
+    assert!(rt; depot.out() == 0);
     depot.clear();
-    assert_eq!(rt; (depot.out(), depot.fresh()), (0, depot.spent()));
+    assert!(rt; (depot.out(), depot.fresh()) == (0, depot.spent()));
 }
 
 #[test]
@@ -126,7 +126,7 @@ fn boxes_pass_through_every_stack(rt: HostRuntime) -> Result<(), Fail> {
     let root = ledger.fresh_c()?;
     let rows = &[(90, 0, 68, 68, 0, 88, 2), (90, 68, 68, 0, 0, 88, 2)];
     let stop = walks_as(&rt, root, &setup, &mut ledger, &mut dv, &mut dc, rows);
-    assert_eq!(rt; stop, None);
+    assert!(rt; stop == None);
     check_moved(
         &rt,
         &dv,
@@ -156,9 +156,9 @@ fn boxes_pass_through_every_stack(rt: HostRuntime) -> Result<(), Fail> {
             most: 2,
         },
     );
-    assert_eq!(rt; dv.stacks(), 10);
+    assert!(rt; dv.stacks() == 10);
     for i in 0..dv.len(8) {
-        assert_eq!(rt; *dv.look(8, i).payload().0, 2);
+        assert!(rt; *dv.look(8, i).payload().0 == 2);
     }
     check_settles(&rt, &mut dv);
     check_settles(&rt, &mut dc);
@@ -180,14 +180,12 @@ fn refused(rt: &impl Abort, alloc: Global, number: u64) -> Result<Option<WalkSto
     let root = planned.fresh_c()?;
     let rows = &[(9, 0, 4, 4, 0, 20, 1)];
     let stop = walks_as(rt, root, &setup, &mut planned, &mut dv, &mut dc, rows);
-    assert_eq!(rt;
-        planned.events(),
-        if stop.is_none() {
-            81
-        } else {
-            number.saturating_add(1)
-        }
-    );
+    let fired = if stop.is_none() {
+        81
+    } else {
+        number.saturating_add(1)
+    };
+    assert!(rt; planned.events() == fired);
     check_settles(rt, &mut dv);
     check_settles(rt, &mut dc);
     Ok(stop)
@@ -204,14 +202,13 @@ fn each_event_may_refuse(rt: HostRuntime) -> Result<(), Fail> {
                 pos: [*x, *y, 0, 0],
             },
         };
-        assert_eq!(rt;
-            refused(&rt, rt.alloc(), number as u64)?,
-            Some(stop),
+        assert!(rt;
+            refused(&rt, rt.alloc(), number as u64)? == Some(stop),
             "event {number}"
         );
     }
-    assert_eq!(rt; EVENTS.len(), 81);
-    assert_eq!(rt; refused(&rt, rt.alloc(), 81)?, None);
+    assert!(rt; EVENTS.len() == 81);
+    assert!(rt; refused(&rt, rt.alloc(), 81)? == None);
     Ok(())
 }
 
@@ -238,25 +235,23 @@ fn granted(
 fn each_grant_may_be_wanting(rt: HostRuntime) -> Result<(), Fail> {
     let alloc = rt.alloc();
     let (stop, vertices, cells) = granted(&rt, alloc, MANY, MANY)?;
-    assert_eq!(rt; stop, None);
+    assert!(rt; stop == None);
     let vertices = MANY.saturating_sub(vertices);
     let cells = MANY.saturating_sub(cells);
     assert!(rt; vertices > 0 && cells > 0);
     for grants in 0..vertices {
-        assert_eq!(rt;
-            granted(&rt, alloc, grants, MANY)?.0,
-            Some(WalkStop::Memory),
+        assert!(rt;
+            granted(&rt, alloc, grants, MANY)?.0 == Some(WalkStop::Memory),
             "{grants}"
         );
     }
     for grants in 0..cells {
-        assert_eq!(rt;
-            granted(&rt, alloc, MANY, grants)?.0,
-            Some(WalkStop::Memory),
+        assert!(rt;
+            granted(&rt, alloc, MANY, grants)?.0 == Some(WalkStop::Memory),
             "{grants}"
         );
     }
-    assert_eq!(rt; granted(&rt, alloc, vertices, cells)?, (None, 0, 0));
+    assert!(rt; granted(&rt, alloc, vertices, cells)? == (None, 0, 0));
     Ok(())
 }
 
@@ -276,7 +271,7 @@ fn check_changing(
     let mut dc = cell_depot(alloc)?;
     let root = planned.fresh_c()?;
     let stop = walks_as(rt, root, &setup, &mut planned, &mut dv, &mut dc, rows);
-    assert_eq!(rt; stop, None);
+    assert!(rt; stop == None);
     check_moved(rt, &dv, vertices);
     check_moved(rt, &dc, cells);
     check_settles(rt, &mut dv);
@@ -384,27 +379,21 @@ fn one_cell_past_the_limit(rt: HostRuntime) -> Result<(), Fail> {
     let alloc = rt.alloc();
     let whole = &[(90, 0, 68, 68, 0, 88, 2)];
     let passes = setup_of(2, 2, 2, 90).ok_or("settings")?;
-    assert_eq!(rt; limited(&rt, alloc, &passes, whole)?, None);
+    assert!(rt; limited(&rt, alloc, &passes, whole)? == None);
     let stops = setup_of(2, 2, 2, 89).ok_or("settings")?;
     let at = Place {
         level: 2,
         pos: [8, 8, 0, 0],
     };
-    assert_eq!(rt;
-        limited(&rt, alloc, &stops, whole)?,
-        Some(WalkStop::CellLimit { at })
-    );
+    assert!(rt; limited(&rt, alloc, &stops, whole)? == Some(WalkStop::CellLimit { at }));
     let refined = &[SPACE[0], SPACE[1]];
     let passes = setup_of(3, 2, 1, 243).ok_or("settings")?;
-    assert_eq!(rt; limited(&rt, alloc, &passes, refined)?, None);
+    assert!(rt; limited(&rt, alloc, &passes, refined)? == None);
     let stops = setup_of(3, 2, 1, 242).ok_or("settings")?;
     let at = Place {
         level: 2,
         pos: [0, 0, 0, 0],
     };
-    assert_eq!(rt;
-        limited(&rt, alloc, &stops, refined)?,
-        Some(WalkStop::CellLimit { at })
-    );
+    assert!(rt; limited(&rt, alloc, &stops, refined)? == Some(WalkStop::CellLimit { at }));
     Ok(())
 }
