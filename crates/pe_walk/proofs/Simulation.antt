@@ -52,3 +52,5 @@ pub mod Tallied
 pub mod Answers
 -- the law of a face
 pub mod FaceLaw
+-- the children of the root may be walked one after another
+pub mod FirstCells

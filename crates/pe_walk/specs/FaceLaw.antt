@@ -1,14 +1,17 @@
 -- The law of a face: the walk of a cell with all below it, on stacks, is the walk by address. What arrives at the cell's faces
 -- comes off their stacks, and what leaves at its faces goes on them; so with the streams; all beneath is as it was.
-use Rattle.std.specs.Prelude.{◌≡◌, ◌≢◌, ℕ, suc, ◌+◌, ◌*◌, ◌^◌, ◌<◌, ◌≤◌, Bool, true, List, ◌++◌, if◌then◌else◌, Result, Ok, Err}
-use Rattle.std.specs.List.{AllByRecursion}
+use Rattle.std.specs.Prelude.{◌≡◌, ◌≢◌, ℕ, suc, ◌+◌, ◌*◌, ◌^◌, ◌<◌, ◌≤◌, Bool, true, List, [], ◌∷◌, ◌++◌, if◌then◌else◌, Result, Ok, Err}
+use Rattle.std.specs.List.{AllByRecursion, flat_map}
 use Rattle.pe_base.specs.declared.place.Place.{Place}
 use Rattle.pe_base.specs.declared.place.Digits.{Digits}
+use Rattle.pe_base.specs.declared.event.Event.TheVariants.{BeginIteration}
 use Rattle.pe_base.specs.declared.tally.Tally.{Tally}
-use Rattle.pe_base.specs.Tree.Places.{IsCellPlace, IsDigits, child_at, parent_of}
+use Rattle.pe_base.specs.Tree.Places.{IsCellPlace, IsDigits, root, child_at, parent_of}
 use Rattle.pe_base.specs.Tree.Ways.{way_of}
-use Rattle.pe_base.specs.Walk.Course.{Ending, done, halts, stuck, Push, Course}
-use Rattle.pe_base.specs.Walk.Core.{Setting}
+use Rattle.pe_base.specs.Tree.Curve.{children}
+use Rattle.pe_base.specs.Walk.Course.{Ending, done, halts, stuck, Push, Course, and_then}
+use Rattle.pe_base.specs.Walk.Core.{Setting, way}
+use Rattle.pe_base.specs.Walk.Grids.{Grid}
 use Rattle.pe_base.specs.Walk.Working.{Working}
 use Rattle.pe_base.specs.Walk.Streams.{walked_cells}
 use Rattle.pe_base.specs.Walk.Walk as model
@@ -18,13 +21,13 @@ use Rattle.pe_stacks.specs.Grid.{input_stack, cell_input_stack}
 use Rattle.pe_mapping.specs.Held.{Told, AddsPart}
 use Rattle.pe_mapping.specs.Moments.{IsTraversal}
 use Rattle.pe_hang.specs.Follows.{Found, Failure, halted, unwritten, wanting, unheard_of, IsOverfull, Does, FailsToTell}
-use Rattle.pe_walk.specs.Machine.{Machine}
+use Rattle.pe_walk.specs.Machine.{Machine, Ports, with_parents}
 use Rattle.pe_walk.specs.Machine as machine
 use Rattle.pe_walk.specs.Tokens.{Tokens}
-use Rattle.pe_walk.specs.Takings.{MayBegin, HasEnded}
+use Rattle.pe_walk.specs.Takings.{loads_of, takes, gives, cell_takes, cell_gives, met_after, Due, MayBegin, HasEnded}
 use Rattle.pe_walk.specs.Standing.{Outset, Stage, Holds, IsOutset, IsStage}
 use Rattle.pe_walk.specs.Images.{image_of}
-use Rattle.pe_walk.specs.Gridded.{ports_of}
+use Rattle.pe_walk.specs.Gridded.{MachineMayTraverse, ports_of}
 use Rattle.pe_walk.specs.CellTraffic.{CellTraffic, CountsAreFew}
 use Rattle.pe_walk.specs.Traversing.{Stores}
 
@@ -138,3 +141,35 @@ CellAnswers set at course (Err unheard_of) old before tally new after m = ⊥
 -- the walk of the cell by address, at a moment
 abbrev pub by_address : {Plan : Type 0} → Setting Plan → Moment → Course Working
 by_address set at = model.walk_cell set at.levels at.stage.parent at.stage.cell at.working
+
+-- # The children of the root, one after another
+-- a traversal of the machine up to its first event: the root's corners are lent, and are in hand
+abbrev pub begins : {Plan : Type 0} → Setting Plan → Ports → Machine → Course Machine
+begins set ports m = and_then (machine.root_corners set ports (2 ^ set.axes) [] m) (λ it. machine.plain set ports BeginIteration (with_parents it.0 it.1))
+
+-- Each of these cells finds what it takes on top of a stack, where those before it have put there what they give.
+abbrev pub InTurn : (Place → List Place) → (Place → List Place) → List Place → List Place → Type 0
+InTurn takes gives [] items = Unit {0}
+InTurn takes gives (cell ∷ cells) items = (beneath : List Place) × (items ≡ takes cell ++ beneath) × InTurn takes gives cells (gives cell ++ beneath)
+
+-- These cells come after that of the moment: children of its parent like it, they are all that is ahead after it; each finds
+-- on the stacks what it takes, and their loads are due.
+pub record ComeAfter {Plan : Type 0} (set : Setting Plan) (others : List Place) (at : Moment) : Type 0 where
+  pub stages : AllByRecursion (λ other. IsStage set.axes at.outset.outlook (record at.stage { cell = other })) others
+  pub ahead : at.rest ≡ flat_map (walked_cells at.outset.outlook.axes at.outset.outlook.way at.outset.outlook.walks at.levels) others
+  pub vertices : (s : ℕ) → InTurn (takes at.outset.outlook at.levels s) (gives at.outset.outlook at.levels s) others (gives at.outset.outlook at.levels s at.stage.cell ++ at.beneath s)
+  pub cells : (s : ℕ) → InTurn (cell_takes at.outset.outlook at.levels s) (cell_gives at.outset.outlook at.levels s) others (cell_gives at.outset.outlook at.levels s at.stage.cell ++ at.cells_beneath s)
+  pub due : Due at.outset.outlook (flat_map (loads_of at.outset.outlook at.levels) others) (met_after at.outset.outlook (loads_of at.outset.outlook at.levels at.stage.cell) at.places.met)
+
+-- Where a traversal may begin, and its first event is done, the first child of the root may be walked, and the others come
+-- after it.
+abbrev pub FirstCellMayBeWalked : Type 0 → Type 0
+FirstCellMayBeWalked Plan = (set : Setting Plan) (grid : Grid) (swapped : Bool) (m after : Machine) (first : Place) (others : List Place)
+    → MachineMayTraverse set grid swapped m → (begins set (ports_of swapped) m).ending ≡ done after → children set.axes (way set) root ≡ first ∷ others
+    → (moment : Moment) × MayCall set grid.greatest first (input_stack swapped) (cell_input_stack swapped) after moment × ComeAfter set others moment
+
+-- Once a cell was walked, so may the one that comes after it.
+abbrev pub NextCellMayBeWalked : Type 0 → Type 0
+NextCellMayBeWalked Plan = (set : Setting Plan) (greatest stream cell_stream : ℕ) (cell next : Place) (others : List Place) (m after : Machine) (working : Working) (at : Moment)
+    → MayCall set greatest cell stream cell_stream m at → ComeAfter set (next ∷ others) at → HasWalked set at working after
+    → (moment : Moment) × MayCall set greatest next stream cell_stream after moment × ComeAfter set others moment

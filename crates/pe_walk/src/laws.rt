@@ -1,6 +1,7 @@
 //! The laws on which the walk over stacks rests. Each function but `walk_cell` has a law for its contract, and no body: the
 //! law holds of the definitions alone. They hold in two to four axes, both ways, at every depth. `walk_cell` walks one cell,
-//! and has the law of a face for its contract.
+//! and has the law of a face for its contract. `cells_in_turn` says that the children of the root may be walked by it, one
+//! after another, from the first event of a traversal on.
 //!
 //! First the lists of faces. The walk of a cell loads the cell's corners, walks each child, and stores the corners. On each
 //! stack `composition` says that the list that a load or a child wants is on top, and what the stack holds afterwards;
@@ -26,7 +27,7 @@
 ghost use Rattle.pe_walk.specs.CoreKeeps.{CoreKeeps};
 ghost use Rattle.pe_walk.specs.Standing.{KindsAreFound};
 ghost use Rattle.pe_walk.specs.Gridded.{StacksAreAddresses};
-ghost use Rattle.pe_walk.specs.FaceLaw.{LawOfAFace, CellsAreExact};
+ghost use Rattle.pe_walk.specs.FaceLaw.{LawOfAFace, CellsAreExact, FirstCellMayBeWalked, NextCellMayBeWalked};
 ghost use Rattle.pe_walk.specs.Laws.{NeighboursAgree, FacesAreOneWay, OneFaceOnEach, Composition, BeneathUntouched, StoresAsLoads, TouchedInOrder, UnwalkedIsEmpty, LeafIsCorners, CellsOfTheTree, StepsCrossFaces, StepsAreCorners, CornersAreSteps, StretchesJoin, StandTogether, CornersCrossOnce, CornersOnStacks};
 ghost use Rattle.pe_walk.specs.TokenLaws.{WalkOfACell, LoadsAreDue, LoadedAround, WholeTraversal, TurningRound, TurningAround};
 ghost use Rattle.pe_walk.specs.Outlooks.{ForecastFits, StoredFits};
@@ -232,6 +233,13 @@ pub fn law_of_a_face<E: Effects>()
 /// corners of one cell of each level.
 pub fn cells_are_exact<E: Effects>()
     ensures exact { CellsAreExact E.Plan }
+{}
+
+/// Where a traversal may begin and its first event is done, the first child of the root may be walked by `walk_cell`; and once
+/// a child was walked, so may the next.
+pub fn cells_in_turn<E: Effects>()
+    ensures first { FirstCellMayBeWalked E.Plan }
+    ensures next { NextCellMayBeWalked E.Plan }
 {}
 
 /// A traversal of the machine of lists adds the text of the walk by address and ends alike, with the next grid on its stacks.

@@ -20,7 +20,7 @@ use Rattle.pe_walk.specs.Tokens.{Tokens, each_some}
 use Rattle.pe_walk.specs.Gridded.{ports_of}
 use Rattle.pe_walk.specs.Tokens as tokens
 use Rattle.pe_walk.specs.Standing.{Outset, Stage, per_cell, Holds, IsStage}
-pub use Rattle.pe_walk.specs.Images.{image_of}
+pub use Rattle.pe_walk.specs.Images.{record_of, image_of}
 use Rattle.pe_walk.proofs.Simulation.Matching.{Sim}
 
 -- # The stages one after another

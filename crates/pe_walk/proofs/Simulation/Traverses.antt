@@ -35,6 +35,7 @@ use Rattle.pe_walk.specs.Outlooks.{outlook}
 use Rattle.pe_walk.specs.Standing.{Outset, Holds, HasRoom}
 use Rattle.pe_walk.specs.CellsAhead.{times}
 use Rattle.pe_walk.specs.Gridded.{MachineMayTraverse, MachineHasTraversed, EndAlike, IsShort, IsWalked, ports_of}
+use Rattle.pe_walk.specs.FaceLaw.{begins}
 use Rattle.pe_walk.proofs.Tests.{some_power, times_one}
 use Rattle.pe_walk.proofs.Tokens.Short.{stacks_are_short}
 use Rattle.pe_walk.proofs.Tokens.Apart.{map_some}
@@ -122,6 +123,20 @@ module _ {Plan : Type 0} (set : Setting Plan) (grid : Grid) (swapped : Bool) (m 
   abbrev close : Machine → Course Machine
   close x = machine.give_up_all set (ports_of swapped) x.family.parents (with_parents [] x)
 
+  -- what comes after the first event
+  abbrev after_first : Machine → Course Machine
+  after_first x = and_then (each (machine.walk_cell set (ports_of swapped) (suc (grid.greatest - 1))) (children set.axes (way set) root) x) (λ x. and_then (machine.plain set (ports_of swapped) EndIteration x) close)
+
+  -- the first event is fired at the image
+  pub begins_is : begins set (ports_of swapped) m ≡ machine.plain set (ports_of swapped) BeginIteration (image_of set (outset_of set grid swapped m) root (cornered set grid swapped m may) (start set grid swapped m may))
+  begins_is =
+      ap (λ made. and_then made (λ it. machine.plain set (ports_of swapped) BeginIteration (with_parents it.0 it.1)))
+      (corners_made set (ports_of swapped) (2 ^ set.axes) 0 [] (begun_of set.traversal grid) m may.holds.list (let corners = few_corners set.axes few in omega (arith, may.counts.fresh, corners)) refl)
+      ∙ ap (machine.plain set (ports_of swapped) BeginIteration) corners_image
+    where
+      few : set.axes ≤ 4
+      few = subst (λ n. n ≤ 4) (sym may.fits.axes) (sound_of set grid swapped m may).dim.1
+
   -- a traversal of the machine, with its steps grouped
   pub machine_is : machine.traverse set (ports_of swapped) grid.greatest m
       ≡ and_then (and_then (machine.plain set (ports_of swapped) BeginIteration (image_of set (outset_of set grid swapped m) root (cornered set grid swapped m may) (start set grid swapped m may)))
@@ -129,13 +144,8 @@ module _ {Plan : Type 0} (set : Setting Plan) (grid : Grid) (swapped : Bool) (m 
       (λ x. machine.give_up_all set (ports_of swapped) x.family.parents (with_parents [] x))
   machine_is =
       ap (λ n. machine.traverse set (ports_of swapped) n m) (sym deep)
-      ∙ ap (λ made. and_then made (λ it. and_then (machine.plain set (ports_of swapped) BeginIteration (with_parents it.0 it.1)) (λ x.
-      and_then (each (machine.walk_cell set (ports_of swapped) (suc (grid.greatest - 1))) (children set.axes (way set) root) x) (λ x.
-      and_then (machine.plain set (ports_of swapped) EndIteration x) (λ x. machine.give_up_all set (ports_of swapped) x.family.parents (with_parents [] x))))))
-      (corners_made set (ports_of swapped) (2 ^ set.axes) 0 [] (begun_of set.traversal grid) m may.holds.list (let corners = few_corners set.axes (sound_few set.axes) in omega (arith, may.counts.fresh, corners)) refl)
-      ∙ ap (λ x. and_then (machine.plain set (ports_of swapped) BeginIteration x) (λ x.
-      and_then (each (machine.walk_cell set (ports_of swapped) (suc (grid.greatest - 1))) (children set.axes (way set) root) x) (λ x.
-      and_then (machine.plain set (ports_of swapped) EndIteration x) (λ x. machine.give_up_all set (ports_of swapped) x.family.parents (with_parents [] x))))) corners_image
+      ∙ sym (then-grouped (machine.root_corners set (ports_of swapped) (2 ^ set.axes) [] m) (λ it. machine.plain set (ports_of swapped) BeginIteration (with_parents it.0 it.1)) after_first)
+      ∙ ap (λ begun. and_then begun after_first) begins_is
       ∙ sym (
       then-grouped (machine.plain set (ports_of swapped) BeginIteration first) (λ x. and_then (each (machine.walk_cell set (ports_of swapped) (suc (grid.greatest - 1))) (children set.axes (way set) root) x) (machine.plain set (ports_of swapped) EndIteration))
       (λ x. machine.give_up_all set (ports_of swapped) x.family.parents (with_parents [] x))
@@ -145,9 +155,6 @@ module _ {Plan : Type 0} (set : Setting Plan) (grid : Grid) (swapped : Bool) (m 
     where
       first : Machine
       first = image_of set (outset_of set grid swapped m) root (cornered set grid swapped m may) (start set grid swapped m may)
-
-      sound_few : (n : ℕ) → set.axes ≤ 4
-      sound_few n = subst (λ n. n ≤ 4) (sym may.fits.axes) (sound_of set grid swapped m may).dim.1
 
   -- and the walk by address
   pub model_is : model.traverse set grid

@@ -27,8 +27,8 @@ use Rattle.pe_walk.specs.TokenLaws.{WalkOfACell, LoadsAreDue, LoadedAround, Whol
 use Rattle.pe_walk.proofs.Trees.{root_is_cell, cell_position}
 use Rattle.pe_walk.proofs.Derived.{faces_are_one_way}
 use Rattle.pe_walk.proofs.Tokens.Loads.{due-split, met-append}
-use Rattle.pe_walk.proofs.Tokens.Passages.{passage, token_stretch}
-use Rattle.pe_walk.proofs.Tokens.Walks.{cell_passage, cell_stretch, walk_each, walks, kids_are_cells}
+use Rattle.pe_walk.proofs.Tokens.Passages.{Passage, passage, token_stretch}
+use Rattle.pe_walk.proofs.Tokens.Walks.{CellPassage, cell_passage, cell_stretch, walk_each, walks, kids_are_cells}
 use Rattle.pe_walk.proofs.Tokens.Dues.{due_from, loaded_around, all_due, root_walks}
 
 -- the faces of the root have no neighbour
@@ -98,6 +98,15 @@ pub given_stacks : (ks : List ℕ) (held : Holdings Place) → stack_count (give
 given_stacks [] held = refl
 given_stacks (k ∷ ks) held = given_stacks ks (given_up held)
 
+-- As a traversal begins, the walks of the root's children, one after another, make these lists of what lies on the stacks, and
+-- their loads are due.
+pub record RootBegins (o : Outlook) (levels : ℕ) (outer cells_outer : ℕ → List Place) (t : Tokens) : Type 0 where
+  pub stacks : stack_count t.vertices ≡ 10
+  pub cell_stacks : stack_count t.cells ≡ 2
+  pub stretches : (s : ℕ) → Stretches (map (token_stretch o levels s) (children o.axes o.way root)) (items_at t.vertices s) (outer s)
+  pub cell_stretches : (s : ℕ) → Stretches (map (cell_stretch o levels s) (children o.axes o.way root)) (items_at t.cells s) (cells_outer s)
+  pub due : Due o (flat_map (loads_of o levels) (children o.axes o.way root)) t.met
+
 module _ (o : Outlook) (walked : Place → Bool) (greatest : ℕ) (dim : IsDim o.axes) (grown : Grown o walked greatest) where
   -- no corner of the root counts
   pub root_corners : Each (λ t. o.counts t.vertex ≡ false) (reverse (corner_touches o.axes root))
@@ -143,37 +152,71 @@ module _ (o : Outlook) (walked : Place → Bool) (greatest : ℕ) (dim : IsDim o
   rest_is : (xs own inner : List Place) → own ≡ [] → xs ++ [] ≡ own ++ inner → inner ≡ xs
   rest_is xs own inner e k = sym (ap (λ ys. ys ++ inner) e) ∙ sym k ∙ append-nil xs
 
+  -- there are levels below the root, its children are walked, and the loads of a traversal are its own and those below
+  some_levels : greatest ≡ suc (greatest - 1)
+  some_levels = omega (arith, grown.walks_within root (root_walks o walked greatest dim grown))
+
+  root_kids : walked_children o.axes o.way o.walks root ≡ children o.axes o.way root
+  root_kids = ap (λ b. if_walks o.axes o.way o.walks b (children o.axes o.way root)) (root_walks o walked greatest dim grown)
+
+  root_loads : loads_of o greatest root ≡ reverse (corner_touches o.axes root) ++ flat_map (loads_of o (greatest - 1)) (children o.axes o.way root)
+  root_loads = ap (λ n. loads_of o n root) some_levels ∙ ap (λ cs. reverse (corner_touches o.axes root) ++ flat_map (loads_of o (greatest - 1)) cs) root_kids
+
+  -- what the walk of the root does on each stack
+  pub root_passage : (s : ℕ) → Passage o (suc (greatest - 1)) s root (token_stretch o (greatest - 1) s) (walked_children o.axes o.way o.walks root) []
+  root_passage s = passage o walked grown.is_walk dim root (root_is_cell o.axes o.way) (λ child c. grown.below root child (root_is_cell o.axes o.way) c) (greatest - 1) s []
+
+  pub root_cell_passage : (s : ℕ) → CellPassage o (suc (greatest - 1)) s root (cell_stretch o (greatest - 1) s) (walked_children o.axes o.way o.walks root) []
+  root_cell_passage s = cell_passage o (greatest - 1) s root []
+
+  pub root_begins : (t : Tokens) → MayTraverse o greatest t → RootBegins o (greatest - 1) (λ s. (root_passage s).outer) (λ s. (root_cell_passage s).outer) (begun o t)
+  root_begins t may = record {
+    stacks = lent_stacks (numbers o) t.vertices ∙ may.stacks;
+    cell_stacks = may.cell_stacks;
+    stretches = λ s. subst (λ cs. Stretches (map (token_stretch o (greatest - 1) s) cs) (items_at (begun o t).vertices s) (root_passage s).outer) root_kids
+        (subst (λ xs. Stretches (map (token_stretch o (greatest - 1) s) (walked_children o.axes o.way o.walks root)) xs (root_passage s).outer) (sym (its_vertices s)) (root_passage s).stretches);
+    cell_stretches = λ s. subst (λ cs. Stretches (map (cell_stretch o (greatest - 1) s) cs) (items_at t.cells s) (root_cell_passage s).outer) root_kids
+        (subst (λ xs. Stretches (map (cell_stretch o (greatest - 1) s) (walked_children o.axes o.way o.walks root)) xs (root_cell_passage s).outer) (sym (its_cells s)) (root_cell_passage s).stretches);
+    due = subst (Due o deep) (met_none own t.met root_corners) (due-split o own deep t.met (subst (λ ts. Due o ts t.met) root_loads its_due)).1;
+  }
+    where
+      own : List Touch
+      own = reverse (corner_touches o.axes root)
+
+      deep : List Touch
+      deep = flat_map (loads_of o (greatest - 1)) (children o.axes o.way root)
+
+      its_due : Due o (loads_of o greatest root) t.met
+      its_due = due_from o dim.1 (loads_of o greatest root) t.met (λ v c. loaded_around o walked greatest dim grown v c ∙ ap (λ n. drop n (around o.axes o.way v)) (sym (may.nothing_met v)))
+
+      its_vertices : (s : ℕ) → items_at (begun o t).vertices s ≡ (root_passage s).inner
+      its_vertices s =
+          lent_items (numbers o) t.vertices s ∙ may.reads_vertices s ∙ sym (root_takes o dim greatest s) ∙ ap (λ n. takes o n s root) some_levels
+          ∙ sym (rest_is (takes o (suc (greatest - 1)) s root) (takes o 0 s root) (root_passage s).inner (own_takes_none s) (root_passage s).own_takes)
+
+      its_cells : (s : ℕ) → items_at t.cells s ≡ (root_cell_passage s).inner
+      its_cells s =
+          may.reads_cells s ∙ ap (λ n. cell_takes o n s root) some_levels
+          ∙ sym (rest_is (cell_takes o (suc (greatest - 1)) s root) (cell_takes o 0 s root) (root_cell_passage s).inner (own_cell_takes_none s) (root_cell_passage s).own_takes)
+
   pub whole : (t : Tokens) → MayTraverse o greatest t → (after : Tokens) × (traverse o greatest t ≡ Some after) × HasTraversed o greatest t after
   whole t may =
       let l = greatest - 1 in
-      let e : greatest ≡ suc l = omega (arith, grown.walks_within root (root_walks o walked greatest dim grown)) in
-      let is_cell = root_is_cell o.axes o.way in
-      let pass = λ (s : ℕ). passage o walked grown.is_walk dim root is_cell (λ child c. grown.below root child is_cell c) l s [] in
-      let cell_pass = λ (s : ℕ). cell_passage o l s root [] in
-      let kids : walked_children o.axes o.way o.walks root ≡ children o.axes o.way root = ap (λ b. if_walks o.axes o.way o.walks b (children o.axes o.way root)) (root_walks o walked greatest dim grown) in
       let own = reverse (corner_touches o.axes root) in
       let deep = flat_map (loads_of o l) (children o.axes o.way root) in
-      let loads : loads_of o greatest root ≡ own ++ deep = ap (λ n. loads_of o n root) e ∙ ap (λ cs. own ++ flat_map (loads_of o l) cs) kids in
-      let due : Due o (loads_of o greatest root) t.met = due_from o dim.1 (loads_of o greatest root) t.met (λ v c. loaded_around o walked greatest dim grown v c ∙ ap (λ n. drop n (around o.axes o.way v)) (sym (may.nothing_met v))) in
-      let due_below : Due o deep t.met = subst (Due o deep) (met_none own t.met root_corners) (due-split o own deep t.met (subst (λ ts. Due o ts t.met) loads due)).1 in
-      let run = walk_each o greatest l (walks o walked greatest dim grown l) (children o.axes o.way root) (Each-weaker _ _ (λ c i. (i.0, omega (arith, i.1))) (children o.axes o.way root) (kids_are_cells o walked greatest dim grown root is_cell))
-      (begun o t) (λ s. (pass s).inner) (λ s. (pass s).outer) (λ s. (cell_pass s).inner) (λ s. (cell_pass s).outer)
-      (lent_stacks (numbers o) t.vertices ∙ may.stacks) may.cell_stacks
-      (λ s. lent_items (numbers o) t.vertices s ∙ may.reads_vertices s ∙ sym (root_takes o dim greatest s) ∙ ap (λ n. takes o n s root) e
-      ∙ sym (rest_is (takes o (suc l) s root) (takes o 0 s root) (pass s).inner (own_takes_none s) (pass s).own_takes))
-      (λ s. may.reads_cells s ∙ ap (λ n. cell_takes o n s root) e ∙ sym (rest_is (cell_takes o (suc l) s root) (cell_takes o 0 s root) (cell_pass s).inner (own_cell_takes_none s) (cell_pass s).own_takes))
-      (λ s. subst (λ cs. Stretches (map (token_stretch o l s) cs) (pass s).inner (pass s).outer) kids (pass s).stretches)
-      (λ s. subst (λ cs. Stretches (map (cell_stretch o l s) cs) (cell_pass s).inner (cell_pass s).outer) kids (cell_pass s).stretches)
-      due_below in (
+      let begins = root_begins t may in
+      let run = walk_each o greatest l (walks o walked greatest dim grown l) (children o.axes o.way root) (Each-weaker _ _ (λ c i. (i.0, omega (arith, i.1))) (children o.axes o.way root) (kids_are_cells o walked greatest dim grown root (root_is_cell o.axes o.way)))
+      (begun o t) (items_at (begun o t).vertices) (λ s. (root_passage s).outer) (items_at t.cells) (λ s. (root_cell_passage s).outer)
+      begins.stacks begins.cell_stacks (λ s. refl) (λ s. refl) begins.stretches begins.cell_stretches begins.due in (
         ended o run.0,
         ap (option_map (ended o)) run.1,
         record {
           stacks = given_stacks (numbers o) run.0.vertices ∙ run.2.stacks;
           cell_stacks = run.2.cell_stacks;
           writes_vertices = λ s. given_items (numbers o) run.0.vertices s ∙ run.2.its_vertices s
-              ∙ rest_is (gives o (suc l) s root) (gives o 0 s root) (pass s).outer (own_gives_none s) (pass s).own_gives ∙ ap (λ n. gives o n s root) (sym e) ∙ root_gives o dim greatest s;
+              ∙ rest_is (gives o (suc l) s root) (gives o 0 s root) (root_passage s).outer (own_gives_none s) (root_passage s).own_gives ∙ ap (λ n. gives o n s root) (sym some_levels) ∙ root_gives o dim greatest s;
           writes_cells = λ s. run.2.its_cells s
-              ∙ rest_is (cell_gives o (suc l) s root) (cell_gives o 0 s root) (cell_pass s).outer (own_cell_gives_none s) (cell_pass s).own_gives ∙ ap (λ n. cell_gives o n s root) (sym e);
+              ∙ rest_is (cell_gives o (suc l) s root) (cell_gives o 0 s root) (root_cell_passage s).outer (own_cell_gives_none s) (root_cell_passage s).own_gives ∙ ap (λ n. cell_gives o n s root) (sym some_levels);
           all_met = λ v c. ap (λ m. m v) run.2.its_met ∙ met_touched o v c deep t.met
               ∙ omega (
                 arith,
@@ -181,7 +224,7 @@ module _ (o : Outlook) (walked : Place → Bool) (greatest : ℕ) (dim : IsDim o
                 ap (λ m. m v) (met-append o own deep t.met ∙ ap (met_after o deep) (met_none own t.met root_corners)),
                 met_touched o v c (own ++ deep) t.met,
                 met_touched o v c deep t.met,
-                ap (λ ts. length (touched_for v ts)) (sym loads) ∙ ap length (loaded_around o walked greatest dim grown v c),
+                ap (λ ts. length (touched_for v ts)) (sym root_loads) ∙ ap length (loaded_around o walked greatest dim grown v c),
               );
           held = run.2.its_held;
         },
