@@ -1,8 +1,7 @@
 -- Only the position on the last axis changes.
-use Rattle.std.proofs.Common.{◌≡◌, ℕ, ◌+◌, ◌-◌, ◌*◌, List, set, ap, ◌∙◌, arith}
+use Rattle.std.proofs.Common.{ℕ, ◌+◌, ◌-◌, ◌*◌, List, set, ap, ◌∙◌, arith}
 use Rattle.std.specs.Prelude.{slice_index}
 use Rattle.pe_base.specs.declared.place.Place.{Place}
-use Rattle.pe_base.specs.Tree.Places.{finer}
 use Rattle.pe_base.proofs.Tree.PlaceLaws.{cell_coordinate_below}
 use Rattle.pe_walk.proofs.Children.{child_at-step}
 use Rattle.pe_walk.proofs.child.step_place.Goals as goal
