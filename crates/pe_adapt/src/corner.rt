@@ -6,9 +6,9 @@ ghost use Rattle.pe_base.specs.Steps.Routes.{stack_in};
 ghost use Rattle.pe_access.specs.States.{StandsFor};
 ghost use Rattle.pe_stacks.specs.Corners.{IsFull};
 ghost use Rattle.pe_stacks.specs.Holdings.{CountsWithin, stack_count, len_at};
-ghost use Rattle.pe_mapping.specs.Held.{Keeps, max_level};
+ghost use Rattle.pe_mapping.specs.Held.{max_level};
 ghost use Rattle.pe_mapping.specs.Sights.{seen_vertex, seen_corners};
-ghost use Rattle.pe_hang.specs.InHand.{setting_of, setting_of_events, KeepsMarks};
+ghost use Rattle.pe_hang.specs.InHand.{setting_of, setting_of_events, Stays};
 ghost use Rattle.pe_hang.specs.Follows.{Follows, Left, read_by, found_of, held_by};
 ghost use Rattle.pe_adapt.specs.Stops.{failure_of};
 ghost use Rattle.pe_adapt.specs.Marked.{IsPlaced, IsQuiet};
@@ -57,9 +57,7 @@ pub fn load_corner<M: Mapping, DV: Depot<Vertex<M::V>>>(
         (λ v. (seen_vertex M.numbers.vertex v, desk_in_hand M.numbers (DV.holds dv.new) parents.new parent.new (M.held m.new).list))
         (read_by failure_of result) (found_of (M.held m.old) (held_by (DV.holds dv.old) (DV.room dv.old)) cells) (M.held m.new).told }
     ensures left { Left 0 1 (DV.holds dv.old) (DV.room dv.old) (DV.holds dv.new) (DV.room dv.new) (is_err result) }
-    ensures keeps { Keeps (M.held m.old) (M.held m.new) }
-    ensures full { IsFull (M.held m.old).dim parents.new }
-    ensures marks { KeepsMarks M.numbers.vertex parents.old parents.new }
+    ensures stays { Stays M.numbers.vertex (M.held m.old) (M.held m.new) parents.old parents.new }
 {
     let marks = corner_marks(
         setup.dim,
@@ -107,9 +105,7 @@ pub fn store_corner<M: Mapping, DV: Depot<Vertex<M::V>>>(
         (λ done. desk_in_hand M.numbers (DV.holds dv.new) parents.new parent.new (M.held m.new).list)
         (read_by failure_of result) (found_of (M.held m.old) (held_by (DV.holds dv.old) (DV.room dv.old)) cells) (M.held m.new).told }
     ensures left { Left 1 0 (DV.holds dv.old) (DV.room dv.old) (DV.holds dv.new) (DV.room dv.new) (is_err result) }
-    ensures keeps { Keeps (M.held m.old) (M.held m.new) }
-    ensures full { IsFull (M.held m.old).dim parents.new }
-    ensures marks { KeepsMarks M.numbers.vertex parents.old parents.new }
+    ensures stays { Stays M.numbers.vertex (M.held m.old) (M.held m.new) parents.old parents.new }
 {
     store_placed(spot, state, v, m, dv, parents, parent)
 }

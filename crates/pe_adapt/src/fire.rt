@@ -4,9 +4,8 @@ ghost use Rattle.pe_base.specs.declared.event.Sort.TheVariants.{Vertex as OfVert
 ghost use Rattle.pe_base.specs.Acts.Events.{sort_of};
 ghost use Rattle.pe_base.specs.Walk.Core.{vertex_event};
 ghost use Rattle.pe_stacks.specs.Corners.{IsFull};
-ghost use Rattle.pe_mapping.specs.Held.{Keeps};
 ghost use Rattle.pe_mapping.specs.Moments.{IsTraversal, IsBelowRoot};
-ghost use Rattle.pe_hang.specs.InHand.{setting_of_events, family_in_hand, KeepsMarks};
+ghost use Rattle.pe_hang.specs.InHand.{setting_of_events, family_in_hand, Stays};
 ghost use Rattle.pe_hang.specs.Follows.{Follows, Left, read_by, found_of};
 ghost use Rattle.pe_adapt.specs.Stops.{failure_of_halt};
 ghost use Rattle.pe_adapt.specs.Slots.{seen_slot};
@@ -42,9 +41,7 @@ pub fn fire<M: Mapping, DV: Depot<Vertex<M::V>>>(
         (read_by (failure_of_halt at.now) result) (found_of (M.held m.old) vertices cells) (M.held m.new).told }
     ensures holds { OnOk result (DV.holds dv.new ≡ DV.holds dv.old) }
     ensures left { Left 1 1 (DV.holds dv.old) (DV.room dv.old) (DV.holds dv.new) (DV.room dv.new) (is_err result) }
-    ensures keeps { Keeps (M.held m.old) (M.held m.new) }
-    ensures full { IsFull (M.held m.old).dim parents.new }
-    ensures marks { KeepsMarks M.numbers.vertex parents.old parents.new }
+    ensures stays { Stays M.numbers.vertex (M.held m.old) (M.held m.new) parents.old parents.new }
     ensures filled { OnOk result (IsSome slot.new) }
     ensures emptied { OnErr result (slot.new ≡ None) }
 {

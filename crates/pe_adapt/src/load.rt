@@ -8,10 +8,9 @@ ghost use Rattle.pe_base.specs.Walk.Working.{no_vertex};
 ghost use Rattle.pe_stacks.specs.declared.record.Vertex.{Vertex as AVertex};
 ghost use Rattle.pe_stacks.specs.Corners.{IsFull};
 ghost use Rattle.pe_stacks.specs.Holdings.{stack_count, stack_at, items_at, len_at, lent, popped};
-ghost use Rattle.pe_mapping.specs.Held.{Keeps};
 ghost use Rattle.pe_mapping.specs.Sights.{seen_vertex};
 ghost use Rattle.pe_mapping.specs.Moments.{IsTraversal, IsBelowRoot};
-ghost use Rattle.pe_hang.specs.InHand.{setting_of, setting_of_events, family_in_hand, KeepsMarks};
+ghost use Rattle.pe_hang.specs.InHand.{setting_of, setting_of_events, family_in_hand, Stays};
 ghost use Rattle.pe_hang.specs.Moves.{MayPop};
 ghost use Rattle.pe_hang.specs.Follows.{Follows, Fits, Left, read_by, found_of, held_by};
 ghost use Rattle.pe_adapt.specs.Stops.{failure_of, failure_of_halt};
@@ -51,9 +50,7 @@ pub fn load_hanging<M: Mapping, DV: Depot<Vertex<M::V>>>(
         (λ done. (seen_slot M.numbers.vertex slot.new, desk_in_hand M.numbers (DV.holds dv.new) parents.new parent.new (M.held m.new).list))
         (read_by (failure_of_halt at.now) result) (found_of (M.held m.old) (held_by (DV.holds dv.old) (DV.room dv.old)) cells) (M.held m.new).told }
     ensures left { Left 0 1 (DV.holds dv.old) (DV.room dv.old) (DV.holds dv.new) (DV.room dv.new) (is_err result) }
-    ensures keeps { Keeps (M.held m.old) (M.held m.new) }
-    ensures full { IsFull (M.held m.old).dim parents.new }
-    ensures marks { KeepsMarks M.numbers.vertex parents.old parents.new }
+    ensures stays { Stays M.numbers.vertex (M.held m.old) (M.held m.new) parents.old parents.new }
     ensures filled { OnOk result (IsSome slot.new) }
     ensures emptied { OnErr result (slot.new ≡ None) }
 {
@@ -90,9 +87,7 @@ fn load_born<M: Mapping, DV: Depot<Vertex<M::V>>>(
         (read_by (failure_of_halt at.now) result) (found_of (M.held m.old) vertices cells) (M.held m.new).told }
     ensures lent { OnOk result (DV.holds dv.new ≡ lent (DV.holds dv.old)) }
     ensures left { Left 0 1 (DV.holds dv.old) (DV.room dv.old) (DV.holds dv.new) (DV.room dv.new) (is_err result) }
-    ensures keeps { Keeps (M.held m.old) (M.held m.new) }
-    ensures full { IsFull (M.held m.old).dim parents.new }
-    ensures marks { KeepsMarks M.numbers.vertex parents.old parents.new }
+    ensures stays { Stays M.numbers.vertex (M.held m.old) (M.held m.new) parents.old parents.new }
     ensures filled { OnOk result (IsSome slot.new) }
     ensures emptied { OnErr result (slot.new ≡ None) }
 {
@@ -151,9 +146,7 @@ fn load_stored<M: Mapping, DV: Depot<Vertex<M::V>>>(
         (read_by (failure_of_halt at.now) result) (found_of (M.held m.old) vertices cells) (M.held m.new).told }
     ensures popped { OnOk result (DV.holds dv.new ≡ popped (DV.holds dv.old) input) }
     ensures left { Left 0 1 (DV.holds dv.old) (DV.room dv.old) (DV.holds dv.new) (DV.room dv.new) (is_err result) }
-    ensures keeps { Keeps (M.held m.old) (M.held m.new) }
-    ensures full { IsFull (M.held m.old).dim parents.new }
-    ensures marks { KeepsMarks M.numbers.vertex parents.old parents.new }
+    ensures stays { Stays M.numbers.vertex (M.held m.old) (M.held m.new) parents.old parents.new }
     ensures filled { OnOk result (IsSome slot.new) }
     ensures emptied { OnErr result (slot.new ≡ None) }
 {
@@ -201,9 +194,7 @@ pub fn load_first<M: Mapping, DV: Depot<Vertex<M::V>>>(
         (λ done. (seen_slot M.numbers.vertex slot.new, desk_in_hand M.numbers (DV.holds dv.new) parents.new parent.new (M.held m.new).list))
         (read_by (failure_of_halt at.now) result) (found_of (M.held m.old) (held_by (DV.holds dv.old) (DV.room dv.old)) cells) (M.held m.new).told }
     ensures left { Left 0 1 (DV.holds dv.old) (DV.room dv.old) (DV.holds dv.new) (DV.room dv.new) (is_err result) }
-    ensures keeps { Keeps (M.held m.old) (M.held m.new) }
-    ensures full { IsFull (M.held m.old).dim parents.new }
-    ensures marks { KeepsMarks M.numbers.vertex parents.old parents.new }
+    ensures stays { Stays M.numbers.vertex (M.held m.old) (M.held m.new) parents.old parents.new }
     ensures filled { OnOk result (IsSome slot.new) }
     ensures emptied { OnErr result (slot.new ≡ None) }
 {
@@ -239,9 +230,7 @@ fn load_slot<M: Mapping, DV: Depot<Vertex<M::V>>>(
         (λ done. (seen_slot M.numbers.vertex slot.new, desk_in_hand M.numbers (DV.holds dv.new) parents.new parent.new (M.held m.new).list))
         (read_by (failure_of_halt at.now) result) (found_of (M.held m.old) (held_by (DV.holds dv.old) (DV.room dv.old)) cells) (M.held m.new).told }
     ensures left { Left 0 1 (DV.holds dv.old) (DV.room dv.old) (DV.holds dv.new) (DV.room dv.new) (is_err result) }
-    ensures keeps { Keeps (M.held m.old) (M.held m.new) }
-    ensures full { IsFull (M.held m.old).dim parents.new }
-    ensures marks { KeepsMarks M.numbers.vertex parents.old parents.new }
+    ensures stays { Stays M.numbers.vertex (M.held m.old) (M.held m.new) parents.old parents.new }
     ensures filled { OnOk result (IsSome slot.new) }
     ensures emptied { OnErr result (slot.new ≡ None) }
 {
@@ -292,9 +281,7 @@ pub fn load_as<M: Mapping, DV: Depot<Vertex<M::V>>>(
         (λ v. (seen_vertex M.numbers.vertex v, desk_in_hand M.numbers (DV.holds dv.new) parents.new parent.new (M.held m.new).list))
         (read_by failure_of result) (found_of (M.held m.old) (held_by (DV.holds dv.old) (DV.room dv.old)) cells) (M.held m.new).told }
     ensures left { Left 0 1 (DV.holds dv.old) (DV.room dv.old) (DV.holds dv.new) (DV.room dv.new) (is_err result) }
-    ensures keeps { Keeps (M.held m.old) (M.held m.new) }
-    ensures full { IsFull (M.held m.old).dim parents.new }
-    ensures marks { KeepsMarks M.numbers.vertex parents.old parents.new }
+    ensures stays { Stays M.numbers.vertex (M.held m.old) (M.held m.new) parents.old parents.new }
 {
     let mut slot = None;
     match load_slot(

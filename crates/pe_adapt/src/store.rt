@@ -4,10 +4,9 @@ ghost use Rattle.pe_stacks.specs.Corners.{IsFull};
 ghost use Rattle.pe_base.specs.declared.kind.Kind.TheVariants.{Dying, Hanging};
 ghost use Rattle.pe_base.specs.Walk.Core.{store_of};
 ghost use Rattle.pe_stacks.specs.Holdings.{pushed, given_up};
-ghost use Rattle.pe_mapping.specs.Held.{Keeps};
 ghost use Rattle.pe_mapping.specs.Sights.{seen_vertex};
 ghost use Rattle.pe_mapping.specs.Moments.{IsTraversal, IsBelowRoot};
-ghost use Rattle.pe_hang.specs.InHand.{setting_of_events, family_in_hand, nothing_of, KeepsMarks};
+ghost use Rattle.pe_hang.specs.InHand.{setting_of_events, family_in_hand, nothing_of, Stays};
 ghost use Rattle.pe_hang.specs.Moves.{MayPush};
 ghost use Rattle.pe_hang.specs.Follows.{Follows, Fits, Left, read_by, found_of, held_by};
 ghost use Rattle.pe_adapt.specs.declared.stop.Halt.TheVariants.{Memory as ForMemory};
@@ -85,9 +84,7 @@ pub fn store_hanging<M: Mapping, DV: Depot<Vertex<M::V>>>(
         (λ done. desk_in_hand M.numbers (DV.holds dv.new) parents.new parent.new (M.held m.new).list)
         (read_by (failure_of_halt at.now) result) (found_of (M.held m.old) (held_by (DV.holds dv.old) (DV.room dv.old)) cells) (M.held m.new).told }
     ensures left { Left 1 0 (DV.holds dv.old) (DV.room dv.old) (DV.holds dv.new) (DV.room dv.new) (is_err result) }
-    ensures keeps { Keeps (M.held m.old) (M.held m.new) }
-    ensures full { IsFull (M.held m.old).dim parents.new }
-    ensures marks { KeepsMarks M.numbers.vertex parents.old parents.new }
+    ensures stays { Stays M.numbers.vertex (M.held m.old) (M.held m.new) parents.old parents.new }
     ensures emptied { slot.new ≡ None }
 {
     match end_hanging(m, dv, traversal, at, slot.take().unwrap(), parents, parent) {
@@ -119,9 +116,7 @@ fn store_dying<M: Mapping, DV: Depot<Vertex<M::V>>>(
         (read_by (failure_of_halt at.now) result) (found_of (M.held m.old) vertices cells) (M.held m.new).told }
     ensures given_up { OnOk result (DV.holds dv.new ≡ given_up (DV.holds dv.old)) }
     ensures left { Left 1 0 (DV.holds dv.old) (DV.room dv.old) (DV.holds dv.new) (DV.room dv.new) (is_err result) }
-    ensures keeps { Keeps (M.held m.old) (M.held m.new) }
-    ensures full { IsFull (M.held m.old).dim parents.new }
-    ensures marks { KeepsMarks M.numbers.vertex parents.old parents.new }
+    ensures stays { Stays M.numbers.vertex (M.held m.old) (M.held m.new) parents.old parents.new }
     ensures emptied { slot.new ≡ None }
 {
     fire(
@@ -178,9 +173,7 @@ fn store_staying<M: Mapping, DV: Depot<Vertex<M::V>>>(
         (λ done. desk_in_hand M.numbers (DV.holds dv.new) parents.new parent.new (M.held m.new).list)
         (read_by (failure_of_halt at.now) result) (found_of (M.held m.old) (held_by (DV.holds dv.old) (DV.room dv.old)) cells) (M.held m.new).told }
     ensures left { Left 1 0 (DV.holds dv.old) (DV.room dv.old) (DV.holds dv.new) (DV.room dv.new) (is_err result) }
-    ensures keeps { Keeps (M.held m.old) (M.held m.new) }
-    ensures full { IsFull (M.held m.old).dim parents.new }
-    ensures marks { KeepsMarks M.numbers.vertex parents.old parents.new }
+    ensures stays { Stays M.numbers.vertex (M.held m.old) (M.held m.new) parents.old parents.new }
     ensures emptied { slot.new ≡ None }
 {
     fire(
@@ -225,9 +218,7 @@ pub fn store_last<M: Mapping, DV: Depot<Vertex<M::V>>>(
         (λ done. desk_in_hand M.numbers (DV.holds dv.new) parents.new parent.new (M.held m.new).list)
         (read_by (failure_of_halt at.now) result) (found_of (M.held m.old) (held_by (DV.holds dv.old) (DV.room dv.old)) cells) (M.held m.new).told }
     ensures left { Left 1 0 (DV.holds dv.old) (DV.room dv.old) (DV.holds dv.new) (DV.room dv.new) (is_err result) }
-    ensures keeps { Keeps (M.held m.old) (M.held m.new) }
-    ensures full { IsFull (M.held m.old).dim parents.new }
-    ensures marks { KeepsMarks M.numbers.vertex parents.old parents.new }
+    ensures stays { Stays M.numbers.vertex (M.held m.old) (M.held m.new) parents.old parents.new }
     ensures emptied { slot.new ≡ None }
 {
     let kind = filled_mut(slot).kind();
@@ -262,9 +253,7 @@ fn store_slot<M: Mapping, DV: Depot<Vertex<M::V>>>(
         (λ done. desk_in_hand M.numbers (DV.holds dv.new) parents.new parent.new (M.held m.new).list)
         (read_by (failure_of_halt at.now) result) (found_of (M.held m.old) (held_by (DV.holds dv.old) (DV.room dv.old)) cells) (M.held m.new).told }
     ensures left { Left 1 0 (DV.holds dv.old) (DV.room dv.old) (DV.holds dv.new) (DV.room dv.new) (is_err result) }
-    ensures keeps { Keeps (M.held m.old) (M.held m.new) }
-    ensures full { IsFull (M.held m.old).dim parents.new }
-    ensures marks { KeepsMarks M.numbers.vertex parents.old parents.new }
+    ensures stays { Stays M.numbers.vertex (M.held m.old) (M.held m.new) parents.old parents.new }
     ensures emptied { slot.new ≡ None }
 {
     let kind = filled_mut(slot).kind();
@@ -301,9 +290,7 @@ pub fn store_as<M: Mapping, DV: Depot<Vertex<M::V>>>(
         (λ done. desk_in_hand M.numbers (DV.holds dv.new) parents.new parent.new (M.held m.new).list)
         (read_by failure_of result) (found_of (M.held m.old) (held_by (DV.holds dv.old) (DV.room dv.old)) cells) (M.held m.new).told }
     ensures left { Left 1 0 (DV.holds dv.old) (DV.room dv.old) (DV.holds dv.new) (DV.room dv.new) (is_err result) }
-    ensures keeps { Keeps (M.held m.old) (M.held m.new) }
-    ensures full { IsFull (M.held m.old).dim parents.new }
-    ensures marks { KeepsMarks M.numbers.vertex parents.old parents.new }
+    ensures stays { Stays M.numbers.vertex (M.held m.old) (M.held m.new) parents.old parents.new }
 {
     let mut slot = Some(v);
     let answer = store_slot(to, output, traversal, at, &mut slot, m, dv, parents, parent);

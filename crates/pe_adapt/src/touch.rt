@@ -8,9 +8,8 @@ ghost use Rattle.pe_base.specs.Life.Kinds.{kind_from};
 ghost use Rattle.pe_states.specs.Marks.{is_old_at, is_new_at};
 ghost use Rattle.pe_access.specs.States.{StandsFor, axes_of};
 ghost use Rattle.pe_stacks.specs.Corners.{IsFull};
-ghost use Rattle.pe_mapping.specs.Held.{Keeps};
 ghost use Rattle.pe_mapping.specs.Sights.{seen_vertex, seen_corners};
-ghost use Rattle.pe_hang.specs.InHand.{setting_of, setting_of_events, KeepsMarks};
+ghost use Rattle.pe_hang.specs.InHand.{setting_of, setting_of_events, Stays};
 ghost use Rattle.pe_hang.specs.Follows.{Follows, Fits, Left, read_by, found_of, held_by};
 ghost use Rattle.pe_adapt.specs.Stops.{failure_of};
 ghost use Rattle.pe_adapt.specs.Marked.{GiveKinds, IsPlaced};
@@ -76,9 +75,7 @@ pub fn load_marked<M: Mapping, DV: Depot<Vertex<M::V>>>(
         (λ v. (seen_vertex M.numbers.vertex v, desk_in_hand M.numbers (DV.holds dv.new) parents.new parent.new (M.held m.new).list))
         (read_by failure_of result) (found_of (M.held m.old) (held_by (DV.holds dv.old) (DV.room dv.old)) cells) (M.held m.new).told }
     ensures left { Left 0 1 (DV.holds dv.old) (DV.room dv.old) (DV.holds dv.new) (DV.room dv.new) (is_err result) }
-    ensures keeps { Keeps (M.held m.old) (M.held m.new) }
-    ensures full { IsFull (M.held m.old).dim parents.new }
-    ensures marks { KeepsMarks M.numbers.vertex parents.old parents.new }
+    ensures stays { Stays M.numbers.vertex (M.held m.old) (M.held m.new) parents.old parents.new }
 {
     let at = corner_place(&spot.cell, spot.corner);
     let kind = marks.kind_at(spot.corner);
@@ -120,9 +117,7 @@ pub fn store_placed<M: Mapping, DV: Depot<Vertex<M::V>>>(
         (λ done. desk_in_hand M.numbers (DV.holds dv.new) parents.new parent.new (M.held m.new).list)
         (read_by failure_of result) (found_of (M.held m.old) (held_by (DV.holds dv.old) (DV.room dv.old)) cells) (M.held m.new).told }
     ensures left { Left 1 0 (DV.holds dv.old) (DV.room dv.old) (DV.holds dv.new) (DV.room dv.new) (is_err result) }
-    ensures keeps { Keeps (M.held m.old) (M.held m.new) }
-    ensures full { IsFull (M.held m.old).dim parents.new }
-    ensures marks { KeepsMarks M.numbers.vertex parents.old parents.new }
+    ensures stays { Stays M.numbers.vertex (M.held m.old) (M.held m.new) parents.old parents.new }
 {
     let at = corner_place(&spot.cell, spot.corner);
     let to = route_out(v.kind(), spot, state);

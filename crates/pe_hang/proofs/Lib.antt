@@ -8,5 +8,7 @@ pub mod Leading
 pub mod Firing
 -- old and new through events
 pub mod Marked
+-- what stays through calls
+pub mod Staying
 -- calls on a depot as steps of the machine
 pub mod Moving

@@ -5,9 +5,9 @@ use Rattle.pe_base.specs.Acts.Effects.{VertexRecord, Rules}
 use Rattle.pe_base.specs.Walk.Core.{Setting, Family, Own}
 use Rattle.pe_stacks.specs.declared.record.Vertex.{Vertex}
 use Rattle.pe_stacks.specs.declared.record.CellRec.{CellRec}
-use Rattle.pe_stacks.specs.Corners.{CornerList}
+use Rattle.pe_stacks.specs.Corners.{CornerList, IsFull}
 use Rattle.pe_stacks.specs.Holdings.{Stack, Holdings}
-use Rattle.pe_mapping.specs.Held.{Held}
+use Rattle.pe_mapping.specs.Held.{Held, Keeps}
 use Rattle.pe_mapping.specs.Sights.{Numbers, seen_vertex, seen_corners, seen_cell}
 
 -- what is set for a traversal, by what the mapping holds
@@ -41,6 +41,16 @@ marks_of its = map (λ it. (is_old it.state, is_new it.state)) its
 -- the marks of corners stay
 abbrev pub KeepsMarks : {V : Type 0} → (V → List ℤ) → CornerList (Vertex V) → CornerList (Vertex V) → Type 0
 KeepsMarks numbers old new = marks_of (seen_corners numbers new) ≡ marks_of (seen_corners numbers old)
+
+-- corners in hand stay: all of a cell's are there afterwards, and their marks stay
+pub record CornersStay {V : Type 0} (numbers : V → List ℤ) (axes : ℕ) (old new : CornerList (Vertex V)) : Type 0 where
+  pub full : IsFull axes new
+  pub marks : KeepsMarks numbers old new
+
+-- what no event changes of the mapping and of the parent's corners
+pub record Stays {Plan V : Type 0} (numbers : V → List ℤ) (held held' : Held Plan) (old new : CornerList (Vertex V)) : Type 0 where
+  pub keeps : Keeps held held'
+  pub parents : CornersStay numbers held.dim old new
 
 -- a cell's numbers and its corners
 abbrev pub own_in_hand : {V C : Type 0} → Numbers V C → CellRec C → CornerList (Vertex V) → Own

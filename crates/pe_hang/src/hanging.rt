@@ -2,10 +2,9 @@ ghost use Rattle.std.specs.Prelude.{◌≡◌, ℕ, ◌^◌, ◌<◌, is_err, On
 ghost use Rattle.pe_base.specs.declared.event.Event.TheVariants.{CreateHangingVertex, DestroyHangingVertex};
 ghost use Rattle.pe_stacks.specs.Corners.{IsFull};
 ghost use Rattle.pe_stacks.specs.Holdings.{lent, given_up, KeepsRoom};
-ghost use Rattle.pe_mapping.specs.Held.{Keeps};
 ghost use Rattle.pe_mapping.specs.Sights.{seen_vertex};
 ghost use Rattle.pe_mapping.specs.Moments.{IsTraversal, IsBelowRoot};
-ghost use Rattle.pe_hang.specs.InHand.{setting_of_events, family_in_hand, nothing_of, KeepsMarks};
+ghost use Rattle.pe_hang.specs.InHand.{setting_of_events, family_in_hand, nothing_of, Stays};
 ghost use Rattle.pe_hang.specs.Follows.{Follows, Left, failure_at, read_by, found_of};
 ghost use Rattle.pe_hang.specs.Hanging.{made, ended};
 
@@ -38,9 +37,7 @@ pub fn make_hanging<M: Mapping, DV: Depot<Vertex<M::V>>>(
     ensures lent { OnOk result (DV.holds dv.new ≡ lent (DV.holds dv.old)) }
     ensures stacks { (DV.holds dv.new).stacks ≡ (DV.holds dv.old).stacks }
     ensures left { Left 0 1 (DV.holds dv.old) (DV.room dv.old) (DV.holds dv.new) (DV.room dv.new) (is_err result) }
-    ensures keeps { Keeps (M.held m.old) (M.held m.new) }
-    ensures full { IsFull (M.held m.old).dim parents.new }
-    ensures marks { KeepsMarks M.numbers.vertex parents.old parents.new }
+    ensures stays { Stays M.numbers.vertex (M.held m.old) (M.held m.new) parents.old parents.new }
 {
     let payload = match m.fresh_v() {
         Ok(payload) => payload,
@@ -87,9 +84,7 @@ pub fn end_hanging<M: Mapping, DV: Depot<Vertex<M::V>>>(
         (read_by (failure_at DestroyHangingVertex at.now) result) (found_of (M.held m.old) vertices cells) (M.held m.new).told }
     ensures given_up { DV.holds dv.new ≡ given_up (DV.holds dv.old) }
     ensures left { Left 1 0 (DV.holds dv.old) (DV.room dv.old) (DV.holds dv.new) (DV.room dv.new) (is_err result) }
-    ensures keeps { Keeps (M.held m.old) (M.held m.new) }
-    ensures full { IsFull (M.held m.old).dim parents.new }
-    ensures marks { KeepsMarks M.numbers.vertex parents.old parents.new }
+    ensures stays { Stays M.numbers.vertex (M.held m.old) (M.held m.new) parents.old parents.new }
 {
     let mut v = v;
     let answer = m.vertex_event(

@@ -11,9 +11,10 @@ use Rattle.pe_stacks.specs.Corners.{CornerList, vertex_at, with_vertex, vertices
 use Rattle.pe_stacks.specs.Filled.{FullFrom}
 use Rattle.pe_stacks.proofs.Filling.{full_start, full_put, empty_below, full_take, full_here, full_seen, full_from, seen_put, seen_none}
 use Rattle.pe_stacks.proofs.QuadSlots.{quad_within}
-use Rattle.pe_mapping.specs.Held.{Keeps}
 use Rattle.pe_mapping.specs.Sights.{Numbers, seen_vertex, seen_corners}
+use Rattle.pe_hang.specs.InHand.{Stays}
 use Rattle.pe_hang.specs.Follows.{Fits}
+use Rattle.pe_hang.proofs.Staying.{stays-full}
 use Rattle.pe_adapt.specs.declared.stop.Halt.{Halt}
 use Rattle.pe_adapt.specs.Marked.{GiveKinds}
 use Rattle.pe_adapt.specs.Slots.{seen_slot}
@@ -51,14 +52,14 @@ module _ {Plan V C : Type 0} {settings : Settings} {cell : WalkedCell} where
       let same : 2 ^ settings.setup.dim - filled_in_corners corners ≡ k = omega arith in
       subst (λ j. FullFrom settings.setup.dim j corners) same here.last
 
-  last-next : (k : ℕ) (corners corners' : CornerList (Vertex V)) (old new : Hand Plan V C) → HasLast settings cell corners old → Keeps old.held new.held → IsFull old.held.dim new.parents → FullFrom settings.setup.dim k corners'
+  last-next : {numbers : V → List ℤ} (k : ℕ) (corners corners' : CornerList (Vertex V)) (old new : Hand Plan V C) → HasLast settings cell corners old → Stays numbers old.held new.held old.parents new.parents → FullFrom settings.setup.dim k corners'
       → HasLast settings cell corners' new
-  last-next k corners corners' old new here keeps full last =
+  last-next k corners corners' old new here stays last =
       let same : k ≡ 2 ^ settings.setup.dim - filled_in_corners corners' = omega (arith, last.count, filled-last settings.setup.dim k corners' last) in
       record {
-        dim = keeps.dim ∙ here.dim;
-        walked = subst (λ d. IsWalked d settings cell) (sym keeps.dim) here.walked;
-        full = subst (λ d. IsFull d new.parents) (sym keeps.dim) full;
+        dim = stays.keeps.dim ∙ here.dim;
+        walked = subst (λ d. IsWalked d settings cell) (sym stays.keeps.dim) here.walked;
+        full = stays-full stays;
         last = subst (λ j. FullFrom settings.setup.dim j corners') same last;
       }
 
@@ -119,8 +120,8 @@ module _ {Plan V C : Type 0} {rules : Rules Plan} {numbers : Numbers V C} {setti
     load-ready slot (Err halt) new loaded goes = tt
     load-ready None (Ok done) new loaded goes = absurd (let no : false ≡ true = loaded in cc)
     load-ready (Some v) (Ok done) new loaded goes = record {
-      here = last-next k corners (with_vertex corners k (Some v)) old new ready.here goes.keeps goes.full (full_put settings.setup.dim k v corners (with_vertex corners k (Some v)) refl last_loaded);
-      kinds = kinds-kept (seen_corners numbers.vertex old.parents) (seen_corners numbers.vertex new.parents) goes.marks old.held.dim new.held.dim settings.traversal cell.place cell.marks goes.keeps.dim ready.kinds;
+      here = last-next k corners (with_vertex corners k (Some v)) old new ready.here goes.stays (full_put settings.setup.dim k v corners (with_vertex corners k (Some v)) refl last_loaded);
+      kinds = kinds-kept (seen_corners numbers.vertex old.parents) (seen_corners numbers.vertex new.parents) goes.stays.parents.marks old.held.dim new.held.dim settings.traversal cell.place cell.marks goes.stays.keeps.dim ready.kinds;
       fits = may-next ready.fits goes;
     }
 
@@ -182,7 +183,7 @@ module _ {Plan V C : Type 0} {rules : Rules Plan} {numbers : Numbers V C} {setti
         → OnOk result (MayStore rules numbers settings cell after_store new)
     store-ready (Err halt) new goes = tt
     store-ready (Ok done) new goes = record {
-      here = last-next (k + 1) corners after_store old new ready.here goes.keeps goes.full last_stored;
+      here = last-next (k + 1) corners after_store old new ready.here goes.stays last_stored;
       out = omega (arith, ready.out, goes.left.out);
       fits = may-next ready.fits goes;
     }

@@ -16,14 +16,12 @@ use Rattle.pe_base.specs.Walk.Course.{Course, course_map}
 use Rattle.pe_base.specs.Walk.Core.{Setting, way}
 use Rattle.pe_base.specs.Walk.Touches.{tally_load, tally_store}
 use Rattle.pe_stacks.specs.declared.record.Vertex.{Vertex}
-use Rattle.pe_stacks.specs.Corners.{IsFull}
 use Rattle.pe_stacks.specs.Holdings.{Holdings, KeepsRoom, stack_count, stack_at, popped, popped_from}
 use Rattle.std.proofs.lemmas.List.{length-set}
 use Rattle.std.proofs.lemmas.Bool.{and_parts}
-use Rattle.pe_mapping.specs.Held.{Keeps}
 use Rattle.pe_mapping.specs.Sights.{Numbers, seen_corners}
 use Rattle.pe_access.specs.Numbers.{stack_of}
-use Rattle.pe_hang.specs.InHand.{KeepsMarks}
+use Rattle.pe_hang.specs.InHand.{Stays}
 use Rattle.pe_mapping.specs.Held.{Told}
 use Rattle.pe_hang.specs.Follows.{Follows, Fits, Found, Failure, Left, read_by}
 use Rattle.pe_hang.proofs.Leading.{and_then-fits, follows-map}
@@ -173,16 +171,14 @@ module _ {Plan V C : Type 0} (rules : Rules Plan) (numbers : Numbers V C) (setti
       (is_none (stack_in old.held.dim (way set_here) (corner old.held.dim place k) place)) old.progress.tally
       → ((room : ℕ → ℕ) → Follows (corners.load_corner set_here settings.input place k desk_before) (λ (done : Unit {0}). (seen_slot numbers.vertex slot, desk_behind))
       (read_by (failure_in new.progress) result) (found_in old room) new.held.told)
-      → Left 0 1 old.vertices old.room new.vertices new.room (is_err result) → Keeps old.held new.held → IsFull old.held.dim new.parents → KeepsMarks numbers.vertex old.parents new.parents
+      → Left 0 1 old.vertices old.room new.vertices new.room (is_err result) → Stays numbers.vertex old.held new.held old.parents new.parents
       → OnOk result (IsSome slot) → OnErr result (slot ≡ None)
       → GoesAlong rules numbers settings loads (λ machine. (seen_slot numbers.vertex slot, machine)) 0 (filled_in slot) result old new
-  goes-load slot may counted touched left keeps full marks loaded emptied = record {
+  goes-load slot may counted touched left stays loaded emptied = record {
     follows = λ cells room. load-follows set_here (ports_of settings) place k (machine_of numbers cells old) new.progress.tally (λ (done : Unit {0}). (seen_slot numbers.vertex slot, desk_behind))
         (read_by (failure_in new.progress) result) (found_in old room) new.held.told (may cells) counted (touched room);
     left = left-loaded slot result old.vertices new.vertices old.room new.room left loaded emptied;
-    keeps = keeps;
-    full = full;
-    marks = marks;
+    stays = stays;
     counted = ap (λ tally. tally.cells) counted
         ∙ load-cells (kind_in_hand set_here place (seen_corners numbers.vertex old.parents) (corner old.held.dim place k)) (is_none (stack_in old.held.dim (way set_here) (corner old.held.dim place k) place)) old.progress.tally;
   }
@@ -192,15 +188,13 @@ module _ {Plan V C : Type 0} (rules : Rules Plan) (numbers : Numbers V C) (setti
       → new.progress.tally ≡ tally_store it.kind (is_none (stack_out old.held.dim (way set_here) (corner old.held.dim place k) place)) old.progress.tally
       → ((room : ℕ → ℕ) → Follows (corners.store_corner set_here (output (ports_of settings)) place k it desk_before) (λ (done : Unit {0}). desk_behind)
       (read_by (failure_in new.progress) result) (found_in old room) new.held.told)
-      → Left 1 0 old.vertices old.room new.vertices new.room (is_err result) → Keeps old.held new.held → IsFull old.held.dim new.parents → KeepsMarks numbers.vertex old.parents new.parents
+      → Left 1 0 old.vertices old.room new.vertices new.room (is_err result) → Stays numbers.vertex old.held new.held old.parents new.parents
       → GoesAlong rules numbers settings (stores it) (λ machine. machine) 1 0 result old new
-  goes-store it may counted touched left keeps full marks = record {
+  goes-store it may counted touched left stays = record {
     follows = λ cells room. store-follows set_here (ports_of settings) place k it (machine_of numbers cells old) new.progress.tally (λ (done : Unit {0}). desk_behind)
         (read_by (failure_in new.progress) result) (found_in old room) new.held.told (may cells) counted (touched room);
     left = left-stored result old.vertices new.vertices old.room new.room left;
-    keeps = keeps;
-    full = full;
-    marks = marks;
+    stays = stays;
     counted = ap (λ tally. tally.cells) counted ∙ store-cells it.kind (is_none (stack_out old.held.dim (way set_here) (corner old.held.dim place k) place)) old.progress.tally;
   }
 

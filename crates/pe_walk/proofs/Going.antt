@@ -8,12 +8,12 @@ use Rattle.pe_stacks.specs.Corners.{IsFull}
 use Rattle.pe_mapping.specs.Held.{Keeps}
 use Rattle.pe_mapping.specs.Sights.{Numbers}
 use Rattle.pe_hang.specs.Follows.{Failure, Found, Follows, Leads, Fits, Left, IsRoomier, read_by}
+use Rattle.pe_hang.proofs.Staying.{keeps-same, stays-beside, stays-then}
 use Rattle.pe_hang.proofs.Leading.{and_then-fits, leads_start, leads_next, leads_err, leads_last, leads_end, leads_rest, setting-kept}
 use Rattle.pe_adapt.specs.declared.stop.Halt.{Halt}
 use Rattle.pe_walk.specs.declared.settings.Settings.{Settings}
 use Rattle.pe_walk.specs.Machine.{Machine}
 use Rattle.pe_walk.specs.InHand.{setting_in, failure_in}
-use Rattle.pe_walk.proofs.Walking.{keeps-same, keeps-then}
 use Rattle.pe_walk.specs.Corners.{Hand, machine_of, found_in, MayGo, GoesAlong, GoesOn, LeadsOn}
 
 -- of a result
@@ -80,11 +80,9 @@ module _ {Plan V C : Type 0} {rules : Rules Plan} {numbers : Numbers V C} {setti
     leads = λ cells room.
         let set = setting_in rules old.held settings in
         step-leads (first set (machine_of numbers cells old)) (next set) (reached (machine_of numbers cells new)) (read_by (failure_in new.progress) result) (found_in old room) (found_in new room)
-        (goes.follows cells room) (roomier old new goes.keeps had has goes.left room);
+        (goes.follows cells room) (roomier old new goes.stays.keeps had has goes.left room);
     left = goes.left;
-    keeps = goes.keeps;
-    full = goes.full;
-    marks = goes.marks;
+    stays = goes.stays;
     counted = goes.counted;
   }
 
@@ -94,9 +92,7 @@ module _ {Plan V C : Type 0} {rules : Rules Plan} {numbers : Numbers V C} {setti
     goes-nowhere whole had hand full = record {
       leads = λ cells room. leads_start (whole (setting_in rules hand.held settings) (machine_of numbers cells hand)) (found_in hand room);
       left = record { count = refl; keeps = λ s. omega arith; out = refl };
-      keeps = keeps-same hand.held;
-      full = full;
-      marks = refl;
+      stays = stays-beside (keeps-same hand.held) full;
       counted = refl;
     }
 
@@ -105,7 +101,7 @@ module _ {Plan V C : Type 0} {rules : Rules Plan} {numbers : Numbers V C} {setti
       pub may-next : MayGo rules numbers settings whole old → GoesOn rules numbers settings whole rest had has (Ok tt) old mid → MayGo rules numbers settings rest mid
       may-next may goes cells =
           let machine = machine_of numbers cells mid in
-          subst (λ set. Fits (rest set machine)) (sym (setting-same old mid goes.keeps rules settings))
+          subst (λ set. Fits (rest set machine)) (sym (setting-same old mid goes.stays.keeps rules settings))
           (leads_rest (rest (setting_in rules old.held settings) machine) (goes.leads cells (λ s. 0)) (may cells))
 
       -- some of it, and then more
@@ -119,15 +115,13 @@ module _ {Plan V C : Type 0} {rules : Rules Plan} {numbers : Numbers V C} {setti
             let between = machine_of numbers cells mid in
             let behind = machine_of numbers cells new in
             leads-then (whole set before) (rest set between) (last set behind) answer (found_in old room) (found_in mid room) (found_in new room) (first.leads cells room)
-            (subst (λ s. LeadsOn (rest s between) (last s behind) answer (found_in mid room) (found_in new room)) (setting-same old mid first.keeps rules settings) (second.leads cells room));
+            (subst (λ s. LeadsOn (rest s between) (last s behind) answer (found_in mid room) (found_in new room)) (setting-same old mid first.stays.keeps rules settings) (second.leads cells room));
         left = record {
           count = second.left.count ∙ first.left.count;
           keeps = λ s. omega (arith, first.left.keeps s, second.left.keeps s);
           out = omega (arith, first.left.out, second.left.out);
         };
-        keeps = keeps-then old.held mid.held new.held first.keeps second.keeps;
-        full = subst (λ axes. IsFull axes new.parents) first.keeps.dim second.full;
-        marks = second.marks ∙ first.marks;
+        stays = stays-then first.stays second.stays;
         counted = second.counted ∙ first.counted;
       }
 
@@ -145,9 +139,7 @@ module _ {Plan V C : Type 0} {rules : Rules Plan} {numbers : Numbers V C} {setti
             leads-same (whole set (machine_of numbers cells old)) (whole' set (machine_of numbers cells old)) (rest set behind) (rest' set behind) result (failure_in new.progress) (found_in old room) (found_in new room)
             (same (machine_of numbers cells old)) (on-ok result after (λ each. each behind)) (goes.leads cells room);
         left = record { count = goes.left.count; keeps = goes.left.keeps; out = omega (arith, goes.left.out, filled) };
-        keeps = goes.keeps;
-        full = goes.full;
-        marks = goes.marks;
+        stays = goes.stays;
         counted = goes.counted;
       }
 
@@ -165,8 +157,6 @@ module _ {Plan V C : Type 0} {rules : Rules Plan} {numbers : Numbers V C} {setti
             subst (λ c. Follows c (λ (done : Unit {0}). after behind) (read_by (failure_in new.progress) result) (found_in old room) new.held.told) (same before)
             (leads-all (whole set before) (rest set behind) (after behind) result (failure_in new.progress) (found_in old room) (found_in new room) (on-ok result end (λ each. each behind)) (goes.leads cells room));
         left = record { count = goes.left.count; keeps = goes.left.keeps; out = omega (arith, goes.left.out, filled) };
-        keeps = goes.keeps;
-        full = goes.full;
-        marks = goes.marks;
+        stays = goes.stays;
         counted = goes.counted;
       }

@@ -1,5 +1,5 @@
 -- Calls of a walk that go along with the machine, one after another.
-use Rattle.std.proofs.Common.{◌≡◌, ℕ, Result, Ok, Err, refl, sym, subst, ◌∙◌}
+use Rattle.std.proofs.Common.{◌≡◌, ℕ, Result, Ok, Err, sym, subst}
 use Rattle.pe_base.specs.Acts.Effects.{Rules}
 use Rattle.pe_base.specs.Walk.Course.{Course, and_then}
 use Rattle.pe_base.specs.Walk.Core.{Setting}
@@ -16,18 +16,6 @@ use Rattle.pe_walk.specs.declared.settings.Settings.{Settings}
 use Rattle.pe_walk.specs.declared.progress.Progress.{Progress}
 use Rattle.pe_walk.specs.Machine.{Machine}
 use Rattle.pe_walk.specs.InHand.{setting_in, machine_in_hand}
-
--- a mapping that was not called, and one that was called again
-pub keeps-same : {Plan : Type 0} (held : Held Plan) → Keeps held held
-keeps-same held = record { plan = refl; dim = refl; sure = refl; lent = refl }
-
-pub keeps-then : {Plan : Type 0} (a b c : Held Plan) → Keeps a b → Keeps b c → Keeps a c
-keeps-then a b c first second = record {
-  plan = second.plan ∙ first.plan;
-  dim = second.dim ∙ first.dim;
-  sure = second.sure ∙ first.sure;
-  lent = second.lent ∙ first.lent;
-}
 
 -- what a walk has in hand and on stacks
 pub record Hands (Plan V C : Type 0) : Type 0 where

@@ -9,9 +9,9 @@ use Rattle.pe_stacks.specs.declared.record.CellRec.{CellRec}
 use Rattle.pe_stacks.specs.Corners.{CornerList, IsFull}
 use Rattle.pe_stacks.specs.Filled.{FullFrom}
 use Rattle.pe_stacks.specs.Holdings.{Holdings}
-use Rattle.pe_mapping.specs.Held.{Held, Keeps}
+use Rattle.pe_mapping.specs.Held.{Held}
 use Rattle.pe_mapping.specs.Sights.{Numbers, seen_corners}
-use Rattle.pe_hang.specs.InHand.{KeepsMarks}
+use Rattle.pe_hang.specs.InHand.{Stays}
 use Rattle.pe_hang.specs.Follows.{Found, Failure, Follows, Leads, Fits, Left, read_by, found_of, held_by}
 use Rattle.pe_adapt.specs.declared.stop.Halt.{Halt}
 use Rattle.pe_adapt.specs.Slots.{seen_slot}
@@ -77,9 +77,7 @@ pub record GoesAlong {Plan V C X : Type 0} (rules : Rules Plan) (numbers : Numbe
       (course (setting_in rules old.held settings) (machine_of numbers cells old)) (λ (done : Unit {0}). after (machine_of numbers cells new))
       (read_by (failure_in new.progress) result) (found_in old room) new.held.told
   pub left : Left had has old.vertices old.room new.vertices new.room false
-  pub keeps : Keeps old.held new.held
-  pub full : IsFull old.held.dim new.parents
-  pub marks : KeepsMarks numbers.vertex old.parents new.parents
+  pub stays : Stays numbers.vertex old.held new.held old.parents new.parents
   pub counted : new.progress.tally.cells ≡ old.progress.tally.cells
 
 -- A course is left, and then another one. Where a call comes through, the first leads to the second; where it fails, the first
@@ -95,9 +93,7 @@ pub record GoesOn {Plan V C X : Type 0} (rules : Rules Plan) (numbers : Numbers 
       (whole (setting_in rules old.held settings) (machine_of numbers cells old)) (rest (setting_in rules old.held settings) (machine_of numbers cells new))
       (read_by (failure_in new.progress) result) (found_in old room) (found_in new room)
   pub left : Left had has old.vertices old.room new.vertices new.room false
-  pub keeps : Keeps old.held new.held
-  pub full : IsFull old.held.dim new.parents
-  pub marks : KeepsMarks numbers.vertex old.parents new.parents
+  pub stays : Stays numbers.vertex old.held new.held old.parents new.parents
   pub counted : new.progress.tally.cells ≡ old.progress.tally.cells
 
 -- what is left to do for a cell, by the corners in their slots

@@ -2,9 +2,8 @@
 ghost use Rattle.std.specs.Prelude.{◌≡◌, suc, ◌+◌, ◌≤◌, ◌<◌, is_err};
 ghost use Rattle.pe_base.specs.declared.place.Place.{Place as APlace};
 ghost use Rattle.pe_stacks.specs.Corners.{IsFull, no_vertices};
-ghost use Rattle.pe_mapping.specs.Held.{Keeps};
 ghost use Rattle.pe_mapping.specs.Sights.{seen_corners};
-ghost use Rattle.pe_hang.specs.InHand.{cells_on_stacks, KeepsMarks};
+ghost use Rattle.pe_hang.specs.InHand.{cells_on_stacks, Stays};
 ghost use Rattle.pe_hang.specs.Follows.{Follows, Fits, Left, read_by, found_of, held_by};
 ghost use Rattle.pe_adapt.specs.Marked.{AreMarksOf, GiveKinds};
 ghost use Rattle.pe_walk.specs.Machine.{kind_among, walk_cell};
@@ -56,9 +55,7 @@ pub(crate) fn walk_cell<M: Mapping, DV: Depot<Vertex<M::V>>, DC: Depot<CellRec<M
     ensures left { Left 0 0 (DV.holds dv.old) (DV.room dv.old) (DV.holds dv.new) (DV.room dv.new) (is_err result) }
     ensures cells_left { Left 0 0 (DC.holds dc.old) (DC.room dc.old) (DC.holds dc.new) (DC.room dc.new) (is_err result) }
     ensures counts { CountsCells settings.now.setup.max_cells 0 progress.old (DC.holds dc.old) progress.new (DC.holds dc.new) (is_err result) }
-    ensures keeps { Keeps (M.held m.old) (M.held m.new) }
-    ensures full { IsFull (M.held m.old).dim parents.new }
-    ensures marks { KeepsMarks M.numbers.vertex parents.old parents.new }
+    ensures stays { Stays M.numbers.vertex (M.held m.old) (M.held m.new) parents.old parents.new }
     ensures emptied { corners.new ≡ no_vertices (M.held m.old).dim }
 {
     match settings.setup.dim.axes() {
@@ -107,9 +104,7 @@ pub(crate) fn walk_children<M: Mapping, DV: Depot<Vertex<M::V>>, DC: Depot<CellR
     ensures left { Left 0 0 (DV.holds dv.old) (DV.room dv.old) (DV.holds dv.new) (DV.room dv.new) (is_err result) }
     ensures cells_left { Left 0 0 (DC.holds dc.old) (DC.room dc.old) (DC.holds dc.new) (DC.room dc.new) (is_err result) }
     ensures counts { CountsCells settings.now.setup.max_cells 0 progress.old (DC.holds dc.old) progress.new (DC.holds dc.new) (is_err result) }
-    ensures keeps { Keeps (M.held m.old) (M.held m.new) }
-    ensures full { IsFull (M.held m.old).dim parents.new }
-    ensures marks { KeepsMarks M.numbers.vertex parents.old parents.new }
+    ensures stays { Stays M.numbers.vertex (M.held m.old) (M.held m.new) parents.old parents.new }
 {
     match settings.setup.dim.axes() {
         2 => cell::walk_children::<2, M, DV, DC>(

@@ -3,9 +3,8 @@ ghost use Rattle.std.specs.Prelude.{◌≡◌, ℕ, suc, ◌+◌, ◌≤◌, ◌
 ghost use Rattle.pe_base.specs.declared.place.Place.{Place as APlace};
 ghost use Rattle.pe_base.specs.Walk.Core.{Family};
 ghost use Rattle.pe_stacks.specs.Corners.{IsFull, no_vertices};
-ghost use Rattle.pe_mapping.specs.Held.{Keeps};
 ghost use Rattle.pe_mapping.specs.Sights.{seen_corners};
-ghost use Rattle.pe_hang.specs.InHand.{own_in_hand, cells_on_stacks, KeepsMarks};
+ghost use Rattle.pe_hang.specs.InHand.{own_in_hand, cells_on_stacks, CornersStay, Stays};
 ghost use Rattle.pe_hang.specs.Follows.{Follows, Fits, Left, read_by, found_of, held_by};
 ghost use Rattle.pe_adapt.specs.Marked.{AreMarksOf, GiveKinds};
 ghost use Rattle.pe_walk.specs.Machine.{kind_among, walk_cell};
@@ -68,9 +67,7 @@ pub(crate) fn walk_cell<
     ensures left { Left 0 0 (DV.holds dv.old) (DV.room dv.old) (DV.holds dv.new) (DV.room dv.new) (is_err result) }
     ensures cells_left { Left 0 0 (DC.holds dc.old) (DC.room dc.old) (DC.holds dc.new) (DC.room dc.new) (is_err result) }
     ensures counts { CountsCells settings.now.setup.max_cells 0 progress.old (DC.holds dc.old) progress.new (DC.holds dc.new) (is_err result) }
-    ensures keeps { Keeps (M.held m.old) (M.held m.new) }
-    ensures full { IsFull (M.held m.old).dim parents.new }
-    ensures marks { KeepsMarks M.numbers.vertex parents.old parents.new }
+    ensures stays { Stays M.numbers.vertex (M.held m.old) (M.held m.new) parents.old parents.new }
     ensures emptied { corners.new ≡ no_vertices (M.held m.old).dim }
 {
     let dim = settings.setup.dim;
@@ -133,10 +130,8 @@ fn visit_cell<const AXES: u8, M: Mapping, DV: Depot<Vertex<M::V>>, DC: Depot<Cel
     ensures left { Left 0 0 (DV.holds dv.old) (DV.room dv.old) (DV.holds dv.new) (DV.room dv.new) (is_err result) }
     ensures cells_left { Left 0 0 (DC.holds dc.old) (DC.room dc.old) (DC.holds dc.new) (DC.room dc.new) (is_err result) }
     ensures counts { CountsCells settings.now.setup.max_cells 1 progress.old (DC.holds dc.old) progress.new (DC.holds dc.new) (is_err result) }
-    ensures keeps { Keeps (M.held m.old) (M.held m.new) }
-    ensures full { IsFull (M.held m.old).dim parents.new }
-    ensures marks { KeepsMarks M.numbers.vertex parents.old parents.new }
-    ensures own_full { IsFull (M.held m.old).dim corners.new }
+    ensures stays { Stays M.numbers.vertex (M.held m.old) (M.held m.new) parents.old parents.new }
+    ensures own { CornersStay M.numbers.vertex (M.held m.old).dim corners.old corners.new }
 {
     let place = &cell.place;
     match enter_cell(
@@ -201,9 +196,7 @@ fn walk_below<const AXES: u8, M: Mapping, DV: Depot<Vertex<M::V>>, DC: Depot<Cel
     ensures left { Left 0 0 (DV.holds dv.old) (DV.room dv.old) (DV.holds dv.new) (DV.room dv.new) (is_err result) }
     ensures cells_left { Left 0 0 (DC.holds dc.old) (DC.room dc.old) (DC.holds dc.new) (DC.room dc.new) (is_err result) }
     ensures counts { CountsCells settings.now.setup.max_cells 0 progress.old (DC.holds dc.old) progress.new (DC.holds dc.new) (is_err result) }
-    ensures keeps { Keeps (M.held m.old) (M.held m.new) }
-    ensures own_full { IsFull (M.held m.old).dim corners.new }
-    ensures own_marks { KeepsMarks M.numbers.vertex corners.old corners.new }
+    ensures stays { Stays M.numbers.vertex (M.held m.old) (M.held m.new) corners.old corners.new }
 {
     if levels == 0 {
         return Ok(());
@@ -266,9 +259,7 @@ pub(crate) fn walk_children<
     ensures left { Left 0 0 (DV.holds dv.old) (DV.room dv.old) (DV.holds dv.new) (DV.room dv.new) (is_err result) }
     ensures cells_left { Left 0 0 (DC.holds dc.old) (DC.room dc.old) (DC.holds dc.new) (DC.room dc.new) (is_err result) }
     ensures counts { CountsCells settings.now.setup.max_cells 0 progress.old (DC.holds dc.old) progress.new (DC.holds dc.new) (is_err result) }
-    ensures keeps { Keeps (M.held m.old) (M.held m.new) }
-    ensures full { IsFull (M.held m.old).dim parents.new }
-    ensures marks { KeepsMarks M.numbers.vertex parents.old parents.new }
+    ensures stays { Stays M.numbers.vertex (M.held m.old) (M.held m.new) parents.old parents.new }
 {
     let mut corners = Corners::empty(settings.setup.dim);
     let mut child = child_of::<AXES>(settings, above, Digits { k: [0; 4] });

@@ -2,9 +2,8 @@
 ghost use Rattle.std.specs.Prelude.{◌≡◌, ℕ, ℤ, ◌≤◌, ◌^◌, false, [], List, is_err, None, Option, OnOk, OnErr};
 ghost use Rattle.pe_stacks.specs.Corners.{IsFull, no_vertices};
 ghost use Rattle.pe_stacks.specs.Holdings.{Holdings};
-ghost use Rattle.pe_mapping.specs.Held.{Keeps};
 ghost use Rattle.pe_mapping.specs.Sights.{seen_corners};
-ghost use Rattle.pe_hang.specs.InHand.{KeepsMarks};
+ghost use Rattle.pe_hang.specs.InHand.{Stays};
 ghost use Rattle.pe_hang.specs.Follows.{Follows, Fits, Left, read_by, found_of, held_by};
 ghost use Rattle.pe_adapt.specs.Marked.{GiveKinds};
 ghost use Rattle.pe_walk.specs.Machine.{load_all, store_all};
@@ -139,9 +138,7 @@ pub(crate) fn load_corners<const AXES: u8, M: Mapping, DV: Depot<Vertex<M::V>>>(
         (λ done. (seen_corners M.numbers.vertex corners.new, machine_in_hand M.numbers (DV.holds dv.new) cells parents.new parent.new (M.held m.new).list progress.new.tally))
         (read_by (failure_in progress.new) result) (found_of (M.held m.old) (held_by (DV.holds dv.old) (DV.room dv.old)) room) (M.held m.new).told }
     ensures left { Left 0 (2 ^ (M.held m.old).dim) (DV.holds dv.old) (DV.room dv.old) (DV.holds dv.new) (DV.room dv.new) (is_err result) }
-    ensures keeps { Keeps (M.held m.old) (M.held m.new) }
-    ensures full { IsFull (M.held m.old).dim parents.new }
-    ensures marks { KeepsMarks M.numbers.vertex parents.old parents.new }
+    ensures stays { Stays M.numbers.vertex (M.held m.old) (M.held m.new) parents.old parents.new }
     ensures counted { progress.new.tally.cells ≡ progress.old.tally.cells }
     ensures loaded { OnOk result (IsFull (M.held m.old).dim corners.new) }
     ensures emptied { OnErr result (corners.new ≡ no_vertices (M.held m.old).dim) }
@@ -183,9 +180,7 @@ pub(crate) fn store_corners<const AXES: u8, M: Mapping, DV: Depot<Vertex<M::V>>>
         (λ done. machine_in_hand M.numbers (DV.holds dv.new) cells parents.new parent.new (M.held m.new).list progress.new.tally)
         (read_by (failure_in progress.new) result) (found_of (M.held m.old) (held_by (DV.holds dv.old) (DV.room dv.old)) room) (M.held m.new).told }
     ensures left { Left (2 ^ (M.held m.old).dim) 0 (DV.holds dv.old) (DV.room dv.old) (DV.holds dv.new) (DV.room dv.new) (is_err result) }
-    ensures keeps { Keeps (M.held m.old) (M.held m.new) }
-    ensures full { IsFull (M.held m.old).dim parents.new }
-    ensures marks { KeepsMarks M.numbers.vertex parents.old parents.new }
+    ensures stays { Stays M.numbers.vertex (M.held m.old) (M.held m.new) parents.old parents.new }
     ensures counted { progress.new.tally.cells ≡ progress.old.tally.cells }
     ensures emptied { corners.new ≡ no_vertices (M.held m.old).dim }
 {

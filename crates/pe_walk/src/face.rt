@@ -4,9 +4,9 @@ ghost use Rattle.pe_base.specs.declared.place.Place.{Place as APlace};
 ghost use Rattle.pe_base.specs.Tree.Dim.{IsDim};
 ghost use Rattle.pe_base.specs.Acts.Effects.{VertexRecord};
 ghost use Rattle.pe_stacks.specs.Corners.{IsFull};
-ghost use Rattle.pe_mapping.specs.Held.{Keeps, max_level};
+ghost use Rattle.pe_mapping.specs.Held.{max_level};
 ghost use Rattle.pe_mapping.specs.Sights.{seen_corners};
-ghost use Rattle.pe_hang.specs.InHand.{setting_of, cells_on_stacks};
+ghost use Rattle.pe_hang.specs.InHand.{setting_of, cells_on_stacks, Stays};
 ghost use Rattle.pe_hang.specs.Follows.{Left, read_by, found_of, held_by};
 ghost use Rattle.pe_adapt.specs.Stops.{failure_of};
 ghost use Rattle.pe_adapt.specs.Marked.{AreMarksOf, GiveKinds};
@@ -106,8 +106,7 @@ pub fn walk_cell<M: Mapping, DV: Depot<Vertex<M::V>>, DC: Depot<CellRec<M::C>>>(
         (machine_in_hand M.numbers (DV.holds dv.new) (cells_on_stacks M.numbers (DC.holds dc.new)) parents.new parent.new (M.held m.new).list tally.new) }
     ensures left { Left 0 0 (DV.holds dv.old) (DV.room dv.old) (DV.holds dv.new) (DV.room dv.new) (is_err result) }
     ensures cells_left { Left 0 0 (DC.holds dc.old) (DC.room dc.old) (DC.holds dc.new) (DC.room dc.new) (is_err result) }
-    ensures keeps { Keeps (M.held m.old) (M.held m.new) }
-    ensures full { IsFull (M.held m.old).dim parents.new }
+    ensures stays { Stays M.numbers.vertex (M.held m.old) (M.held m.new) parents.old parents.new }
 {
     let settings = settings_at(setup, traversal, input, cell_input);
     let marks = marks_of(setup.dim, parents);

@@ -7,7 +7,7 @@ ghost use Rattle.pe_base.specs.Walk.Core.{plain_event};
 ghost use Rattle.pe_stacks.specs.Corners.{IsFull, no_vertices};
 ghost use Rattle.pe_mapping.specs.Held.{Keeps};
 ghost use Rattle.pe_mapping.specs.Sights.{seen_corners};
-ghost use Rattle.pe_hang.specs.InHand.{vertices_on_stacks, cells_on_stacks};
+ghost use Rattle.pe_hang.specs.InHand.{vertices_on_stacks, cells_on_stacks, Stays};
 ghost use Rattle.pe_hang.specs.Follows.{Follows, Fits, Left, wanting, read_by, found_of, held_by};
 ghost use Rattle.pe_walk.specs.Machine.{Machine as AMachine, root_corners, traverse};
 ghost use Rattle.pe_walk.specs.InHand.{setting_in, ports_of, machine_in_hand, machine_between, failure_in};
@@ -129,8 +129,7 @@ fn walk_root<M: Mapping, DV: Depot<Vertex<M::V>>, DC: Depot<CellRec<M::C>>>(
     ensures left { Left 0 0 (DV.holds dv.old) (DV.room dv.old) (DV.holds dv.new) (DV.room dv.new) (is_err result) }
     ensures cells_left { Left 0 0 (DC.holds dc.old) (DC.room dc.old) (DC.holds dc.new) (DC.room dc.new) (is_err result) }
     ensures counts { CountsCells settings.now.setup.max_cells 0 progress.old (DC.holds dc.old) progress.new (DC.holds dc.new) (is_err result) }
-    ensures keeps { Keeps (M.held m.old) (M.held m.new) }
-    ensures full { IsFull settings.now.setup.dim corners.new }
+    ensures stays { Stays M.numbers.vertex (M.held m.old) (M.held m.new) corners.old corners.new }
 {
     match fire_plain(Event::BeginIteration, settings, progress, m) {
         Ok(()) => {}

@@ -8,10 +8,9 @@ ghost use Rattle.pe_base.specs.Walk.Core.{cell_event, enter_touch, leave_touch};
 ghost use Rattle.pe_stacks.specs.declared.record.Vertex.{Vertex as AVertex};
 ghost use Rattle.pe_stacks.specs.Corners.{IsFull};
 ghost use Rattle.pe_stacks.specs.Holdings.{Holdings, lent};
-ghost use Rattle.pe_mapping.specs.Held.{Keeps};
 ghost use Rattle.pe_mapping.specs.Sights.{seen_corners};
 ghost use Rattle.pe_mapping.specs.Moments.{IsBelowRoot};
-ghost use Rattle.pe_hang.specs.InHand.{family_in_hand, own_in_hand, cells_on_stacks, KeepsMarks};
+ghost use Rattle.pe_hang.specs.InHand.{family_in_hand, own_in_hand, cells_on_stacks, CornersStay, Stays};
 ghost use Rattle.pe_hang.specs.Follows.{Follows, Fits, Left, read_by, found_of, held_by};
 ghost use Rattle.pe_walk.specs.Machine.{kind_among, enter_cell, leave_cell};
 ghost use Rattle.pe_walk.specs.InHand.{setting_in, ports_of, machine_in_hand, failure_in};
@@ -45,11 +44,8 @@ fn fire_cell<M: Mapping>(
         (own_in_hand M.numbers cell.old corners.old, family_in_hand M.numbers parents.old parent.old (M.held m.old).list))
         (λ done. (own_in_hand M.numbers cell.new corners.new, family_in_hand M.numbers parents.new parent.new (M.held m.new).list))
         (read_by (failure_in progress.new) result) (found_of (M.held m.old) vertices cells) (M.held m.new).told }
-    ensures keeps { Keeps (M.held m.old) (M.held m.new) }
-    ensures full { IsFull (M.held m.old).dim parents.new }
-    ensures marks { KeepsMarks M.numbers.vertex parents.old parents.new }
-    ensures own_full { IsFull (M.held m.old).dim corners.new }
-    ensures own_marks { KeepsMarks M.numbers.vertex corners.old corners.new }
+    ensures stays { Stays M.numbers.vertex (M.held m.old) (M.held m.new) parents.old parents.new }
+    ensures own { CornersStay M.numbers.vertex (M.held m.old).dim corners.old corners.new }
     ensures tally { progress.new.tally ≡ progress.old.tally }
 {
     match m.cell_event(
@@ -93,11 +89,8 @@ fn enter_found<M: Mapping, DC: Depot<CellRec<M::C>>>(
     ensures holds { OnOk result (DC.holds dc.new ≡ DC.holds dc.old) }
     ensures left { Left 1 1 (DC.holds dc.old) (DC.room dc.old) (DC.holds dc.new) (DC.room dc.new) (is_err result) }
     ensures fresh { (DC.holds dc.new).fresh ≡ (DC.holds dc.old).fresh }
-    ensures keeps { Keeps (M.held m.old) (M.held m.new) }
-    ensures full { IsFull (M.held m.old).dim parents.new }
-    ensures marks { KeepsMarks M.numbers.vertex parents.old parents.new }
-    ensures own_full { IsFull (M.held m.old).dim corners.new }
-    ensures own_marks { KeepsMarks M.numbers.vertex corners.old corners.new }
+    ensures stays { Stays M.numbers.vertex (M.held m.old) (M.held m.new) parents.old parents.new }
+    ensures own { CornersStay M.numbers.vertex (M.held m.old).dim corners.old corners.new }
     ensures tally { progress.new.tally ≡ progress.old.tally }
 {
     let mut cell = cell;
@@ -136,11 +129,8 @@ fn enter_born<M: Mapping, DC: Depot<CellRec<M::C>>>(
     ensures holds { OnOk result (DC.holds dc.new ≡ lent (DC.holds dc.old)) }
     ensures left { Left 0 1 (DC.holds dc.old) (DC.room dc.old) (DC.holds dc.new) (DC.room dc.new) (is_err result) }
     ensures fresh { (DC.holds dc.new).fresh ≤ (DC.holds dc.old).fresh + 1 }
-    ensures keeps { Keeps (M.held m.old) (M.held m.new) }
-    ensures full { IsFull (M.held m.old).dim parents.new }
-    ensures marks { KeepsMarks M.numbers.vertex parents.old parents.new }
-    ensures own_full { IsFull (M.held m.old).dim corners.new }
-    ensures own_marks { KeepsMarks M.numbers.vertex corners.old corners.new }
+    ensures stays { Stays M.numbers.vertex (M.held m.old) (M.held m.new) parents.old parents.new }
+    ensures own { CornersStay M.numbers.vertex (M.held m.old).dim corners.old corners.new }
     ensures tally { progress.new.tally ≡ progress.old.tally }
 {
     let payload = match m.fresh_c() {
@@ -191,11 +181,8 @@ pub(crate) fn enter_cell<M: Mapping, DC: Depot<CellRec<M::C>>>(
         (read_by (failure_in progress.new) result) (found_of (M.held m.old) room (held_by (DC.holds dc.old) (DC.room dc.old))) (M.held m.new).told }
     ensures left { Left 0 1 (DC.holds dc.old) (DC.room dc.old) (DC.holds dc.new) (DC.room dc.new) (is_err result) }
     ensures fresh { (DC.holds dc.new).fresh ≤ (DC.holds dc.old).fresh + 1 }
-    ensures keeps { Keeps (M.held m.old) (M.held m.new) }
-    ensures full { IsFull (M.held m.old).dim parents.new }
-    ensures marks { KeepsMarks M.numbers.vertex parents.old parents.new }
-    ensures own_full { IsFull (M.held m.old).dim corners.new }
-    ensures own_marks { KeepsMarks M.numbers.vertex corners.old corners.new }
+    ensures stays { Stays M.numbers.vertex (M.held m.old) (M.held m.new) parents.old parents.new }
+    ensures own { CornersStay M.numbers.vertex (M.held m.old).dim corners.old corners.new }
     ensures tally { progress.new.tally ≡ progress.old.tally }
 {
     match kind {
@@ -229,11 +216,8 @@ fn fire_leaving<M: Mapping>(
         (family_in_hand M.numbers parents.old parent.old (M.held m.old).list))
         (λ done. (own_in_hand M.numbers cell.new corners.new, family_in_hand M.numbers parents.new parent.new (M.held m.new).list))
         (read_by (failure_in progress.new) result) (found_of (M.held m.old) vertices cells) (M.held m.new).told }
-    ensures keeps { Keeps (M.held m.old) (M.held m.new) }
-    ensures full { IsFull (M.held m.old).dim parents.new }
-    ensures marks { KeepsMarks M.numbers.vertex parents.old parents.new }
-    ensures own_full { IsFull (M.held m.old).dim corners.new }
-    ensures own_marks { KeepsMarks M.numbers.vertex corners.old corners.new }
+    ensures stays { Stays M.numbers.vertex (M.held m.old) (M.held m.new) parents.old parents.new }
+    ensures own { CornersStay M.numbers.vertex (M.held m.old).dim corners.old corners.new }
     ensures tally { progress.new.tally ≡ progress.old.tally }
 {
     let event = Event::LeaveCell;
@@ -288,11 +272,8 @@ pub(crate) fn leave_cell<M: Mapping, DC: Depot<CellRec<M::C>>>(
         (read_by (failure_in progress.new) result) (found_of (M.held m.old) room (held_by (DC.holds dc.old) (DC.room dc.old))) (M.held m.new).told }
     ensures left { Left 1 0 (DC.holds dc.old) (DC.room dc.old) (DC.holds dc.new) (DC.room dc.new) (is_err result) }
     ensures fresh { (DC.holds dc.new).fresh ≡ (DC.holds dc.old).fresh }
-    ensures keeps { Keeps (M.held m.old) (M.held m.new) }
-    ensures full { IsFull (M.held m.old).dim parents.new }
-    ensures marks { KeepsMarks M.numbers.vertex parents.old parents.new }
-    ensures own_full { IsFull (M.held m.old).dim corners.new }
-    ensures own_marks { KeepsMarks M.numbers.vertex corners.old corners.new }
+    ensures stays { Stays M.numbers.vertex (M.held m.old) (M.held m.new) parents.old parents.new }
+    ensures own { CornersStay M.numbers.vertex (M.held m.old).dim corners.old corners.new }
     ensures tally { progress.new.tally ≡ progress.old.tally }
 {
     let mut cell = cell;

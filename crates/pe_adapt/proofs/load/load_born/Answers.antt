@@ -62,7 +62,7 @@ returns-clause-follows g c = λ vertices cells.
     c.in-Ok.ensures.answer.payload c.in-Ok.ensures.answer.list c.start_state-state.ensures c.new.ensures c.lend.ensures.handed in
     let filled = ap (λ slot. seen_slot numbers.vertex slot) c.fill_slot.ensures in
     let again' = setting-kept rules before fresh 0 0 c.args.traversal c.in-Ok.ensures.keeps in
-    let again = setting-kept rules fresh fired 0 0 c.args.traversal c.in_ok-fire.ensures.keeps ∙ again' in
+    let again = setting-kept rules fresh fired 0 0 c.args.traversal c.in_ok-fire.ensures.stays.keeps ∙ again' in
     let end = λ (d : Unit {0}). (let x : VertexRecord × Family = (seen_slot numbers.vertex c.fire-2.new.slot, family_in_hand numbers c.fire-2.new.parents c.fire-2.new.parent after.list) in x) in
     let next = λ (d : Unit {0}). it' in
     let first : Follows (vertex_event set CreateInnerVertex at it) next (Ok tt) (found_of fresh vertices cells) fired.told =
@@ -77,4 +77,4 @@ returns-clause-follows g c = λ vertices cells.
     (read_by (failure_of_halt at) c.fire-2.result) (found_of fresh vertices cells) after.told)
     made
     (follows-then (vertex_event set CreateInnerVertex at it) (vertex_event set TouchVertexFirstTime at) next tt end _
-    (found_of fresh vertices cells) (found_of fired vertices cells) after.told first (roomier-held fresh fired vertices cells c.in_ok-fire.ensures.keeps) second))
+    (found_of fresh vertices cells) (found_of fired vertices cells) after.told first (roomier-held fresh fired vertices cells c.in_ok-fire.ensures.stays.keeps) second))

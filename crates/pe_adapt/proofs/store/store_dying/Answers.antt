@@ -22,11 +22,11 @@ returns-clause-follows g c = λ vertices cells.
     let it : VertexRecord × Family = (seen_slot numbers.vertex c.args.slot.now, family_in_hand numbers c.args.parents.now c.args.parent.now old.list) in
     let it' : VertexRecord × Family = (seen_slot numbers.vertex c.fire.new.slot, family_in_hand numbers c.fire.new.parents c.fire.new.parent mid.list) in
     let end = λ (u : Unit {0}). (let x : VertexRecord × Family = (seen_slot numbers.vertex c.fire-2.new.slot, family_in_hand numbers c.fire-2.new.parents c.fire-2.new.parent new.list) in x) in
-    let again = setting-kept g.M.Effects.rules old mid 0 0 c.args.traversal c.in_ok-fire.ensures.keeps in
+    let again = setting-kept g.M.Effects.rules old mid 0 0 c.args.traversal c.in_ok-fire.ensures.stays.keeps in
     let second = subst (λ s. Follows (vertex_event s DestroyVertex at it') end (Ok tt) (found_of mid vertices cells) new.told) again (c.in_ok-fire-2.ensures.follows vertices cells) in
     follows-map (given_up set) (and_then (vertex_event set TouchVertexLastTime at it) (vertex_event set DestroyVertex at)) end (Ok tt) (found_of old vertices cells) new.told
     (follows-then (vertex_event set TouchVertexLastTime at it) (vertex_event set DestroyVertex at) (λ (u : Unit {0}). it') tt end (Ok tt)
-    (found_of old vertices cells) (found_of mid vertices cells) new.told (c.in_ok-fire.ensures.follows vertices cells) (roomier-held old mid vertices cells c.in_ok-fire.ensures.keeps) second)
+    (found_of old vertices cells) (found_of mid vertices cells) new.told (c.in_ok-fire.ensures.follows vertices cells) (roomier-held old mid vertices cells c.in_ok-fire.ensures.stays.keeps) second)
 
 pub returns-in_err-fire-2-clause-follows : goal.returns-in_err-fire-2-clause-follows
 returns-in_err-fire-2-clause-follows g c = λ vertices cells.
@@ -39,13 +39,13 @@ returns-in_err-fire-2-clause-follows g c = λ vertices cells.
     let it : VertexRecord × Family = (seen_slot numbers.vertex c.args.slot.now, family_in_hand numbers c.args.parents.now c.args.parent.now old.list) in
     let it' : VertexRecord × Family = (seen_slot numbers.vertex c.fire.new.slot, family_in_hand numbers c.fire.new.parents c.fire.new.parent mid.list) in
     let last = λ (u : Unit {0}). it' in
-    let again = setting-kept g.M.Effects.rules old mid 0 0 c.args.traversal c.in_ok-fire.ensures.keeps in
+    let again = setting-kept g.M.Effects.rules old mid 0 0 c.args.traversal c.in_ok-fire.ensures.stays.keeps in
     let failed = Err (failure_of_halt at c.in_err-fire-2.field-0.0) in
     let second = subst (λ s. Follows (vertex_event s DestroyVertex at it') last failed (found_of mid vertices cells) new.told) again (c.in_err-fire-2.ensures.follows vertices cells) in
     rw (err-is c.from_residual-in_err-fire-2.result c.in_err-fire-2.field-0.0 c.from_residual-in_err-fire-2.ensures.1)
     (follows-map (given_up set) (and_then (vertex_event set TouchVertexLastTime at it) (vertex_event set DestroyVertex at)) last failed (found_of old vertices cells) new.told
     (follows-then (vertex_event set TouchVertexLastTime at it) (vertex_event set DestroyVertex at) (λ (u : Unit {0}). it') tt last failed
-    (found_of old vertices cells) (found_of mid vertices cells) new.told (c.in_ok-fire.ensures.follows vertices cells) (roomier-held old mid vertices cells c.in_ok-fire.ensures.keeps) second))
+    (found_of old vertices cells) (found_of mid vertices cells) new.told (c.in_ok-fire.ensures.follows vertices cells) (roomier-held old mid vertices cells c.in_ok-fire.ensures.stays.keeps) second))
 
 pub returns-in_err-fire-clause-follows : goal.returns-in_err-fire-clause-follows
 returns-in_err-fire-clause-follows g c = λ vertices cells.

@@ -18,13 +18,14 @@ use Rattle.pe_mapping.proofs.Texts.{adds-nothing}
 use Rattle.pe_mapping.proofs.BelowRoot.{cell_below_root}
 use Rattle.pe_hang.specs.InHand.{family_in_hand, own_in_hand, cells_on_stacks}
 use Rattle.pe_hang.specs.Follows.{Follows, Fits, Leads, read_by, held_by}
+use Rattle.pe_hang.proofs.Staying.{keeps-same, stays-full, stays-beside, stays-then}
 use Rattle.pe_hang.proofs.Leading.{and_then-fits, follows-map, leads_start}
 use Rattle.pe_adapt.specs.Marked.{AreMarksOf, GiveKinds}
 use Rattle.pe_walk.specs.InHand.{IsWalked, ports_of, failure_in}
 use Rattle.pe_walk.specs.Machine.{Machine, enter_cell, outside, walk_cell}
 use Rattle.pe_walk.specs.Children.{IsAbove}
 use Rattle.pe_walk.specs.Visits.{walk_children, with_family}
-use Rattle.pe_walk.proofs.Walking.{hands, machine_of, found_in, set_in, Goes, goes-set, keeps-same, keeps-then, runs-may, runs-then, runs-err, runs-as}
+use Rattle.pe_walk.proofs.Walking.{hands, machine_of, found_in, set_in, Goes, goes-set, runs-may, runs-then, runs-err, runs-as}
 use Rattle.pe_walk.proofs.Markings.{kind_among-kept, kind_among-deep, kind_below-marks, any-kind, length-seen, few-corners, marks-kept}
 use Rattle.pe_walk.proofs.Children.{child-walked}
 use Rattle.pe_walk.proofs.Below.{below-hanging, below-walked, below-greatest}
@@ -58,12 +59,12 @@ visit_cell-walk_below-requires g t c κs within =
     let mid = hands (g.M.Mapping.held c.enter_cell.new.m) (g.DV.Depot.holds c.args.dv.now) (g.DV.Depot.room c.args.dv.now) (g.DC.Depot.holds c.enter_cell.new.dc) (g.DC.Depot.room c.enter_cell.new.dc) c.enter_cell.new.parents c.enter_cell.new.parent c.enter_cell.new.progress in
     let enters = entering ports levels place its (machine_of rules numbers s old) in
     let entered = λ (own : ACell g.row.M-C.Denot). (let it : Own × Machine = (own_in_hand numbers own c.enter_cell.new.corners, machine_of rules numbers s mid) in it) in
-    let goes : Goes rules numbers s old mid = record { keeps = c.in-Ok.ensures.keeps; vertices = λ n. omega arith; cells = c.in-Ok.ensures.left.keeps } in
+    let goes : Goes rules numbers s old mid = record { keeps = c.in-Ok.ensures.stays.keeps; vertices = λ n. omega arith; cells = c.in-Ok.ensures.left.keeps } in
     let in_enter = c.in-Ok.ensures.follows old.vertices (held_by old.vertices old.room) in
     let fits = runs-may rules numbers s enters (after_enter ports levels place) entered c.in-Ok.entered old mid c.requires.fits in_enter goes in
     let outer = family_in_hand numbers c.enter_cell.new.parents c.enter_cell.new.parent mid.held.list in
-    let walked : IsWalked mid.held.dim s c.args.cell.now = subst (λ d. IsWalked d s c.args.cell.now) (sym c.in-Ok.ensures.keeps.dim) c.requires.walked in
-    let full : IsFull mid.held.dim c.enter_cell.new.corners = subst (λ d. IsFull d c.enter_cell.new.corners) (sym c.in-Ok.ensures.keeps.dim) c.in-Ok.ensures.own_full in
+    let walked : IsWalked mid.held.dim s c.args.cell.now = subst (λ d. IsWalked d s c.args.cell.now) (sym c.in-Ok.ensures.stays.keeps.dim) c.requires.walked in
+    let full : IsFull mid.held.dim c.enter_cell.new.corners = subst (λ d. IsFull d c.enter_cell.new.corners) (sym c.in-Ok.ensures.stays.keeps.dim) c.in-Ok.ensures.own.full in
     let few : c.enter_cell.new.progress.tally.cells ≤ s.setup.max_cells = subst (λ (tally : Tally). tally.cells ≤ s.setup.max_cells) (sym c.in-Ok.ensures.tally) c.requires.few in (
       search the_rules,
       (
@@ -83,7 +84,7 @@ visit_cell-walk_below-requires g t c κs within =
                     (
                       c.requires.axes,
                       (
-                        c.in-Ok.ensures.keeps.dim ∙ c.requires.dim,
+                        c.in-Ok.ensures.stays.keeps.dim ∙ c.requires.dim,
                         (
                           walked,
                           (
@@ -115,7 +116,7 @@ visit_cell-leave_cell-requires-clause-place g t c =
 pub visit_cell-leave_cell-requires-clause-kind : goal.visit_cell-leave_cell-requires-clause-kind
 visit_cell-leave_cell-requires-clause-kind g t c =
     let numbers = g.M.Mapping.numbers in
-    kind_among-kept (seen_corners numbers.vertex c.args.parents.now) (seen_corners numbers.vertex c.enter_cell.new.parents) c.in-Ok.ensures.marks c.args.settings.now.traversal c.args.cell.now.place ∙ c.requires.kind
+    kind_among-kept (seen_corners numbers.vertex c.args.parents.now) (seen_corners numbers.vertex c.enter_cell.new.parents) c.in-Ok.ensures.stays.parents.marks c.args.settings.now.traversal c.args.cell.now.place ∙ c.requires.kind
 
 pub visit_cell-leave_cell-requires-clause-fits : goal.visit_cell-leave_cell-requires-clause-fits
 visit_cell-leave_cell-requires-clause-fits g t c =
@@ -131,13 +132,13 @@ visit_cell-leave_cell-requires-clause-fits g t c =
     let low = hands (g.M.Mapping.held c.walk_below.new.m) (g.DV.Depot.holds c.walk_below.new.dv) (g.DV.Depot.room c.walk_below.new.dv) (g.DC.Depot.holds c.walk_below.new.dc) (g.DC.Depot.room c.walk_below.new.dc) c.enter_cell.new.parents c.enter_cell.new.parent c.walk_below.new.progress in
     let enters = entering ports levels place its (machine_of rules numbers s old) in
     let entered = λ (own : ACell g.row.M-C.Denot). (let it : Own × Machine = (own_in_hand numbers own c.enter_cell.new.corners, machine_of rules numbers s mid) in it) in
-    let goes : Goes rules numbers s old mid = record { keeps = c.in-Ok.ensures.keeps; vertices = λ n. omega arith; cells = c.in-Ok.ensures.left.keeps } in
+    let goes : Goes rules numbers s old mid = record { keeps = c.in-Ok.ensures.stays.keeps; vertices = λ n. omega arith; cells = c.in-Ok.ensures.left.keeps } in
     let in_enter = c.in-Ok.ensures.follows old.vertices (held_by old.vertices old.room) in
     let fits = runs-may rules numbers s enters (after_enter ports levels place) entered c.in-Ok.entered old mid c.requires.fits in_enter goes in
     let outer = family_in_hand numbers c.enter_cell.new.parents c.enter_cell.new.parent mid.held.list in
     let lowers = below ports levels place (entered c.in-Ok.entered) in
     let left = λ (u : Unit {0}). (let it : Own × Machine = (own_in_hand numbers c.walk_below.new.own c.walk_below.new.corners, machine_of rules numbers s low) in it) in
-    let goes_low : Goes rules numbers s mid low = record { keeps = c.in-Ok-walk_below.ensures.keeps; vertices = c.in-Ok-walk_below.ensures.left.keeps; cells = c.in-Ok-walk_below.ensures.cells_left.keeps } in
+    let goes_low : Goes rules numbers s mid low = record { keeps = c.in-Ok-walk_below.ensures.stays.keeps; vertices = c.in-Ok-walk_below.ensures.left.keeps; cells = c.in-Ok-walk_below.ensures.cells_left.keeps } in
     let in_below = c.in-Ok-walk_below.ensures.follows outer in
     (low.vertices, runs-may rules numbers s lowers (leaving ports levels place) left tt mid low fits in_below goes_low)
 
@@ -156,13 +157,13 @@ visit_cell-returns-in-Ok-walk_below-clause-follows g t c =
     let new = hands (g.M.Mapping.held c.leave_cell.new.m) (g.DV.Depot.holds c.walk_below.new.dv) (g.DV.Depot.room c.walk_below.new.dv) (g.DC.Depot.holds c.leave_cell.new.dc) (g.DC.Depot.room c.leave_cell.new.dc) c.leave_cell.new.parents c.leave_cell.new.parent c.leave_cell.new.progress in
     let enters = entering ports levels place its (machine_of rules numbers s old) in
     let entered = λ (own : ACell g.row.M-C.Denot). (let it : Own × Machine = (own_in_hand numbers own c.enter_cell.new.corners, machine_of rules numbers s mid) in it) in
-    let goes : Goes rules numbers s old mid = record { keeps = c.in-Ok.ensures.keeps; vertices = λ n. omega arith; cells = c.in-Ok.ensures.left.keeps } in
+    let goes : Goes rules numbers s old mid = record { keeps = c.in-Ok.ensures.stays.keeps; vertices = λ n. omega arith; cells = c.in-Ok.ensures.left.keeps } in
     let in_enter = c.in-Ok.ensures.follows old.vertices (held_by old.vertices old.room) in
     let fits = runs-may rules numbers s enters (after_enter ports levels place) entered c.in-Ok.entered old mid c.requires.fits in_enter goes in
     let outer = family_in_hand numbers c.enter_cell.new.parents c.enter_cell.new.parent mid.held.list in
     let lowers = below ports levels place (entered c.in-Ok.entered) in
     let left = λ (u : Unit {0}). (let it : Own × Machine = (own_in_hand numbers c.walk_below.new.own c.walk_below.new.corners, machine_of rules numbers s low) in it) in
-    let goes_low : Goes rules numbers s mid low = record { keeps = c.in-Ok-walk_below.ensures.keeps; vertices = c.in-Ok-walk_below.ensures.left.keeps; cells = c.in-Ok-walk_below.ensures.cells_left.keeps } in
+    let goes_low : Goes rules numbers s mid low = record { keeps = c.in-Ok-walk_below.ensures.stays.keeps; vertices = c.in-Ok-walk_below.ensures.left.keeps; cells = c.in-Ok-walk_below.ensures.cells_left.keeps } in
     let in_below = c.in-Ok-walk_below.ensures.follows outer in
     let after = λ (u : Unit {0}). (let it : List VertexRecord × Machine = (seen_corners numbers.vertex c.leave_cell.new.corners, machine_of rules numbers s new) in it) in
     let answer = read_by (failure_in c.leave_cell.new.progress) c.leave_cell.result in
@@ -184,7 +185,7 @@ visit_cell-returns-in-Err-walk_below-clause-follows g t c =
     let new = hands (g.M.Mapping.held c.walk_below.new.m) (g.DV.Depot.holds c.walk_below.new.dv) (g.DV.Depot.room c.walk_below.new.dv) (g.DC.Depot.holds c.give_up.new.self) (g.DC.Depot.room c.give_up.new.self) c.enter_cell.new.parents c.enter_cell.new.parent c.walk_below.new.progress in
     let enters = entering ports levels place its (machine_of rules numbers s old) in
     let entered = λ (own : ACell g.row.M-C.Denot). (let it : Own × Machine = (own_in_hand numbers own c.enter_cell.new.corners, machine_of rules numbers s mid) in it) in
-    let goes : Goes rules numbers s old mid = record { keeps = c.in-Ok.ensures.keeps; vertices = λ n. omega arith; cells = c.in-Ok.ensures.left.keeps } in
+    let goes : Goes rules numbers s old mid = record { keeps = c.in-Ok.ensures.stays.keeps; vertices = λ n. omega arith; cells = c.in-Ok.ensures.left.keeps } in
     let in_enter = c.in-Ok.ensures.follows old.vertices (held_by old.vertices old.room) in
     let fits = runs-may rules numbers s enters (after_enter ports levels place) entered c.in-Ok.entered old mid c.requires.fits in_enter goes in
     let outer = family_in_hand numbers c.enter_cell.new.parents c.enter_cell.new.parent mid.held.list in
@@ -420,15 +421,15 @@ walk_cell-visit_cell-requires g t c κs within =
     let its = seen_corners numbers.vertex c.load_corners.new.corners in
     let to_load = λ (u : Unit {0}). (let it : List VertexRecord × Machine = (its, machine_of rules numbers s loaded) in it) in
     let in_load = c.in-Ok-load_corners.ensures.follows cells (held_by old.cells old.cell_room) in
-    let goes_load : Goes rules numbers s counted loaded = record { keeps = c.in-Ok-load_corners.ensures.keeps; vertices = c.in-Ok-load_corners.ensures.left.keeps; cells = λ n. omega arith } in
+    let goes_load : Goes rules numbers s counted loaded = record { keeps = c.in-Ok-load_corners.ensures.stays.keeps; vertices = c.in-Ok-load_corners.ensures.left.keeps; cells = λ n. omega arith } in
     let fits_load = runs-may rules numbers s loads (after_load ports levels place) to_load tt counted loaded fits in_load goes_load in
     let it = to_load tt in
     let fits_visit = subst Fits (sym (visit-grouped ports levels place (set_in rules numbers s loaded) it)) fits_load in
     let visits = visiting ports levels place it in
-    let dim = c.in-Ok-load_corners.ensures.keeps.dim in
+    let dim = c.in-Ok-load_corners.ensures.stays.keeps.dim in
     let walked : IsWalked loaded.held.dim s c.args.cell.now = subst (λ d. IsWalked d s c.args.cell.now) (sym dim) c.requires.walked in
-    let kind = kind_among-kept (seen_corners numbers.vertex c.args.parents.now) (seen_corners numbers.vertex c.load_corners.new.parents) c.in-Ok-load_corners.ensures.marks s.traversal place ∙ c.requires.kind in
-    let full : IsFull loaded.held.dim c.load_corners.new.parents = subst (λ d. IsFull d c.load_corners.new.parents) (sym dim) c.in-Ok-load_corners.ensures.full in
+    let kind = kind_among-kept (seen_corners numbers.vertex c.args.parents.now) (seen_corners numbers.vertex c.load_corners.new.parents) c.in-Ok-load_corners.ensures.stays.parents.marks s.traversal place ∙ c.requires.kind in
+    let full : IsFull loaded.held.dim c.load_corners.new.parents = stays-full c.in-Ok-load_corners.ensures.stays in
     let own : IsFull loaded.held.dim c.load_corners.new.corners = subst (λ d. IsFull d c.load_corners.new.corners) (sym dim) c.in-Ok-load_corners.ensures.loaded in
     let few : c.load_corners.new.progress.tally.cells ≤ s.setup.max_cells = omega (arith, c.in-Ok-load_corners.ensures.counted, c.in-Ok.ensures.within) in (
       search the_rules,
@@ -504,14 +505,14 @@ walk_cell-store_corners-requires-clause-fits g t c =
     let its = seen_corners numbers.vertex c.load_corners.new.corners in
     let to_load = λ (u : Unit {0}). (let it : List VertexRecord × Machine = (its, machine_of rules numbers s loaded) in it) in
     let in_load = c.in-Ok-load_corners.ensures.follows cells (held_by old.cells old.cell_room) in
-    let goes_load : Goes rules numbers s counted loaded = record { keeps = c.in-Ok-load_corners.ensures.keeps; vertices = c.in-Ok-load_corners.ensures.left.keeps; cells = λ n. omega arith } in
+    let goes_load : Goes rules numbers s counted loaded = record { keeps = c.in-Ok-load_corners.ensures.stays.keeps; vertices = c.in-Ok-load_corners.ensures.left.keeps; cells = λ n. omega arith } in
     let fits_load = runs-may rules numbers s loads (after_load ports levels place) to_load tt counted loaded fits in_load goes_load in
     let it = to_load tt in
     let fits_visit = subst Fits (sym (visit-grouped ports levels place (set_in rules numbers s loaded) it)) fits_load in
     let visits = visiting ports levels place it in
     let to_visit = λ (u : Unit {0}). (let it : List VertexRecord × Machine = (seen_corners numbers.vertex c.visit_cell.new.corners, machine_of rules numbers s visited) in it) in
     let in_visit = c.in-Ok-visit_cell.ensures.follows in
-    let goes_visit : Goes rules numbers s loaded visited = record { keeps = c.in-Ok-visit_cell.ensures.keeps; vertices = c.in-Ok-visit_cell.ensures.left.keeps; cells = c.in-Ok-visit_cell.ensures.cells_left.keeps } in
+    let goes_visit : Goes rules numbers s loaded visited = record { keeps = c.in-Ok-visit_cell.ensures.stays.keeps; vertices = c.in-Ok-visit_cell.ensures.left.keeps; cells = c.in-Ok-visit_cell.ensures.cells_left.keeps } in
     store_all-any_cells (set_in rules numbers s visited) ports place cells' 0 (seen_corners numbers.vertex c.visit_cell.new.corners) (machine_of rules numbers s visited)
     (runs-may rules numbers s visits (storing ports levels place) to_visit tt loaded visited fits_visit in_visit goes_visit)
 
@@ -539,14 +540,14 @@ walk_cell-returns-in-Ok-visit_cell-clause-follows g t c =
     let its = seen_corners numbers.vertex c.load_corners.new.corners in
     let to_load = λ (u : Unit {0}). (let it : List VertexRecord × Machine = (its, machine_of rules numbers s loaded) in it) in
     let in_load = c.in-Ok-load_corners.ensures.follows cells (held_by old.cells old.cell_room) in
-    let goes_load : Goes rules numbers s counted loaded = record { keeps = c.in-Ok-load_corners.ensures.keeps; vertices = c.in-Ok-load_corners.ensures.left.keeps; cells = λ n. omega arith } in
+    let goes_load : Goes rules numbers s counted loaded = record { keeps = c.in-Ok-load_corners.ensures.stays.keeps; vertices = c.in-Ok-load_corners.ensures.left.keeps; cells = λ n. omega arith } in
     let fits_load = runs-may rules numbers s loads (after_load ports levels place) to_load tt counted loaded fits in_load goes_load in
     let it = to_load tt in
     let fits_visit = subst Fits (sym (visit-grouped ports levels place (set_in rules numbers s loaded) it)) fits_load in
     let visits = visiting ports levels place it in
     let to_visit = λ (u : Unit {0}). (let it : List VertexRecord × Machine = (seen_corners numbers.vertex c.visit_cell.new.corners, machine_of rules numbers s visited) in it) in
     let in_visit = c.in-Ok-visit_cell.ensures.follows in
-    let goes_visit : Goes rules numbers s loaded visited = record { keeps = c.in-Ok-visit_cell.ensures.keeps; vertices = c.in-Ok-visit_cell.ensures.left.keeps; cells = c.in-Ok-visit_cell.ensures.cells_left.keeps } in
+    let goes_visit : Goes rules numbers s loaded visited = record { keeps = c.in-Ok-visit_cell.ensures.stays.keeps; vertices = c.in-Ok-visit_cell.ensures.left.keeps; cells = c.in-Ok-visit_cell.ensures.cells_left.keeps } in
     let after = λ (u : Unit {0}). machine_of rules numbers s new in
     let answer = read_by (failure_in c.store_corners.new.progress) c.store_corners.result in
     runs-then rules numbers s counts (after_count ports levels place) to_count tt after answer old counted new in_count goes_count
@@ -578,7 +579,7 @@ walk_cell-returns-in-Err-visit_cell-clause-follows g t c =
     let its = seen_corners numbers.vertex c.load_corners.new.corners in
     let to_load = λ (u : Unit {0}). (let it : List VertexRecord × Machine = (its, machine_of rules numbers s loaded) in it) in
     let in_load = c.in-Ok-load_corners.ensures.follows cells (held_by old.cells old.cell_room) in
-    let goes_load : Goes rules numbers s counted loaded = record { keeps = c.in-Ok-load_corners.ensures.keeps; vertices = c.in-Ok-load_corners.ensures.left.keeps; cells = λ n. omega arith } in
+    let goes_load : Goes rules numbers s counted loaded = record { keeps = c.in-Ok-load_corners.ensures.stays.keeps; vertices = c.in-Ok-load_corners.ensures.left.keeps; cells = λ n. omega arith } in
     let fits_load = runs-may rules numbers s loads (after_load ports levels place) to_load tt counted loaded fits in_load goes_load in
     let it = to_load tt in
     let fits_visit = subst Fits (sym (visit-grouped ports levels place (set_in rules numbers s loaded) it)) fits_load in
@@ -616,9 +617,7 @@ walk_children-loop-digits-init g t c =
       left = record { count = refl; keeps = λ n. omega arith; out = omega arith };
       cells_left = record { count = refl; keeps = λ n. omega arith; out = omega arith };
       counts = record { made = omega arith; few = omega (arith, c.requires.few) };
-      keeps = keeps-same old.held;
-      full = subst (λ d. IsFull d c.args.parents.now) c.requires.dim c.requires.full;
-      marks = refl;
+      stays = stays-beside (keeps-same old.held) c.requires.full;
       empty = c.empty-corners.ensures;
     }
 
@@ -637,17 +636,17 @@ walk_children-walk_cell-requires g t c κs within =
     let whole = walk_children set ports levels place (machine_of rules numbers s old) in
     let now = hands (g.M.Mapping.held c.loop-digits.m) (g.DV.Depot.holds c.loop-digits.dv) (g.DV.Depot.room c.loop-digits.dv) (g.DC.Depot.holds c.loop-digits.dc) (g.DC.Depot.room c.loop-digits.dc) c.loop-digits.parents c.loop-digits.parent c.loop-digits.progress in
     let is = c.loop-digits.invariant in
-    let goes : Goes rules numbers s old now = record { keeps = is.keeps; vertices = is.left.keeps; cells = is.cells_left.keeps } in
+    let goes : Goes rules numbers s old now = record { keeps = is.stays.keeps; vertices = is.left.keeps; cells = is.cells_left.keeps } in
     let child = c.move_to.ensures.child in
     let there : c.move_to.new.child.cell.place ≡ child_at place c.in-Some.digits = child.place ∙ ap (child_at place) c.move_to.ensures.digits in
     let same = child-walk ports set (set_in rules numbers s now) levels (child_at place c.in-Some.digits) c.move_to.new.child.cell.place (machine_of rules numbers s now) (goes-set rules numbers s old now goes) c.requires.some there in
-    let dim : now.held.dim ≡ axes = is.keeps.dim ∙ c.requires.dim in
+    let dim : now.held.dim ≡ axes = is.stays.keeps.dim ∙ c.requires.dim in
     let marked : AreMarksOf axes (seen_corners numbers.vertex c.loop-digits.parents) above.marks =
-    subst (λ d. AreMarksOf d (seen_corners numbers.vertex c.loop-digits.parents) above.marks) c.requires.dim (marks-kept (seen_corners numbers.vertex c.args.parents.now) (seen_corners numbers.vertex c.loop-digits.parents) is.marks old.held.dim above.marks c.requires.marked) in
+    subst (λ d. AreMarksOf d (seen_corners numbers.vertex c.loop-digits.parents) above.marks) c.requires.dim (marks-kept (seen_corners numbers.vertex c.args.parents.now) (seen_corners numbers.vertex c.loop-digits.parents) is.stays.parents.marks old.held.dim above.marks c.requires.marked) in
     let level : c.move_to.new.child.cell.place.level ≡ place.level + 1 = ap (λ (p : Place). p.level) there in
     let walked : IsWalked axes s c.move_to.new.child.cell = child-walked axes s above c.move_to.new.child (subst (λ d. IsAbove d s above) c.requires.dim c.requires.above) child in
     let kinds = child.kinds (seen_corners numbers.vertex c.loop-digits.parents) marked in
-    let kind = kind_among-kept (seen_corners numbers.vertex c.args.parents.now) (seen_corners numbers.vertex c.loop-digits.parents) is.marks s.traversal c.move_to.new.child.cell.place ∙ c.requires.kind c.move_to.new.child.cell.place level in
+    let kind = kind_among-kept (seen_corners numbers.vertex c.args.parents.now) (seen_corners numbers.vertex c.loop-digits.parents) is.stays.parents.marks s.traversal c.move_to.new.child.cell.place ∙ c.requires.kind c.move_to.new.child.cell.place level in
     let may = child-may ports set levels place whole (found_in rules numbers s old) (found_in rules numbers s now) c.loop-digits.digits-iterator (machine_of rules numbers s now) c.in-Some.digits c.next.new.self c.in-Some.ensures.steps is.leads c.requires.fits in (
       search the_rules,
       (
@@ -677,7 +676,7 @@ walk_children-walk_cell-requires g t c κs within =
                               (
                                 kind,
                                 (
-                                  subst (λ d. IsFull d c.loop-digits.parents) (sym dim) is.full,
+                                  stays-full is.stays,
                                   (
                                     is.empty ∙ ap no_vertices (sym dim),
                                     (
@@ -717,25 +716,23 @@ walk_children-loop-digits-preserved g t c =
     let now = hands (g.M.Mapping.held c.loop-digits.m) (g.DV.Depot.holds c.loop-digits.dv) (g.DV.Depot.room c.loop-digits.dv) (g.DC.Depot.holds c.loop-digits.dc) (g.DC.Depot.room c.loop-digits.dc) c.loop-digits.parents c.loop-digits.parent c.loop-digits.progress in
     let new = hands (g.M.Mapping.held c.walk_cell.new.m) (g.DV.Depot.holds c.walk_cell.new.dv) (g.DV.Depot.room c.walk_cell.new.dv) (g.DC.Depot.holds c.walk_cell.new.dc) (g.DC.Depot.room c.walk_cell.new.dc) c.walk_cell.new.parents c.walk_cell.new.parent c.walk_cell.new.progress in
     let is = c.loop-digits.invariant in
-    let goes : Goes rules numbers s old now = record { keeps = is.keeps; vertices = is.left.keeps; cells = is.cells_left.keeps } in
+    let goes : Goes rules numbers s old now = record { keeps = is.stays.keeps; vertices = is.left.keeps; cells = is.cells_left.keeps } in
     let child = c.move_to.ensures.child in
     let there : c.move_to.new.child.cell.place ≡ child_at place c.in-Some.digits = child.place ∙ ap (child_at place) c.move_to.ensures.digits in
     let same = child-walk ports set (set_in rules numbers s now) levels (child_at place c.in-Some.digits) c.move_to.new.child.cell.place (machine_of rules numbers s now) (goes-set rules numbers s old now goes) c.requires.some there in
-    let dim : now.held.dim ≡ axes = is.keeps.dim ∙ c.requires.dim in
+    let dim : now.held.dim ≡ axes = is.stays.keeps.dim ∙ c.requires.dim in
     let done = c.in-Ok.ensures in
     record {
       leads = child-next ports set levels place whole (found_in rules numbers s old) (found_in rules numbers s now) c.loop-digits.digits-iterator (machine_of rules numbers s now) c.in-Some.digits c.next.new.self c.in-Some.ensures.steps is.leads
           (found_in rules numbers s new) (machine_of rules numbers s new)
           (subst (λ course. Follows course (λ (u : Unit {0}). machine_of rules numbers s new) (Ok tt) (found_in rules numbers s now) new.held.told) same done.follows)
-          (record { sure = done.keeps.sure; vertices = done.left.keeps; cells = done.cells_left.keeps });
+          (record { sure = done.stays.keeps.sure; vertices = done.left.keeps; cells = done.cells_left.keeps });
       digits = all-tail (IsDigits axes) c.in-Some.digits c.next.new.self c.loop-digits.digits-iterator c.in-Some.ensures.steps is.digits;
       child = child;
       left = record { count = done.left.count ∙ is.left.count; keeps = λ n. omega (arith, is.left.keeps n, done.left.keeps n); out = omega (arith, is.left.out, done.left.out) };
       cells_left = record { count = done.cells_left.count ∙ is.cells_left.count; keeps = λ n. omega (arith, is.cells_left.keeps n, done.cells_left.keeps n); out = omega (arith, is.cells_left.out, done.cells_left.out) };
       counts = record { made = omega (arith, is.counts.made, done.counts.made); few = done.counts.few };
-      keeps = keeps-then old.held now.held new.held is.keeps done.keeps;
-      full = subst (λ d. IsFull d c.walk_cell.new.parents) dim done.full;
-      marks = done.marks ∙ is.marks;
+      stays = stays-then is.stays done.stays;
       empty = done.emptied ∙ ap no_vertices dim;
     }
 
@@ -755,7 +752,7 @@ walk_children-returns-in-Err-clause-follows g t c =
     let now = hands (g.M.Mapping.held c.loop-digits.m) (g.DV.Depot.holds c.loop-digits.dv) (g.DV.Depot.room c.loop-digits.dv) (g.DC.Depot.holds c.loop-digits.dc) (g.DC.Depot.room c.loop-digits.dc) c.loop-digits.parents c.loop-digits.parent c.loop-digits.progress in
     let new = hands (g.M.Mapping.held c.walk_cell.new.m) (g.DV.Depot.holds c.walk_cell.new.dv) (g.DV.Depot.room c.walk_cell.new.dv) (g.DC.Depot.holds c.walk_cell.new.dc) (g.DC.Depot.room c.walk_cell.new.dc) c.walk_cell.new.parents c.walk_cell.new.parent c.walk_cell.new.progress in
     let is = c.loop-digits.invariant in
-    let goes : Goes rules numbers s old now = record { keeps = is.keeps; vertices = is.left.keeps; cells = is.cells_left.keeps } in
+    let goes : Goes rules numbers s old now = record { keeps = is.stays.keeps; vertices = is.left.keeps; cells = is.cells_left.keeps } in
     let child = c.move_to.ensures.child in
     let there : c.move_to.new.child.cell.place ≡ child_at place c.in-Some.digits = child.place ∙ ap (child_at place) c.move_to.ensures.digits in
     let same = child-walk ports set (set_in rules numbers s now) levels (child_at place c.in-Some.digits) c.move_to.new.child.cell.place (machine_of rules numbers s now) (goes-set rules numbers s old now goes) c.requires.some there in
@@ -768,5 +765,5 @@ walk_children-returns-in-Err-clause-follows g t c =
 pub walk_cell-give_up_from-requires-clause-full : goal.walk_cell-give_up_from-requires-clause-full
 walk_cell-give_up_from-requires-clause-full g t c =
     let corners = c.visit_cell.new.corners in
-    let kept = c.in-Ok-load_corners.ensures.keeps.dim ∙ c.requires.dim in
-    full_from c.args.settings.now.setup.dim corners (subst (λ d. IsFull d corners) kept c.in-Err-visit_cell.ensures.own_full)
+    let kept = c.in-Ok-load_corners.ensures.stays.keeps.dim ∙ c.requires.dim in
+    full_from c.args.settings.now.setup.dim corners (subst (λ d. IsFull d corners) kept c.in-Err-visit_cell.ensures.own.full)

@@ -2,9 +2,8 @@ use Rattle.std.proofs.Common.{◌≡◌, ◌+◌, ◌*◌, map, false}
 use Rattle.std.specs.Prelude.{All}
 use Rattle.pe_base.specs.Tree.Places.{IsDigits, child_at}
 use Rattle.pe_base.specs.Walk.Course.{each}
-use Rattle.pe_stacks.specs.Corners.{IsFull, no_vertices}
-use Rattle.pe_mapping.specs.Held.{Keeps}
-use Rattle.pe_hang.specs.InHand.{KeepsMarks}
+use Rattle.pe_stacks.specs.Corners.{no_vertices}
+use Rattle.pe_hang.specs.InHand.{Stays}
 use Rattle.pe_hang.specs.Follows.{Leads, Left}
 use Rattle.pe_walk.specs.InHand.{ports_of}
 use Rattle.pe_walk.specs.Machine.{walk_cell}
@@ -61,8 +60,6 @@ invariant-walk_children-loop-digits g l =
       left : Left 0 0 before.vertices before.room now.vertices now.room false;
       cells_left : Left 0 0 before.cells before.cell_room now.cells now.cell_room false;
       counts : CountsCells s.setup.max_cells 0 before.progress before.cells now.progress now.cells false;
-      keeps : Keeps before.held now.held;
-      full : IsFull s.setup.dim l.parents;
-      marks : KeepsMarks numbers.vertex before.parents now.parents;
+      stays : Stays numbers.vertex before.held now.held before.parents now.parents;
       empty : l.corners ≡ no_vertices s.setup.dim;
     }

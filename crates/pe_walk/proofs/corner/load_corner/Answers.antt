@@ -19,7 +19,7 @@ use Rattle.pe_walk.specs.InHand.{setting_in}
 use Rattle.pe_walk.specs.Corners.{hand_of, found_in}
 use Rattle.pe_walk.proofs.CornerTouches.{goes-load, may-load-desk, may-load-placed, route-is, tally-comes, number-none, number-some, popped-left}
 use Rattle.pe_walk.proofs.corner.load_corner.Goals as goal
-use Rattle.pe_walk.proofs.Walking.{keeps-same}
+use Rattle.pe_hang.proofs.Staying.{keeps-same, stays-beside}
 
 pub at-old-requires : goal.at-old-requires
 at-old-requires g c = small_corner (g.M.Mapping.held c.args.m.now).dim c.args.k c.requires.walked.state.grid.1 c.requires.corner
@@ -116,5 +116,5 @@ returns-clause-goes g c =
     (sym c.fill_slot.ensures)
     (loaded-waiting (seen_vertex numbers.vertex) set settings.input vertex holds family here (Some s) s holds' c.pop.result (found_in old cells)
     counted refl fits c.pop.ensures.holds c.pop.ensures.handed)))
-    (popped-left holds holds' room room' s c.pop.ensures.holds c.pop.ensures.room) (keeps-same held) c.requires.full refl
+    (popped-left holds holds' room room' s c.pop.ensures.holds c.pop.ensures.room) (stays-beside (keeps-same held) c.requires.full)
     (ap is_some c.fill_slot.ensures) tt

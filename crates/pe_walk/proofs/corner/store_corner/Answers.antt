@@ -16,7 +16,7 @@ use Rattle.pe_walk.specs.InHand.{setting_in, ports_of, failure_in}
 use Rattle.pe_walk.specs.Corners.{hand_of, found_in}
 use Rattle.pe_walk.proofs.CornerTouches.{goes-store, may-store-desk, may-store-placed, route-is, tally-goes, number-none, number-some}
 use Rattle.pe_walk.proofs.corner.store_corner.Goals as goal
-use Rattle.pe_walk.proofs.Walking.{keeps-same}
+use Rattle.pe_hang.proofs.Staying.{keeps-same, stays-beside}
 
 pub store_last-requires-clause-kind : goal.store_last-requires-clause-kind
 store_last-requires-clause-kind g c = subst (λ slot. IsSomeAnd slot (λ v. v.kind ≡ c.kind-kind.result)) (sym c.filled.ensures) (sym c.kind-kind.ensures)
@@ -117,4 +117,4 @@ returns-else-go-eq0-clause-goes g c =
     (subst (λ slot. Follows (store_as set out (Some s) vertex (seen_slot numbers.vertex slot) desk) (λ (done : Unit {0}). desk') answer found held.told) (sym slot)
     (stored-put f set out (Some s) vertex holds (f v) family v holds' family held.told held.told held.sure room cells c.args.progress.now.at result
     fits waits c.put_down.ensures.pushed c.put_down.ensures.memory c.put_down.ensures.overfull)))
-    c.put_down.ensures.left (keeps-same held) c.requires.full refl
+    c.put_down.ensures.left (stays-beside (keeps-same held) c.requires.full)

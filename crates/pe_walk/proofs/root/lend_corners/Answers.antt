@@ -8,7 +8,7 @@ use Rattle.pe_hang.specs.Follows.{Leads, found_of, held_by}
 use Rattle.pe_hang.proofs.Leading.{leads_start, leads_rest, leads_want, leads_found, roomier-held}
 use Rattle.pe_hang.proofs.Moving.{lend-may}
 use Rattle.pe_walk.specs.InHand.{setting_in, ports_of}
-use Rattle.pe_walk.proofs.Walking.{keeps-same, keeps-then}
+use Rattle.pe_hang.proofs.Staying.{keeps-same, keeps-then}
 use Rattle.pe_walk.proofs.RootCorners.{at_root, roots, roots-may, roots-step, roots-end}
 use Rattle.pe_walk.proofs.root.lend_corners.Goals as goal
 
@@ -102,7 +102,7 @@ loop-done-preserved g c =
         keeps = λ j. omega (arith, is.left.keeps j, c.lend.ensures.room j);
         out = omega (arith, ap (λ (h : _). h.out) c.lend.ensures.holds, is.left.out);
       };
-      keeps = keeps-then before now new is.keeps c.in-Ok.ensures.keeps;
+      keeps = keeps-then is.keeps c.in-Ok.ensures.keeps;
     }
 
 pub returns-in-Err-clause-follows : goal.returns-in-Err-clause-follows

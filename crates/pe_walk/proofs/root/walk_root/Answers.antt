@@ -64,7 +64,7 @@ returns-in-Ok-walk_children-clause-follows g c =
     let begin = subst (λ (tally : Tally). Follows (begins set) (λ (u : Unit {0}). record (machine_of rules numbers s begun) { tally = tally }) (Ok tt) (found_in rules numbers s old) begun.held.told) (sym c.fire_plain.ensures.tally) fired in
     let walks = walking ports greatest (to_begin tt) in
     let to_walk = λ (u : Unit {0}). machine_of rules numbers s walked in
-    let goes_on : Goes rules numbers s begun walked = record { keeps = c.in-Ok-walk_children.ensures.keeps; vertices = c.in-Ok-walk_children.ensures.left.keeps; cells = c.in-Ok-walk_children.ensures.cells_left.keeps } in
+    let goes_on : Goes rules numbers s begun walked = record { keeps = c.in-Ok-walk_children.ensures.stays.keeps; vertices = c.in-Ok-walk_children.ensures.left.keeps; cells = c.in-Ok-walk_children.ensures.cells_left.keeps } in
     let after = λ (u : Unit {0}). machine_of rules numbers s new in
     let answer = read_by (failure_in c.fire_plain-in-Ok-walk_children.new.progress) c.fire_plain-in-Ok-walk_children.result in
     let ended = plain-follows ports greatest (set_in rules numbers s walked) EndIteration (to_walk tt) new.held.list answer (found_in rules numbers s walked) new.held.told

@@ -1,6 +1,7 @@
-use Rattle.std.proofs.Common.{◌≡◌, ◌-◌, ◌^◌, List, length, refl, sym, subst, arith}
+use Rattle.std.proofs.Common.{◌≡◌, ◌-◌, ◌^◌, List, length, refl, sym, ap, subst, ◌∙◌, arith}
 use Rattle.pe_base.specs.Acts.Effects.{VertexRecord}
 use Rattle.pe_base.specs.Walk.Course.{and_then}
+use Rattle.pe_stacks.specs.Corners.{IsFull}
 use Rattle.pe_stacks.proofs.Filling.{full_from}
 use Rattle.pe_mapping.specs.Sights.{seen_corners}
 use Rattle.pe_hang.specs.InHand.{vertices_on_stacks}
@@ -57,7 +58,9 @@ walk_root-walked-requires-clause-fits g c =
     and_then-fits (rooting ports greatest (machine_of rules numbers s mid) set) (giving ports greatest set) (subst Fits (sym (root-grouped ports greatest set (to_make tt))) fits)
 
 pub give_up_from-requires-clause-full : goal.give_up_from-requires-clause-full
-give_up_from-requires-clause-full g c = full_from c.args.settings.now.setup.dim c.walk_root-walked.new.corners c.walk_root-walked.ensures.full
+give_up_from-requires-clause-full g c =
+    let corners = c.walk_root-walked.new.corners in
+    full_from c.args.settings.now.setup.dim corners (subst (λ d. IsFull d corners) (c.in-Ok.ensures.keeps.dim ∙ c.requires.dim) c.walk_root-walked.ensures.stays.parents.full)
 
 pub returns-clause-follows : goal.returns-clause-follows
 returns-clause-follows g c =
@@ -78,10 +81,10 @@ returns-clause-follows g c =
     let made = c.in-Ok.ensures.follows rest (held_by old.cells old.cell_room) in
     let fits = runs-may rules numbers s makes (after_make ports greatest) to_make tt old mid c.requires.fits made goes in
     let walks = c.walk_root-walked.ensures in
-    let goes_on : Goes rules numbers s mid walked = record { keeps = walks.keeps; vertices = walks.left.keeps; cells = walks.cells_left.keeps } in
+    let goes_on : Goes rules numbers s mid walked = record { keeps = walks.stays.keeps; vertices = walks.left.keeps; cells = walks.cells_left.keeps } in
     let answer = read_by (failure_in walked.progress) c.walk_root-walked.result in
     let after = λ (u : Unit {0}). machine_between numbers new.vertices new.cells new.parent new.held.list new.progress.tally in
-    let count : 2 ^ axes - 0 ≡ length (seen_corners numbers.vertex walked.parents) = omega (arith, length-seen numbers.vertex axes walked.parents walks.full) in
+    let count : 2 ^ axes - 0 ≡ length (seen_corners numbers.vertex walked.parents) = omega (arith, length-seen numbers.vertex mid.held.dim walked.parents walks.stays.parents.full, ap (λ d. 2 ^ d) (c.in-Ok.ensures.keeps.dim ∙ c.requires.dim)) in
     let all = root-gives rules numbers s mid walked new answer walks.follows goes_on (subst Fits (sym (root-grouped ports greatest (set_in rules numbers s mid) (to_make tt))) fits) refl (2 ^ axes - 0) count c.give_up_from.ensures.holds in
     runs-then rules numbers s makes (after_make ports greatest) to_make tt after answer old mid new made goes
     (runs-as rules numbers s (λ set. and_then (rooting ports greatest (machine_of rules numbers s mid) set) (giving ports greatest set)) (λ set. after_make ports greatest set (to_make tt)) after answer mid new (root-grouped ports greatest (set_in rules numbers s mid) (to_make tt)) all)

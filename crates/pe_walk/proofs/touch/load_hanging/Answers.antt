@@ -64,7 +64,7 @@ returns-in-Ok-clause-goes g c =
     (c.count_load.ensures ∙ ap (λ kind. tally_load kind first c.args.progress.now.tally) (sym c.requires.hangs))
     (λ cells. subst (λ course. Follows course (λ (done : Unit {0}). (seen_slot numbers.vertex slot', desk')) (read_by (failure_in new.progress) (Ok tt)) (found_in old cells) held'.told)
     same (c.in-Ok.ensures.follows settings.input cells))
-    c.in-Ok.ensures.left c.in-Ok.ensures.keeps c.in-Ok.ensures.full c.in-Ok.ensures.marks c.in-Ok.ensures.filled c.in-Ok.ensures.emptied
+    c.in-Ok.ensures.left c.in-Ok.ensures.stays c.in-Ok.ensures.filled c.in-Ok.ensures.emptied
 
 pub returns-in-Err-clause-goes : goal.returns-in-Err-clause-goes
 returns-in-Err-clause-goes g c =
@@ -91,4 +91,4 @@ returns-in-Err-clause-goes g c =
     (c.count_load.ensures ∙ ap (λ kind. tally_load kind first c.args.progress.now.tally) (sym c.requires.hangs))
     (λ cells. subst (λ course. Follows course (λ (done : Unit {0}). (seen_slot numbers.vertex slot', desk')) (read_by (failure_in new.progress) (Err c.in-Err.halt)) (found_in old cells) held'.told)
     same (c.in-Err.ensures.follows settings.input cells))
-    c.in-Err.ensures.left c.in-Err.ensures.keeps c.in-Err.ensures.full c.in-Err.ensures.marks c.in-Err.ensures.filled c.in-Err.ensures.emptied
+    c.in-Err.ensures.left c.in-Err.ensures.stays c.in-Err.ensures.filled c.in-Err.ensures.emptied

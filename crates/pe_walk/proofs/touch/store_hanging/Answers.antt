@@ -49,7 +49,7 @@ returns-in-Ok-clause-goes g c =
     (ap (λ kind. tally_store kind (is_none to) c.args.progress.now.tally) (sym (slot-kind numbers.vertex c.args.slot.now Hanging c.requires.hangs)))
     (λ cells. subst (λ course. Follows course (λ (done : Unit {0}). desk') (read_by (failure_in new.progress) (Ok tt)) (found_in old cells) held'.told)
     same (c.in-Ok.ensures.follows out to cells fits))
-    c.in-Ok.ensures.left c.in-Ok.ensures.keeps c.in-Ok.ensures.full c.in-Ok.ensures.marks
+    c.in-Ok.ensures.left c.in-Ok.ensures.stays
 
 pub returns-in-Err-clause-goes : goal.returns-in-Err-clause-goes
 returns-in-Err-clause-goes g c =
@@ -79,4 +79,4 @@ returns-in-Err-clause-goes g c =
     (ap (λ kind. tally_store kind (is_none to) c.args.progress.now.tally) (sym (slot-kind numbers.vertex c.args.slot.now Hanging c.requires.hangs)))
     (λ cells. subst (λ course. Follows course (λ (done : Unit {0}). desk') (read_by (failure_in new.progress) (Err c.in-Err.halt)) (found_in old cells) held'.told)
     same (c.in-Err.ensures.follows out to cells fits))
-    c.in-Err.ensures.left c.in-Err.ensures.keeps c.in-Err.ensures.full c.in-Err.ensures.marks
+    c.in-Err.ensures.left c.in-Err.ensures.stays

@@ -29,7 +29,7 @@ returns-in-Ok-fire_cell-clause-follows g c = λ vertices cells.
     let made = fresh-is numbers.cell (seen_corners numbers.vertex c.args.corners.now) (seen_corners numbers.vertex c.args.parents.now) (seen_cell numbers.cell c.args.parent.now) fresh.list (made_cell rules before)
     c.in-Ok.payload c.new.result c.lend-cell.result c.in-Ok.ensures.answer.payload c.in-Ok.ensures.answer.list c.new.ensures c.lend-cell.ensures.handed in
     let once = setting-kept rules before fresh s.setup.start_level s.setup.max_cells s.traversal c.in-Ok.ensures.keeps in
-    let again = setting-kept rules fresh fired s.setup.start_level s.setup.max_cells s.traversal c.in-Ok-fire_cell.ensures.keeps ∙ once in
+    let again = setting-kept rules fresh fired s.setup.start_level s.setup.max_cells s.traversal c.in-Ok-fire_cell.ensures.stays.keeps ∙ once in
     follows-found _ _ _ _ _ _ (sym c.in-Ok.ensures.told) (roomier-held before fresh vertices cells c.in-Ok.ensures.keeps)
     (subst
     (λ start. Follows (and_then (cell_event set CreateCell at start) (cell_event set EnterCell at)) last
@@ -38,7 +38,7 @@ returns-in-Ok-fire_cell-clause-follows g c = λ vertices cells.
     (follows-then (cell_event set CreateCell at it) (cell_event set EnterCell at) (λ (u : Unit {0}). it') tt last _
     (found_of fresh vertices cells) (found_of fired vertices cells) after.told
     (subst (λ z. Follows (cell_event z CreateCell at it) (λ (u : Unit {0}). it') (Ok tt) (found_of fresh vertices cells) fired.told) once (c.in-Ok-fire_cell.ensures.follows vertices cells))
-    (roomier-held fresh fired vertices cells c.in-Ok-fire_cell.ensures.keeps)
+    (roomier-held fresh fired vertices cells c.in-Ok-fire_cell.ensures.stays.keeps)
     (subst
     (λ z. Follows (cell_event z EnterCell at it') last
     (read_by (failure_in c.enter_found.new.progress) c.enter_found.result) (found_of fired vertices cells) after.told)

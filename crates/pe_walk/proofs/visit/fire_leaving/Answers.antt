@@ -25,9 +25,9 @@ returns-in-Dying-clause-follows g c = λ vertices cells.
     let answer = read_by (failure_in c.fire_cell-in-Dying.new.progress) c.fire_cell-in-Dying.result in
     leave-dies set at own family c.args.kind (λ (u : Unit {0}). last) answer (found_of old vertices cells) new.told c.in-Dying.is
     (follows-then (cell_event set LeaveCell at (own, family)) (cell_event set DestroyCell at) (λ (u : Unit {0}). it) tt (λ (u : Unit {0}). last) answer
-    (found_of old vertices cells) (found_of mid vertices cells) new.told (c.in-Ok.ensures.follows vertices cells) (roomier-held old mid vertices cells c.in-Ok.ensures.keeps)
+    (found_of old vertices cells) (found_of mid vertices cells) new.told (c.in-Ok.ensures.follows vertices cells) (roomier-held old mid vertices cells c.in-Ok.ensures.stays.keeps)
     (subst (λ z. Follows (cell_event z DestroyCell at it) (λ (u : Unit {0}). last) answer (found_of mid vertices cells) new.told)
-    (setting-kept rules old mid s.setup.start_level s.setup.max_cells s.traversal c.in-Ok.ensures.keeps) (c.fire_cell-in-Dying.ensures.follows vertices cells)))
+    (setting-kept rules old mid s.setup.start_level s.setup.max_cells s.traversal c.in-Ok.ensures.stays.keeps) (c.fire_cell-in-Dying.ensures.follows vertices cells)))
 
 pub returns-in_default-clause-follows : goal.returns-in_default-clause-follows
 returns-in_default-clause-follows g c = λ vertices cells.

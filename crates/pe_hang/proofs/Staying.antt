@@ -1,0 +1,38 @@
+-- What stays through a call that does nothing to it, and through one call after another.
+use Rattle.std.proofs.Common.{◌≡◌, ℕ, ℤ, List, refl, sym, subst, ◌∙◌}
+use Rattle.pe_stacks.specs.declared.record.Vertex.{Vertex}
+use Rattle.pe_stacks.specs.Corners.{CornerList, IsFull}
+use Rattle.pe_mapping.specs.Held.{Held, Keeps}
+use Rattle.pe_hang.specs.InHand.{CornersStay, Stays}
+
+module _ {Plan : Type 0} where
+  -- a mapping that was not called, and one that was called again
+  pub keeps-same : (held : Held Plan) → Keeps held held
+  keeps-same held = record { plan = refl; dim = refl; sure = refl; lent = refl }
+
+  pub keeps-then : {a b c : Held Plan} → Keeps a b → Keeps b c → Keeps a c
+  keeps-then first second = record {
+    plan = second.plan ∙ first.plan;
+    dim = second.dim ∙ first.dim;
+    sure = second.sure ∙ first.sure;
+    lent = second.lent ∙ first.lent;
+  }
+
+module _ {V : Type 0} {numbers : V → List ℤ} where
+  -- corners that were touched again, where the dimension stayed
+  pub corners-then : {axes axes' : ℕ} {a b c : CornerList (Vertex V)} → axes' ≡ axes → CornersStay numbers axes a b → CornersStay numbers axes' b c → CornersStay numbers axes a c
+  corners-then {axes} {axes'} {a} {b} {c} same first second = record { full = subst (λ d. IsFull d c) same second.full; marks = second.marks ∙ first.marks }
+
+  module _ {Plan : Type 0} {held held' : Held Plan} {old : CornerList (Vertex V)} where
+    -- a call that did not touch them
+    pub stays-beside : Keeps held held' → IsFull held.dim old → Stays numbers held held' old old
+    stays-beside keeps full = record { keeps = keeps; parents = record { full = full; marks = refl } }
+
+    module _ {new : CornerList (Vertex V)} where
+      -- one that did: they are full still
+      pub stays-full : Stays numbers held held' old new → IsFull held'.dim new
+      stays-full stays = subst (λ d. IsFull d new) (sym stays.keeps.dim) stays.parents.full
+
+      -- and one after another
+      pub stays-then : {last : Held Plan} {end : CornerList (Vertex V)} → Stays numbers held held' old new → Stays numbers held' last new end → Stays numbers held last old end
+      stays-then first second = record { keeps = keeps-then first.keeps second.keeps; parents = corners-then first.keeps.dim first.parents second.parents }
