@@ -15,10 +15,10 @@ use Rattle.pe_walk.specs.declared.settings.Settings.{Settings}
 use Rattle.pe_walk.specs.GivenUp.{given_up_times}
 use Rattle.pe_walk.specs.InHand.{ports_of}
 use Rattle.pe_walk.specs.Machine.{Machine, Ports, with_parents, root_corners, plain, give_up_all}
-use Rattle.pe_walk.specs.Visits.{walk_children, walk_root}
+use Rattle.pe_walk.specs.Visits.{walk_children, walk_root, Hands, machine_of, found_in}
 use Rattle.pe_walk.proofs.Simulation.Matching.{then-grouped}
 use Rattle.pe_walk.proofs.GivingUp.{gives-follow}
-use Rattle.pe_walk.proofs.Walking.{Hands, machine_of, found_in, set_in, Goes, HasRun, runs-may, runs-then, runs-err}
+use Rattle.pe_walk.proofs.Walking.{set_in, Goes, HasRun, runs-may, runs-then, runs-err}
 use Rattle.pe_walk.proofs.CellWalks.{from-alike}
 
 -- the mapping's list after an event
@@ -73,32 +73,32 @@ module _ {Plan V C : Type 0} (rules : Rules Plan) (numbers : Numbers V C) (setti
   ports = ports_of settings
 
   abbrev bare : Machine
-  bare = with_parents [] (machine_of rules numbers settings walked)
+  bare = with_parents [] (machine_of numbers walked)
 
   abbrev goes_on : Setting Plan → Course Machine
-  goes_on set = and_then (rooting ports settings.setup.max_level (machine_of rules numbers settings mid) set) (giving ports settings.setup.max_level set)
+  goes_on set = and_then (rooting ports settings.setup.max_level (machine_of numbers mid) set) (giving ports settings.setup.max_level set)
 
   abbrev given : Unit {0} → Machine
   given u = record bare { vertices = vertices_on_stacks numbers new.vertices }
 
-  pub root-gives : (answer : Result (Unit {0}) Failure) → HasRun rules numbers settings (rooting ports settings.setup.max_level (machine_of rules numbers settings mid)) (λ (u : Unit {0}). machine_of rules numbers settings walked) answer mid walked
-      → Goes rules numbers settings mid walked → Fits (goes_on (set_in rules numbers settings mid)) → new.held ≡ walked.held
+  pub root-gives : (answer : Result (Unit {0}) Failure) → HasRun rules settings (rooting ports settings.setup.max_level (machine_of numbers mid)) (λ (u : Unit {0}). machine_of numbers walked) answer mid walked
+      → Goes rules settings mid walked → Fits (goes_on (set_in rules settings mid)) → new.held ≡ walked.held
       → (n : ℕ) → n ≡ length (seen_corners numbers.vertex walked.parents) → new.vertices ≡ given_up_times n walked.vertices
-      → HasRun rules numbers settings goes_on given answer mid new
+      → HasRun rules settings goes_on given answer mid new
   root-gives (Ok u) is goes fits same n count after =
       let greatest = settings.setup.max_level in
-      let roots = rooting ports greatest (machine_of rules numbers settings mid) in
-      let to_walk = λ (u : Unit {0}). machine_of rules numbers settings walked in
-      let set = set_in rules numbers settings walked in
-      let found = found_in rules numbers settings walked in
+      let roots = rooting ports greatest (machine_of numbers mid) in
+      let to_walk = λ (u : Unit {0}). machine_of numbers walked in
+      let set = set_in rules settings walked in
+      let found = found_in walked in
       let still = record walked { vertices = new.vertices } in
       let gives = gives-follow (seen_vertex numbers.vertex) set ports bare (seen_corners numbers.vertex walked.parents) n walked.vertices new.vertices found
-      (runs-may rules numbers settings roots (giving ports greatest) to_walk tt mid walked fits is goes) count after in
-      subst (λ (held : Held Plan). Follows (goes_on (set_in rules numbers settings mid)) given (Ok tt) (found_in rules numbers settings mid) held.told) (sym same)
-      (runs-then rules numbers settings roots (giving ports greatest) to_walk tt given (Ok tt) mid walked still is goes gives)
+      (runs-may rules settings roots (giving ports greatest) to_walk tt mid walked fits is goes) count after in
+      subst (λ (held : Held Plan). Follows (goes_on (set_in rules settings mid)) given (Ok tt) (found_in mid) held.told) (sym same)
+      (runs-then rules settings roots (giving ports greatest) to_walk tt given (Ok tt) mid walked still is goes gives)
   root-gives (Err failure) is goes fits same n count after =
       let greatest = settings.setup.max_level in
-      let roots = rooting ports greatest (machine_of rules numbers settings mid) in
-      let to_walk = λ (u : Unit {0}). machine_of rules numbers settings walked in
-      subst (λ (held : Held Plan). Follows (goes_on (set_in rules numbers settings mid)) given (Err failure) (found_in rules numbers settings mid) held.told) (sym same)
-      (runs-err rules numbers settings roots (giving ports greatest) to_walk given failure mid walked is)
+      let roots = rooting ports greatest (machine_of numbers mid) in
+      let to_walk = λ (u : Unit {0}). machine_of numbers walked in
+      subst (λ (held : Held Plan). Follows (goes_on (set_in rules settings mid)) given (Err failure) (found_in mid) held.told) (sym same)
+      (runs-err rules settings roots (giving ports greatest) to_walk given failure mid walked is)

@@ -1,15 +1,13 @@
 // The walk of a cell and of its children: there is one for each number of axes, which knows it when it is compiled.
-ghost use Rattle.std.specs.Prelude.{◌≡◌, suc, ◌+◌, ◌≤◌, ◌<◌, is_err};
+ghost use Rattle.std.specs.Prelude.{◌≡◌, suc, ◌+◌, ◌≤◌, ◌<◌};
 ghost use Rattle.pe_base.specs.declared.place.Place.{Place as APlace};
-ghost use Rattle.pe_stacks.specs.Corners.{IsFull, no_vertices};
+ghost use Rattle.pe_stacks.specs.Corners.{no_vertices};
 ghost use Rattle.pe_mapping.specs.Sights.{seen_corners};
-ghost use Rattle.pe_hang.specs.InHand.{cells_on_stacks, Stays};
-ghost use Rattle.pe_hang.specs.Follows.{Follows, Fits, Left, read_by, found_of, held_by};
 ghost use Rattle.pe_adapt.specs.Marked.{AreMarksOf, GiveKinds};
 ghost use Rattle.pe_walk.specs.Machine.{kind_among, walk_cell};
-ghost use Rattle.pe_walk.specs.InHand.{setting_in, ports_of, machine_in_hand, IsWalked, failure_in};
+ghost use Rattle.pe_walk.specs.InHand.{ports_of, IsWalked};
 ghost use Rattle.pe_walk.specs.Children.{IsAbove};
-ghost use Rattle.pe_walk.specs.Visits.{walk_children, CountsCells};
+ghost use Rattle.pe_walk.specs.Visits.{walk_children, MayWalk, Walks, WalkLeft, hands_of};
 
 use crate::cell;
 use crate::child::Above;
@@ -35,27 +33,21 @@ pub(crate) fn walk_cell<M: Mapping, DV: Depot<Vertex<M::V>>, DC: Depot<CellRec<M
     parents: &mut Corners<M::V>,
     parent: &mut CellRec<M::C>,
 ) -> Result<(), Halt>
-    requires dim { (M.held m.old).dim ≡ settings.now.setup.dim }
+    requires may { MayWalk M.rules M.numbers settings.now cell.now.place.level levels
+        (λ set. walk_cell set (ports_of settings.now) (suc levels) cell.now.place)
+        (hands_of (M.held m.old) (DV.holds dv.old) (DV.room dv.old) (DC.holds dc.old) (DC.room dc.old) parents.old parent.old progress.old) }
     requires walked { IsWalked (M.held m.old).dim settings.now cell.now }
-    requires levels { cell.now.place.level + levels ≤ 20 }
     requires kinds { GiveKinds (M.held m.old).dim settings.now.traversal cell.now.place (seen_corners M.numbers.vertex parents.old) cell.now.marks }
     requires kind { kind_among settings.now.traversal cell.now.place (seen_corners M.numbers.vertex parents.old) ≡ kind }
-    requires full { IsFull (M.held m.old).dim parents.old }
     requires empty { corners.old ≡ no_vertices (M.held m.old).dim }
-    requires few { progress.old.tally.cells ≤ settings.now.setup.max_cells }
-    requires fits { Fits
-        (walk_cell (setting_in M.rules (M.held m.old) settings.now) (ports_of settings.now) (suc levels) cell.now.place
-        (machine_in_hand M.numbers (DV.holds dv.old) (cells_on_stacks M.numbers (DC.holds dc.old)) parents.old parent.old (M.held m.old).list progress.old.tally)) }
-    ensures follows { Follows
-        (walk_cell (setting_in M.rules (M.held m.old) settings.now) (ports_of settings.now) (suc levels) cell.now.place
-        (machine_in_hand M.numbers (DV.holds dv.old) (cells_on_stacks M.numbers (DC.holds dc.old)) parents.old parent.old (M.held m.old).list progress.old.tally))
-        (λ done. machine_in_hand M.numbers (DV.holds dv.new) (cells_on_stacks M.numbers (DC.holds dc.new)) parents.new parent.new (M.held m.new).list progress.new.tally)
-        (read_by (failure_in progress.new) result)
-        (found_of (M.held m.old) (held_by (DV.holds dv.old) (DV.room dv.old)) (held_by (DC.holds dc.old) (DC.room dc.old))) (M.held m.new).told }
-    ensures left { Left 0 0 (DV.holds dv.old) (DV.room dv.old) (DV.holds dv.new) (DV.room dv.new) (is_err result) }
-    ensures cells_left { Left 0 0 (DC.holds dc.old) (DC.room dc.old) (DC.holds dc.new) (DC.room dc.new) (is_err result) }
-    ensures counts { CountsCells settings.now.setup.max_cells 0 progress.old (DC.holds dc.old) progress.new (DC.holds dc.new) (is_err result) }
-    ensures stays { Stays M.numbers.vertex (M.held m.old) (M.held m.new) parents.old parents.new }
+    ensures follows { Walks M.rules M.numbers settings.now
+        (λ set. walk_cell set (ports_of settings.now) (suc levels) cell.now.place)
+        (λ machine. machine) result
+        (hands_of (M.held m.old) (DV.holds dv.old) (DV.room dv.old) (DC.holds dc.old) (DC.room dc.old) parents.old parent.old progress.old)
+        (hands_of (M.held m.new) (DV.holds dv.new) (DV.room dv.new) (DC.holds dc.new) (DC.room dc.new) parents.new parent.new progress.new) }
+    ensures left { WalkLeft M.numbers settings.now 0 result
+        (hands_of (M.held m.old) (DV.holds dv.old) (DV.room dv.old) (DC.holds dc.old) (DC.room dc.old) parents.old parent.old progress.old)
+        (hands_of (M.held m.new) (DV.holds dv.new) (DV.room dv.new) (DC.holds dc.new) (DC.room dc.new) parents.new parent.new progress.new) }
     ensures emptied { corners.new ≡ no_vertices (M.held m.old).dim }
 {
     match settings.setup.dim.axes() {
@@ -84,27 +76,21 @@ pub(crate) fn walk_children<M: Mapping, DV: Depot<Vertex<M::V>>, DC: Depot<CellR
     parents: &mut Corners<M::V>,
     parent: &mut CellRec<M::C>,
 ) -> Result<(), Halt>
-    requires dim { (M.held m.old).dim ≡ settings.now.setup.dim }
+    requires may { MayWalk M.rules M.numbers settings.now above.now.place.level levels
+        (λ set. walk_children set (ports_of settings.now) levels above.now.place)
+        (hands_of (M.held m.old) (DV.holds dv.old) (DV.room dv.old) (DC.holds dc.old) (DC.room dc.old) parents.old parent.old progress.old) }
     requires above { IsAbove (M.held m.old).dim settings.now above.now }
-    requires levels { above.now.place.level + levels ≤ 20 }
     requires some { 0 < levels }
     requires marked { AreMarksOf (M.held m.old).dim (seen_corners M.numbers.vertex parents.old) above.now.marks }
     requires kind { (cell : APlace) → cell.level ≡ above.now.place.level + 1 → kind_among settings.now.traversal cell (seen_corners M.numbers.vertex parents.old) ≡ kind }
-    requires full { IsFull (M.held m.old).dim parents.old }
-    requires few { progress.old.tally.cells ≤ settings.now.setup.max_cells }
-    requires fits { Fits
-        (walk_children (setting_in M.rules (M.held m.old) settings.now) (ports_of settings.now) levels above.now.place
-        (machine_in_hand M.numbers (DV.holds dv.old) (cells_on_stacks M.numbers (DC.holds dc.old)) parents.old parent.old (M.held m.old).list progress.old.tally)) }
-    ensures follows { Follows
-        (walk_children (setting_in M.rules (M.held m.old) settings.now) (ports_of settings.now) levels above.now.place
-        (machine_in_hand M.numbers (DV.holds dv.old) (cells_on_stacks M.numbers (DC.holds dc.old)) parents.old parent.old (M.held m.old).list progress.old.tally))
-        (λ done. machine_in_hand M.numbers (DV.holds dv.new) (cells_on_stacks M.numbers (DC.holds dc.new)) parents.new parent.new (M.held m.new).list progress.new.tally)
-        (read_by (failure_in progress.new) result)
-        (found_of (M.held m.old) (held_by (DV.holds dv.old) (DV.room dv.old)) (held_by (DC.holds dc.old) (DC.room dc.old))) (M.held m.new).told }
-    ensures left { Left 0 0 (DV.holds dv.old) (DV.room dv.old) (DV.holds dv.new) (DV.room dv.new) (is_err result) }
-    ensures cells_left { Left 0 0 (DC.holds dc.old) (DC.room dc.old) (DC.holds dc.new) (DC.room dc.new) (is_err result) }
-    ensures counts { CountsCells settings.now.setup.max_cells 0 progress.old (DC.holds dc.old) progress.new (DC.holds dc.new) (is_err result) }
-    ensures stays { Stays M.numbers.vertex (M.held m.old) (M.held m.new) parents.old parents.new }
+    ensures follows { Walks M.rules M.numbers settings.now
+        (λ set. walk_children set (ports_of settings.now) levels above.now.place)
+        (λ machine. machine) result
+        (hands_of (M.held m.old) (DV.holds dv.old) (DV.room dv.old) (DC.holds dc.old) (DC.room dc.old) parents.old parent.old progress.old)
+        (hands_of (M.held m.new) (DV.holds dv.new) (DV.room dv.new) (DC.holds dc.new) (DC.room dc.new) parents.new parent.new progress.new) }
+    ensures left { WalkLeft M.numbers settings.now 0 result
+        (hands_of (M.held m.old) (DV.holds dv.old) (DV.room dv.old) (DC.holds dc.old) (DC.room dc.old) parents.old parent.old progress.old)
+        (hands_of (M.held m.new) (DV.holds dv.new) (DV.room dv.new) (DC.holds dc.new) (DC.room dc.new) parents.new parent.new progress.new) }
 {
     match settings.setup.dim.axes() {
         2 => cell::walk_children::<2, M, DV, DC>(

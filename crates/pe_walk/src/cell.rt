@@ -1,16 +1,15 @@
 // The walk of a cell with all below it.
-ghost use Rattle.std.specs.Prelude.{◌≡◌, ℕ, suc, ◌+◌, ◌≤◌, ◌<◌, is_err};
+ghost use Rattle.std.specs.Prelude.{◌≡◌, suc, ◌+◌, ◌≤◌, ◌<◌};
 ghost use Rattle.pe_base.specs.declared.place.Place.{Place as APlace};
 ghost use Rattle.pe_base.specs.Walk.Core.{Family};
 ghost use Rattle.pe_stacks.specs.Corners.{IsFull, no_vertices};
 ghost use Rattle.pe_mapping.specs.Sights.{seen_corners};
-ghost use Rattle.pe_hang.specs.InHand.{own_in_hand, cells_on_stacks, CornersStay, Stays};
-ghost use Rattle.pe_hang.specs.Follows.{Follows, Fits, Left, read_by, found_of, held_by};
+ghost use Rattle.pe_hang.specs.InHand.{own_in_hand, CornersStay};
 ghost use Rattle.pe_adapt.specs.Marked.{AreMarksOf, GiveKinds};
 ghost use Rattle.pe_walk.specs.Machine.{kind_among, walk_cell};
-ghost use Rattle.pe_walk.specs.InHand.{setting_in, ports_of, machine_in_hand, IsWalked, failure_in};
+ghost use Rattle.pe_walk.specs.InHand.{ports_of, IsWalked};
 ghost use Rattle.pe_walk.specs.Children.{IsAbove};
-ghost use Rattle.pe_walk.specs.Visits.{walk_children, walk_below, visit_cell, with_family, CountsCells};
+ghost use Rattle.pe_walk.specs.Visits.{walk_children, walk_below, visit_cell, with_family, MayWalk, Walks, WalkLeft, hands_of};
 
 use crate::child::{Above, child_of, move_to};
 use crate::corners::{load_corners, store_corners};
@@ -47,27 +46,21 @@ pub(crate) fn walk_cell<
     parent: &mut CellRec<M::C>,
 ) -> Result<(), Halt>
     requires axes { settings.now.setup.dim ≡ AXES }
-    requires dim { (M.held m.old).dim ≡ settings.now.setup.dim }
+    requires may { MayWalk M.rules M.numbers settings.now cell.now.place.level levels
+        (λ set. walk_cell set (ports_of settings.now) (suc levels) cell.now.place)
+        (hands_of (M.held m.old) (DV.holds dv.old) (DV.room dv.old) (DC.holds dc.old) (DC.room dc.old) parents.old parent.old progress.old) }
     requires walked { IsWalked (M.held m.old).dim settings.now cell.now }
-    requires levels { cell.now.place.level + levels ≤ 20 }
     requires kinds { GiveKinds (M.held m.old).dim settings.now.traversal cell.now.place (seen_corners M.numbers.vertex parents.old) cell.now.marks }
     requires kind { kind_among settings.now.traversal cell.now.place (seen_corners M.numbers.vertex parents.old) ≡ kind }
-    requires full { IsFull (M.held m.old).dim parents.old }
     requires empty { corners.old ≡ no_vertices (M.held m.old).dim }
-    requires few { progress.old.tally.cells ≤ settings.now.setup.max_cells }
-    requires fits { Fits
-        (walk_cell (setting_in M.rules (M.held m.old) settings.now) (ports_of settings.now) (suc levels) cell.now.place
-        (machine_in_hand M.numbers (DV.holds dv.old) (cells_on_stacks M.numbers (DC.holds dc.old)) parents.old parent.old (M.held m.old).list progress.old.tally)) }
-    ensures follows { Follows
-        (walk_cell (setting_in M.rules (M.held m.old) settings.now) (ports_of settings.now) (suc levels) cell.now.place
-        (machine_in_hand M.numbers (DV.holds dv.old) (cells_on_stacks M.numbers (DC.holds dc.old)) parents.old parent.old (M.held m.old).list progress.old.tally))
-        (λ done. machine_in_hand M.numbers (DV.holds dv.new) (cells_on_stacks M.numbers (DC.holds dc.new)) parents.new parent.new (M.held m.new).list progress.new.tally)
-        (read_by (failure_in progress.new) result)
-        (found_of (M.held m.old) (held_by (DV.holds dv.old) (DV.room dv.old)) (held_by (DC.holds dc.old) (DC.room dc.old))) (M.held m.new).told }
-    ensures left { Left 0 0 (DV.holds dv.old) (DV.room dv.old) (DV.holds dv.new) (DV.room dv.new) (is_err result) }
-    ensures cells_left { Left 0 0 (DC.holds dc.old) (DC.room dc.old) (DC.holds dc.new) (DC.room dc.new) (is_err result) }
-    ensures counts { CountsCells settings.now.setup.max_cells 0 progress.old (DC.holds dc.old) progress.new (DC.holds dc.new) (is_err result) }
-    ensures stays { Stays M.numbers.vertex (M.held m.old) (M.held m.new) parents.old parents.new }
+    ensures follows { Walks M.rules M.numbers settings.now
+        (λ set. walk_cell set (ports_of settings.now) (suc levels) cell.now.place)
+        (λ machine. machine) result
+        (hands_of (M.held m.old) (DV.holds dv.old) (DV.room dv.old) (DC.holds dc.old) (DC.room dc.old) parents.old parent.old progress.old)
+        (hands_of (M.held m.new) (DV.holds dv.new) (DV.room dv.new) (DC.holds dc.new) (DC.room dc.new) parents.new parent.new progress.new) }
+    ensures left { WalkLeft M.numbers settings.now 0 result
+        (hands_of (M.held m.old) (DV.holds dv.old) (DV.room dv.old) (DC.holds dc.old) (DC.room dc.old) parents.old parent.old progress.old)
+        (hands_of (M.held m.new) (DV.holds dv.new) (DV.room dv.new) (DC.holds dc.new) (DC.room dc.new) parents.new parent.new progress.new) }
     ensures emptied { corners.new ≡ no_vertices (M.held m.old).dim }
 {
     let dim = settings.setup.dim;
@@ -108,29 +101,20 @@ fn visit_cell<const AXES: u8, M: Mapping, DV: Depot<Vertex<M::V>>, DC: Depot<Cel
     parent: &mut CellRec<M::C>,
 ) -> Result<(), Halt>
     requires axes { settings.now.setup.dim ≡ AXES }
-    requires dim { (M.held m.old).dim ≡ settings.now.setup.dim }
+    requires may { MayWalk M.rules M.numbers settings.now cell.now.place.level levels
+        (λ set. visit_cell set (ports_of settings.now) levels cell.now.place (seen_corners M.numbers.vertex corners.old))
+        (hands_of (M.held m.old) (DV.holds dv.old) (DV.room dv.old) (DC.holds dc.old) (DC.room dc.old) parents.old parent.old progress.old) }
     requires walked { IsWalked (M.held m.old).dim settings.now cell.now }
-    requires levels { cell.now.place.level + levels ≤ 20 }
     requires kind { kind_among settings.now.traversal cell.now.place (seen_corners M.numbers.vertex parents.old) ≡ kind }
-    requires full { IsFull (M.held m.old).dim parents.old }
     requires own_full { IsFull (M.held m.old).dim corners.old }
-    requires few { progress.old.tally.cells ≤ settings.now.setup.max_cells }
-    requires fits { Fits
-        (visit_cell (setting_in M.rules (M.held m.old) settings.now) (ports_of settings.now) levels cell.now.place (seen_corners M.numbers.vertex corners.old)
-        (machine_in_hand M.numbers (DV.holds dv.old) (cells_on_stacks M.numbers (DC.holds dc.old)) parents.old parent.old (M.held m.old).list progress.old.tally)) }
-    ensures follows { Follows
-        (visit_cell (setting_in M.rules (M.held m.old) settings.now) (ports_of settings.now) levels cell.now.place (seen_corners M.numbers.vertex corners.old)
-        (machine_in_hand M.numbers (DV.holds dv.old) (cells_on_stacks M.numbers (DC.holds dc.old)) parents.old parent.old (M.held m.old).list progress.old.tally))
-        (λ done. (
-          seen_corners M.numbers.vertex corners.new,
-          machine_in_hand M.numbers (DV.holds dv.new) (cells_on_stacks M.numbers (DC.holds dc.new)) parents.new parent.new (M.held m.new).list progress.new.tally,
-        ))
-        (read_by (failure_in progress.new) result)
-        (found_of (M.held m.old) (held_by (DV.holds dv.old) (DV.room dv.old)) (held_by (DC.holds dc.old) (DC.room dc.old))) (M.held m.new).told }
-    ensures left { Left 0 0 (DV.holds dv.old) (DV.room dv.old) (DV.holds dv.new) (DV.room dv.new) (is_err result) }
-    ensures cells_left { Left 0 0 (DC.holds dc.old) (DC.room dc.old) (DC.holds dc.new) (DC.room dc.new) (is_err result) }
-    ensures counts { CountsCells settings.now.setup.max_cells 1 progress.old (DC.holds dc.old) progress.new (DC.holds dc.new) (is_err result) }
-    ensures stays { Stays M.numbers.vertex (M.held m.old) (M.held m.new) parents.old parents.new }
+    ensures follows { Walks M.rules M.numbers settings.now
+        (λ set. visit_cell set (ports_of settings.now) levels cell.now.place (seen_corners M.numbers.vertex corners.old))
+        (λ machine. (seen_corners M.numbers.vertex corners.new, machine)) result
+        (hands_of (M.held m.old) (DV.holds dv.old) (DV.room dv.old) (DC.holds dc.old) (DC.room dc.old) parents.old parent.old progress.old)
+        (hands_of (M.held m.new) (DV.holds dv.new) (DV.room dv.new) (DC.holds dc.new) (DC.room dc.new) parents.new parent.new progress.new) }
+    ensures left { WalkLeft M.numbers settings.now 1 result
+        (hands_of (M.held m.old) (DV.holds dv.old) (DV.room dv.old) (DC.holds dc.old) (DC.room dc.old) parents.old parent.old progress.old)
+        (hands_of (M.held m.new) (DV.holds dv.new) (DV.room dv.new) (DC.holds dc.new) (DC.room dc.new) parents.new parent.new progress.new) }
     ensures own { CornersStay M.numbers.vertex (M.held m.old).dim corners.old corners.new }
 {
     let place = &cell.place;
@@ -169,34 +153,18 @@ fn walk_below<const AXES: u8, M: Mapping, DV: Depot<Vertex<M::V>>, DC: Depot<Cel
     own: &mut CellRec<M::C>,
 ) -> Result<(), Halt>
     requires axes { settings.now.setup.dim ≡ AXES }
-    requires dim { (M.held m.old).dim ≡ settings.now.setup.dim }
+    requires may { (outer : Family) × MayWalk M.rules M.numbers settings.now cell.now.place.level levels
+        (λ set machine. walk_below set (ports_of settings.now) levels cell.now.place (own_in_hand M.numbers own.old corners.old, with_family outer machine))
+        (hands_of (M.held m.old) (DV.holds dv.old) (DV.room dv.old) (DC.holds dc.old) (DC.room dc.old) corners.old own.old progress.old) }
     requires walked { IsWalked (M.held m.old).dim settings.now cell.now }
-    requires levels { cell.now.place.level + levels ≤ 20 }
-    requires own_full { IsFull (M.held m.old).dim corners.old }
-    requires few { progress.old.tally.cells ≤ settings.now.setup.max_cells }
-    requires fits { (outer : Family) × Fits
-        (walk_below (setting_in M.rules (M.held m.old) settings.now) (ports_of settings.now) levels cell.now.place (
-          own_in_hand M.numbers own.old corners.old,
-          with_family outer
-              (machine_in_hand M.numbers (DV.holds dv.old) (cells_on_stacks M.numbers (DC.holds dc.old)) corners.old own.old (M.held m.old).list progress.old.tally),
-        )) }
-    ensures follows { (outer : Family) → Follows
-        (walk_below (setting_in M.rules (M.held m.old) settings.now) (ports_of settings.now) levels cell.now.place (
-          own_in_hand M.numbers own.old corners.old,
-          with_family outer
-              (machine_in_hand M.numbers (DV.holds dv.old) (cells_on_stacks M.numbers (DC.holds dc.old)) corners.old own.old (M.held m.old).list progress.old.tally),
-        ))
-        (λ done. (
-          own_in_hand M.numbers own.new corners.new,
-          with_family outer
-              (machine_in_hand M.numbers (DV.holds dv.new) (cells_on_stacks M.numbers (DC.holds dc.new)) corners.new own.new (M.held m.new).list progress.new.tally),
-        ))
-        (read_by (failure_in progress.new) result)
-        (found_of (M.held m.old) (held_by (DV.holds dv.old) (DV.room dv.old)) (held_by (DC.holds dc.old) (DC.room dc.old))) (M.held m.new).told }
-    ensures left { Left 0 0 (DV.holds dv.old) (DV.room dv.old) (DV.holds dv.new) (DV.room dv.new) (is_err result) }
-    ensures cells_left { Left 0 0 (DC.holds dc.old) (DC.room dc.old) (DC.holds dc.new) (DC.room dc.new) (is_err result) }
-    ensures counts { CountsCells settings.now.setup.max_cells 0 progress.old (DC.holds dc.old) progress.new (DC.holds dc.new) (is_err result) }
-    ensures stays { Stays M.numbers.vertex (M.held m.old) (M.held m.new) corners.old corners.new }
+    ensures follows { (outer : Family) → Walks M.rules M.numbers settings.now
+        (λ set machine. walk_below set (ports_of settings.now) levels cell.now.place (own_in_hand M.numbers own.old corners.old, with_family outer machine))
+        (λ machine. (own_in_hand M.numbers own.new corners.new, with_family outer machine)) result
+        (hands_of (M.held m.old) (DV.holds dv.old) (DV.room dv.old) (DC.holds dc.old) (DC.room dc.old) corners.old own.old progress.old)
+        (hands_of (M.held m.new) (DV.holds dv.new) (DV.room dv.new) (DC.holds dc.new) (DC.room dc.new) corners.new own.new progress.new) }
+    ensures left { WalkLeft M.numbers settings.now 0 result
+        (hands_of (M.held m.old) (DV.holds dv.old) (DV.room dv.old) (DC.holds dc.old) (DC.room dc.old) corners.old own.old progress.old)
+        (hands_of (M.held m.new) (DV.holds dv.new) (DV.room dv.new) (DC.holds dc.new) (DC.room dc.new) corners.new own.new progress.new) }
 {
     if levels == 0 {
         return Ok(());
@@ -239,27 +207,21 @@ pub(crate) fn walk_children<
     parent: &mut CellRec<M::C>,
 ) -> Result<(), Halt>
     requires axes { settings.now.setup.dim ≡ AXES }
-    requires dim { (M.held m.old).dim ≡ settings.now.setup.dim }
+    requires may { MayWalk M.rules M.numbers settings.now above.now.place.level levels
+        (λ set. walk_children set (ports_of settings.now) levels above.now.place)
+        (hands_of (M.held m.old) (DV.holds dv.old) (DV.room dv.old) (DC.holds dc.old) (DC.room dc.old) parents.old parent.old progress.old) }
     requires above { IsAbove (M.held m.old).dim settings.now above.now }
-    requires levels { above.now.place.level + levels ≤ 20 }
     requires some { 0 < levels }
     requires marked { AreMarksOf (M.held m.old).dim (seen_corners M.numbers.vertex parents.old) above.now.marks }
     requires kind { (cell : APlace) → cell.level ≡ above.now.place.level + 1 → kind_among settings.now.traversal cell (seen_corners M.numbers.vertex parents.old) ≡ kind }
-    requires full { IsFull (M.held m.old).dim parents.old }
-    requires few { progress.old.tally.cells ≤ settings.now.setup.max_cells }
-    requires fits { Fits
-        (walk_children (setting_in M.rules (M.held m.old) settings.now) (ports_of settings.now) levels above.now.place
-        (machine_in_hand M.numbers (DV.holds dv.old) (cells_on_stacks M.numbers (DC.holds dc.old)) parents.old parent.old (M.held m.old).list progress.old.tally)) }
-    ensures follows { Follows
-        (walk_children (setting_in M.rules (M.held m.old) settings.now) (ports_of settings.now) levels above.now.place
-        (machine_in_hand M.numbers (DV.holds dv.old) (cells_on_stacks M.numbers (DC.holds dc.old)) parents.old parent.old (M.held m.old).list progress.old.tally))
-        (λ done. machine_in_hand M.numbers (DV.holds dv.new) (cells_on_stacks M.numbers (DC.holds dc.new)) parents.new parent.new (M.held m.new).list progress.new.tally)
-        (read_by (failure_in progress.new) result)
-        (found_of (M.held m.old) (held_by (DV.holds dv.old) (DV.room dv.old)) (held_by (DC.holds dc.old) (DC.room dc.old))) (M.held m.new).told }
-    ensures left { Left 0 0 (DV.holds dv.old) (DV.room dv.old) (DV.holds dv.new) (DV.room dv.new) (is_err result) }
-    ensures cells_left { Left 0 0 (DC.holds dc.old) (DC.room dc.old) (DC.holds dc.new) (DC.room dc.new) (is_err result) }
-    ensures counts { CountsCells settings.now.setup.max_cells 0 progress.old (DC.holds dc.old) progress.new (DC.holds dc.new) (is_err result) }
-    ensures stays { Stays M.numbers.vertex (M.held m.old) (M.held m.new) parents.old parents.new }
+    ensures follows { Walks M.rules M.numbers settings.now
+        (λ set. walk_children set (ports_of settings.now) levels above.now.place)
+        (λ machine. machine) result
+        (hands_of (M.held m.old) (DV.holds dv.old) (DV.room dv.old) (DC.holds dc.old) (DC.room dc.old) parents.old parent.old progress.old)
+        (hands_of (M.held m.new) (DV.holds dv.new) (DV.room dv.new) (DC.holds dc.new) (DC.room dc.new) parents.new parent.new progress.new) }
+    ensures left { WalkLeft M.numbers settings.now 0 result
+        (hands_of (M.held m.old) (DV.holds dv.old) (DV.room dv.old) (DC.holds dc.old) (DC.room dc.old) parents.old parent.old progress.old)
+        (hands_of (M.held m.new) (DV.holds dv.new) (DV.room dv.new) (DC.holds dc.new) (DC.room dc.new) parents.new parent.new progress.new) }
 {
     let mut corners = Corners::empty(settings.setup.dim);
     let mut child = child_of::<AXES>(settings, above, Digits { k: [0; 4] });

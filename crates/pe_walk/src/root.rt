@@ -7,11 +7,11 @@ ghost use Rattle.pe_base.specs.Walk.Core.{plain_event};
 ghost use Rattle.pe_stacks.specs.Corners.{IsFull, no_vertices};
 ghost use Rattle.pe_mapping.specs.Held.{Keeps};
 ghost use Rattle.pe_mapping.specs.Sights.{seen_corners};
-ghost use Rattle.pe_hang.specs.InHand.{vertices_on_stacks, cells_on_stacks, Stays};
+ghost use Rattle.pe_hang.specs.InHand.{vertices_on_stacks, cells_on_stacks};
 ghost use Rattle.pe_hang.specs.Follows.{Follows, Fits, Left, wanting, read_by, found_of, held_by};
 ghost use Rattle.pe_walk.specs.Machine.{Machine as AMachine, root_corners, traverse};
 ghost use Rattle.pe_walk.specs.InHand.{setting_in, ports_of, machine_in_hand, machine_between, failure_in};
-ghost use Rattle.pe_walk.specs.Visits.{walk_root, with_vertices, CountsCells};
+ghost use Rattle.pe_walk.specs.Visits.{walk_root, with_vertices, CountsCells, Walks, WalkLeft, hands_of};
 
 use crate::axes::walk_children;
 use crate::child::Above;
@@ -120,16 +120,14 @@ fn walk_root<M: Mapping, DV: Depot<Vertex<M::V>>, DC: Depot<CellRec<M::C>>>(
     requires fits { Fits
         (walk_root (setting_in M.rules (M.held m.old) settings.now) (ports_of settings.now) settings.now.setup.max_level
         (machine_in_hand M.numbers (DV.holds dv.old) (cells_on_stacks M.numbers (DC.holds dc.old)) corners.old root.old (M.held m.old).list progress.old.tally)) }
-    ensures follows { Follows
-        (walk_root (setting_in M.rules (M.held m.old) settings.now) (ports_of settings.now) settings.now.setup.max_level
-        (machine_in_hand M.numbers (DV.holds dv.old) (cells_on_stacks M.numbers (DC.holds dc.old)) corners.old root.old (M.held m.old).list progress.old.tally))
-        (λ done. machine_in_hand M.numbers (DV.holds dv.new) (cells_on_stacks M.numbers (DC.holds dc.new)) corners.new root.new (M.held m.new).list progress.new.tally)
-        (read_by (failure_in progress.new) result)
-        (found_of (M.held m.old) (held_by (DV.holds dv.old) (DV.room dv.old)) (held_by (DC.holds dc.old) (DC.room dc.old))) (M.held m.new).told }
-    ensures left { Left 0 0 (DV.holds dv.old) (DV.room dv.old) (DV.holds dv.new) (DV.room dv.new) (is_err result) }
-    ensures cells_left { Left 0 0 (DC.holds dc.old) (DC.room dc.old) (DC.holds dc.new) (DC.room dc.new) (is_err result) }
-    ensures counts { CountsCells settings.now.setup.max_cells 0 progress.old (DC.holds dc.old) progress.new (DC.holds dc.new) (is_err result) }
-    ensures stays { Stays M.numbers.vertex (M.held m.old) (M.held m.new) corners.old corners.new }
+    ensures follows { Walks M.rules M.numbers settings.now
+        (λ set. walk_root set (ports_of settings.now) settings.now.setup.max_level)
+        (λ machine. machine) result
+        (hands_of (M.held m.old) (DV.holds dv.old) (DV.room dv.old) (DC.holds dc.old) (DC.room dc.old) corners.old root.old progress.old)
+        (hands_of (M.held m.new) (DV.holds dv.new) (DV.room dv.new) (DC.holds dc.new) (DC.room dc.new) corners.new root.new progress.new) }
+    ensures left { WalkLeft M.numbers settings.now 0 result
+        (hands_of (M.held m.old) (DV.holds dv.old) (DV.room dv.old) (DC.holds dc.old) (DC.room dc.old) corners.old root.old progress.old)
+        (hands_of (M.held m.new) (DV.holds dv.new) (DV.room dv.new) (DC.holds dc.new) (DC.room dc.new) corners.new root.new progress.new) }
 {
     match fire_plain(Event::BeginIteration, settings, progress, m) {
         Ok(()) => {}

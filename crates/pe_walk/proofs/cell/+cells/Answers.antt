@@ -1,4 +1,4 @@
-use Rattle.std.proofs.Common.{◌≡◌, ◌+◌, ◌^◌, ◌<◌, ◌≤◌, List, [], map, Ok, Err, refl, sym, ap, subst, ◌∙◌, rules as the_rules, arith}
+use Rattle.std.proofs.Common.{◌≡◌, suc, ◌+◌, ◌-◌, ◌^◌, ◌<◌, ◌≤◌, List, [], map, Ok, Err, refl, sym, ap, subst, ◌∙◌, rules as the_rules, arith}
 use Rattle.std.specs.Prelude.{All}
 use Rattle.pe_base.specs.declared.place.Place.{Place}
 use Rattle.pe_base.specs.declared.tally.Tally.{Tally}
@@ -18,14 +18,14 @@ use Rattle.pe_mapping.proofs.Texts.{adds-nothing}
 use Rattle.pe_mapping.proofs.BelowRoot.{cell_below_root}
 use Rattle.pe_hang.specs.InHand.{family_in_hand, own_in_hand, cells_on_stacks}
 use Rattle.pe_hang.specs.Follows.{Follows, Fits, Leads, read_by, held_by}
-use Rattle.pe_hang.proofs.Staying.{keeps-same, stays-full, stays-beside, stays-then}
+use Rattle.pe_hang.proofs.Staying.{keeps-same, stays-full, stays-beside}
 use Rattle.pe_hang.proofs.Leading.{and_then-fits, follows-map, leads_start}
 use Rattle.pe_adapt.specs.Marked.{AreMarksOf, GiveKinds}
 use Rattle.pe_walk.specs.InHand.{IsWalked, ports_of, failure_in}
-use Rattle.pe_walk.specs.Machine.{Machine, enter_cell, outside, walk_cell}
+use Rattle.pe_walk.specs.Machine.{Machine, kind_among, enter_cell, outside, walk_cell}
 use Rattle.pe_walk.specs.Children.{IsAbove}
-use Rattle.pe_walk.specs.Visits.{walk_children, with_family}
-use Rattle.pe_walk.proofs.Walking.{hands, machine_of, found_in, set_in, Goes, goes-set, runs-may, runs-then, runs-err, runs-as}
+use Rattle.pe_walk.specs.Visits.{walk_children, walk_below, visit_cell, with_family, hands_of, machine_of, found_in, MayWalk}
+use Rattle.pe_walk.proofs.Walking.{set_in, Goes, goes-set, runs-may, runs-then, runs-err, runs-as, left-then}
 use Rattle.pe_walk.proofs.Markings.{kind_among-kept, kind_among-deep, kind_below-marks, any-kind, length-seen, few-corners, marks-kept}
 use Rattle.pe_walk.proofs.Children.{child-walked}
 use Rattle.pe_walk.proofs.Below.{below-hanging, below-walked, below-greatest}
@@ -43,8 +43,8 @@ visit_cell-enter_cell-requires-clause-fits g t c =
     let place = c.args.cell.now.place in
     let levels = c.args.levels in
     let its = seen_corners numbers.vertex c.args.corners.now in
-    let old = hands (g.M.Mapping.held c.args.m.now) (g.DV.Depot.holds c.args.dv.now) (g.DV.Depot.room c.args.dv.now) (g.DC.Depot.holds c.args.dc.now) (g.DC.Depot.room c.args.dc.now) c.args.parents.now c.args.parent.now c.args.progress.now in
-    (old.vertices, and_then-fits (enter_cell (set_in rules numbers s old) ports place its (machine_of rules numbers s old)) _ c.requires.fits)
+    let old = hands_of (g.M.Mapping.held c.args.m.now) (g.DV.Depot.holds c.args.dv.now) (g.DV.Depot.room c.args.dv.now) (g.DC.Depot.holds c.args.dc.now) (g.DC.Depot.room c.args.dc.now) c.args.parents.now c.args.parent.now c.args.progress.now in
+    (old.vertices, and_then-fits (enter_cell (set_in rules s old) ports place its (machine_of numbers old)) _ c.requires.may.fits)
 
 pub visit_cell-walk_below-requires : goal.visit_cell-walk_below-requires
 visit_cell-walk_below-requires g t c κs within =
@@ -55,59 +55,26 @@ visit_cell-walk_below-requires g t c κs within =
     let place = c.args.cell.now.place in
     let levels = c.args.levels in
     let its = seen_corners numbers.vertex c.args.corners.now in
-    let old = hands (g.M.Mapping.held c.args.m.now) (g.DV.Depot.holds c.args.dv.now) (g.DV.Depot.room c.args.dv.now) (g.DC.Depot.holds c.args.dc.now) (g.DC.Depot.room c.args.dc.now) c.args.parents.now c.args.parent.now c.args.progress.now in
-    let mid = hands (g.M.Mapping.held c.enter_cell.new.m) (g.DV.Depot.holds c.args.dv.now) (g.DV.Depot.room c.args.dv.now) (g.DC.Depot.holds c.enter_cell.new.dc) (g.DC.Depot.room c.enter_cell.new.dc) c.enter_cell.new.parents c.enter_cell.new.parent c.enter_cell.new.progress in
-    let enters = entering ports levels place its (machine_of rules numbers s old) in
-    let entered = λ (own : ACell g.row.M-C.Denot). (let it : Own × Machine = (own_in_hand numbers own c.enter_cell.new.corners, machine_of rules numbers s mid) in it) in
-    let goes : Goes rules numbers s old mid = record { keeps = c.in-Ok.ensures.stays.keeps; vertices = λ n. omega arith; cells = c.in-Ok.ensures.left.keeps } in
+    let old = hands_of (g.M.Mapping.held c.args.m.now) (g.DV.Depot.holds c.args.dv.now) (g.DV.Depot.room c.args.dv.now) (g.DC.Depot.holds c.args.dc.now) (g.DC.Depot.room c.args.dc.now) c.args.parents.now c.args.parent.now c.args.progress.now in
+    let mid = hands_of (g.M.Mapping.held c.enter_cell.new.m) (g.DV.Depot.holds c.args.dv.now) (g.DV.Depot.room c.args.dv.now) (g.DC.Depot.holds c.enter_cell.new.dc) (g.DC.Depot.room c.enter_cell.new.dc) c.enter_cell.new.parents c.enter_cell.new.parent c.enter_cell.new.progress in
+    let enters = entering ports levels place its (machine_of numbers old) in
+    let entered = λ (own : ACell g.row.M-C.Denot). (let it : Own × Machine = (own_in_hand numbers own c.enter_cell.new.corners, machine_of numbers mid) in it) in
+    let goes : Goes rules s old mid = record { keeps = c.in-Ok.ensures.stays.keeps; vertices = λ n. omega arith; cells = c.in-Ok.ensures.left.keeps } in
     let in_enter = c.in-Ok.ensures.follows old.vertices (held_by old.vertices old.room) in
-    let fits = runs-may rules numbers s enters (after_enter ports levels place) entered c.in-Ok.entered old mid c.requires.fits in_enter goes in
+    let fits = runs-may rules s enters (after_enter ports levels place) entered c.in-Ok.entered old mid c.requires.may.fits in_enter goes in
     let outer = family_in_hand numbers c.enter_cell.new.parents c.enter_cell.new.parent mid.held.list in
     let walked : IsWalked mid.held.dim s c.args.cell.now = subst (λ d. IsWalked d s c.args.cell.now) (sym c.in-Ok.ensures.stays.keeps.dim) c.requires.walked in
     let full : IsFull mid.held.dim c.enter_cell.new.corners = subst (λ d. IsFull d c.enter_cell.new.corners) (sym c.in-Ok.ensures.stays.keeps.dim) c.in-Ok.ensures.own.full in
-    let few : c.enter_cell.new.progress.tally.cells ≤ s.setup.max_cells = subst (λ (tally : Tally). tally.cells ≤ s.setup.max_cells) (sym c.in-Ok.ensures.tally) c.requires.few in (
-      search the_rules,
-      (
-        search the_rules,
-        (
-          within.0,
-          (
-            within.1.0,
-            (
-              within.1.1.0,
-              (
-                within.1.1.1.0,
-                (
-                  within.1.1.1.1.0,
-                  (
-                    within.1.1.1.1.1,
-                    (
-                      c.requires.axes,
-                      (
-                        c.in-Ok.ensures.stays.keeps.dim ∙ c.requires.dim,
-                        (
-                          walked,
-                          (
-                            c.requires.levels,
-                            (
-                              full,
-                              (
-                                few,
-                                (outer, and_then-fits (below ports levels place (entered c.in-Ok.entered) (set_in rules numbers s mid)) _ fits),
-                              ),
-                            ),
-                          ),
-                        ),
-                      ),
-                    ),
-                  ),
-                ),
-              ),
-            ),
-          ),
-        ),
-      ),
-    )
+    let few : c.enter_cell.new.progress.tally.cells ≤ s.setup.max_cells = subst (λ (tally : Tally). tally.cells ≤ s.setup.max_cells) (sym c.in-Ok.ensures.tally) c.requires.may.few in
+    let may : MayWalk rules numbers s place.level levels (λ set m. walk_below set ports levels place (own_in_hand numbers c.in-Ok.entered c.enter_cell.new.corners, with_family outer m)) (record mid { parents = c.enter_cell.new.corners; parent = c.in-Ok.entered }) =
+    record {
+      dim = c.in-Ok.ensures.stays.keeps.dim ∙ c.requires.may.dim;
+      levels = c.requires.may.levels;
+      full = full;
+      few = few;
+      fits = and_then-fits (below ports levels place (entered c.in-Ok.entered) (set_in rules s mid)) _ fits;
+    } in
+    (search the_rules, (search the_rules, (within.0, (within.1.0, (within.1.1.0, (within.1.1.1.0, (within.1.1.1.1.0, (within.1.1.1.1.1, (c.requires.axes, ((outer, may), walked))))))))))
 
 pub visit_cell-leave_cell-requires-clause-place : goal.visit_cell-leave_cell-requires-clause-place
 visit_cell-leave_cell-requires-clause-place g t c =
@@ -127,20 +94,20 @@ visit_cell-leave_cell-requires-clause-fits g t c =
     let place = c.args.cell.now.place in
     let levels = c.args.levels in
     let its = seen_corners numbers.vertex c.args.corners.now in
-    let old = hands (g.M.Mapping.held c.args.m.now) (g.DV.Depot.holds c.args.dv.now) (g.DV.Depot.room c.args.dv.now) (g.DC.Depot.holds c.args.dc.now) (g.DC.Depot.room c.args.dc.now) c.args.parents.now c.args.parent.now c.args.progress.now in
-    let mid = hands (g.M.Mapping.held c.enter_cell.new.m) (g.DV.Depot.holds c.args.dv.now) (g.DV.Depot.room c.args.dv.now) (g.DC.Depot.holds c.enter_cell.new.dc) (g.DC.Depot.room c.enter_cell.new.dc) c.enter_cell.new.parents c.enter_cell.new.parent c.enter_cell.new.progress in
-    let low = hands (g.M.Mapping.held c.walk_below.new.m) (g.DV.Depot.holds c.walk_below.new.dv) (g.DV.Depot.room c.walk_below.new.dv) (g.DC.Depot.holds c.walk_below.new.dc) (g.DC.Depot.room c.walk_below.new.dc) c.enter_cell.new.parents c.enter_cell.new.parent c.walk_below.new.progress in
-    let enters = entering ports levels place its (machine_of rules numbers s old) in
-    let entered = λ (own : ACell g.row.M-C.Denot). (let it : Own × Machine = (own_in_hand numbers own c.enter_cell.new.corners, machine_of rules numbers s mid) in it) in
-    let goes : Goes rules numbers s old mid = record { keeps = c.in-Ok.ensures.stays.keeps; vertices = λ n. omega arith; cells = c.in-Ok.ensures.left.keeps } in
+    let old = hands_of (g.M.Mapping.held c.args.m.now) (g.DV.Depot.holds c.args.dv.now) (g.DV.Depot.room c.args.dv.now) (g.DC.Depot.holds c.args.dc.now) (g.DC.Depot.room c.args.dc.now) c.args.parents.now c.args.parent.now c.args.progress.now in
+    let mid = hands_of (g.M.Mapping.held c.enter_cell.new.m) (g.DV.Depot.holds c.args.dv.now) (g.DV.Depot.room c.args.dv.now) (g.DC.Depot.holds c.enter_cell.new.dc) (g.DC.Depot.room c.enter_cell.new.dc) c.enter_cell.new.parents c.enter_cell.new.parent c.enter_cell.new.progress in
+    let low = hands_of (g.M.Mapping.held c.walk_below.new.m) (g.DV.Depot.holds c.walk_below.new.dv) (g.DV.Depot.room c.walk_below.new.dv) (g.DC.Depot.holds c.walk_below.new.dc) (g.DC.Depot.room c.walk_below.new.dc) c.enter_cell.new.parents c.enter_cell.new.parent c.walk_below.new.progress in
+    let enters = entering ports levels place its (machine_of numbers old) in
+    let entered = λ (own : ACell g.row.M-C.Denot). (let it : Own × Machine = (own_in_hand numbers own c.enter_cell.new.corners, machine_of numbers mid) in it) in
+    let goes : Goes rules s old mid = record { keeps = c.in-Ok.ensures.stays.keeps; vertices = λ n. omega arith; cells = c.in-Ok.ensures.left.keeps } in
     let in_enter = c.in-Ok.ensures.follows old.vertices (held_by old.vertices old.room) in
-    let fits = runs-may rules numbers s enters (after_enter ports levels place) entered c.in-Ok.entered old mid c.requires.fits in_enter goes in
+    let fits = runs-may rules s enters (after_enter ports levels place) entered c.in-Ok.entered old mid c.requires.may.fits in_enter goes in
     let outer = family_in_hand numbers c.enter_cell.new.parents c.enter_cell.new.parent mid.held.list in
     let lowers = below ports levels place (entered c.in-Ok.entered) in
-    let left = λ (u : Unit {0}). (let it : Own × Machine = (own_in_hand numbers c.walk_below.new.own c.walk_below.new.corners, machine_of rules numbers s low) in it) in
-    let goes_low : Goes rules numbers s mid low = record { keeps = c.in-Ok-walk_below.ensures.stays.keeps; vertices = c.in-Ok-walk_below.ensures.left.keeps; cells = c.in-Ok-walk_below.ensures.cells_left.keeps } in
+    let left = λ (u : Unit {0}). (let it : Own × Machine = (own_in_hand numbers c.walk_below.new.own c.walk_below.new.corners, machine_of numbers low) in it) in
+    let goes_low : Goes rules s mid low = record { keeps = c.in-Ok-walk_below.ensures.left.stays.keeps; vertices = c.in-Ok-walk_below.ensures.left.vertices.keeps; cells = c.in-Ok-walk_below.ensures.left.cells.keeps } in
     let in_below = c.in-Ok-walk_below.ensures.follows outer in
-    (low.vertices, runs-may rules numbers s lowers (leaving ports levels place) left tt mid low fits in_below goes_low)
+    (low.vertices, runs-may rules s lowers (leaving ports levels place) left tt mid low fits in_below goes_low)
 
 pub visit_cell-returns-in-Ok-walk_below-clause-follows : goal.visit_cell-returns-in-Ok-walk_below-clause-follows
 visit_cell-returns-in-Ok-walk_below-clause-follows g t c =
@@ -151,24 +118,24 @@ visit_cell-returns-in-Ok-walk_below-clause-follows g t c =
     let place = c.args.cell.now.place in
     let levels = c.args.levels in
     let its = seen_corners numbers.vertex c.args.corners.now in
-    let old = hands (g.M.Mapping.held c.args.m.now) (g.DV.Depot.holds c.args.dv.now) (g.DV.Depot.room c.args.dv.now) (g.DC.Depot.holds c.args.dc.now) (g.DC.Depot.room c.args.dc.now) c.args.parents.now c.args.parent.now c.args.progress.now in
-    let mid = hands (g.M.Mapping.held c.enter_cell.new.m) (g.DV.Depot.holds c.args.dv.now) (g.DV.Depot.room c.args.dv.now) (g.DC.Depot.holds c.enter_cell.new.dc) (g.DC.Depot.room c.enter_cell.new.dc) c.enter_cell.new.parents c.enter_cell.new.parent c.enter_cell.new.progress in
-    let low = hands (g.M.Mapping.held c.walk_below.new.m) (g.DV.Depot.holds c.walk_below.new.dv) (g.DV.Depot.room c.walk_below.new.dv) (g.DC.Depot.holds c.walk_below.new.dc) (g.DC.Depot.room c.walk_below.new.dc) c.enter_cell.new.parents c.enter_cell.new.parent c.walk_below.new.progress in
-    let new = hands (g.M.Mapping.held c.leave_cell.new.m) (g.DV.Depot.holds c.walk_below.new.dv) (g.DV.Depot.room c.walk_below.new.dv) (g.DC.Depot.holds c.leave_cell.new.dc) (g.DC.Depot.room c.leave_cell.new.dc) c.leave_cell.new.parents c.leave_cell.new.parent c.leave_cell.new.progress in
-    let enters = entering ports levels place its (machine_of rules numbers s old) in
-    let entered = λ (own : ACell g.row.M-C.Denot). (let it : Own × Machine = (own_in_hand numbers own c.enter_cell.new.corners, machine_of rules numbers s mid) in it) in
-    let goes : Goes rules numbers s old mid = record { keeps = c.in-Ok.ensures.stays.keeps; vertices = λ n. omega arith; cells = c.in-Ok.ensures.left.keeps } in
+    let old = hands_of (g.M.Mapping.held c.args.m.now) (g.DV.Depot.holds c.args.dv.now) (g.DV.Depot.room c.args.dv.now) (g.DC.Depot.holds c.args.dc.now) (g.DC.Depot.room c.args.dc.now) c.args.parents.now c.args.parent.now c.args.progress.now in
+    let mid = hands_of (g.M.Mapping.held c.enter_cell.new.m) (g.DV.Depot.holds c.args.dv.now) (g.DV.Depot.room c.args.dv.now) (g.DC.Depot.holds c.enter_cell.new.dc) (g.DC.Depot.room c.enter_cell.new.dc) c.enter_cell.new.parents c.enter_cell.new.parent c.enter_cell.new.progress in
+    let low = hands_of (g.M.Mapping.held c.walk_below.new.m) (g.DV.Depot.holds c.walk_below.new.dv) (g.DV.Depot.room c.walk_below.new.dv) (g.DC.Depot.holds c.walk_below.new.dc) (g.DC.Depot.room c.walk_below.new.dc) c.enter_cell.new.parents c.enter_cell.new.parent c.walk_below.new.progress in
+    let new = hands_of (g.M.Mapping.held c.leave_cell.new.m) (g.DV.Depot.holds c.walk_below.new.dv) (g.DV.Depot.room c.walk_below.new.dv) (g.DC.Depot.holds c.leave_cell.new.dc) (g.DC.Depot.room c.leave_cell.new.dc) c.leave_cell.new.parents c.leave_cell.new.parent c.leave_cell.new.progress in
+    let enters = entering ports levels place its (machine_of numbers old) in
+    let entered = λ (own : ACell g.row.M-C.Denot). (let it : Own × Machine = (own_in_hand numbers own c.enter_cell.new.corners, machine_of numbers mid) in it) in
+    let goes : Goes rules s old mid = record { keeps = c.in-Ok.ensures.stays.keeps; vertices = λ n. omega arith; cells = c.in-Ok.ensures.left.keeps } in
     let in_enter = c.in-Ok.ensures.follows old.vertices (held_by old.vertices old.room) in
-    let fits = runs-may rules numbers s enters (after_enter ports levels place) entered c.in-Ok.entered old mid c.requires.fits in_enter goes in
+    let fits = runs-may rules s enters (after_enter ports levels place) entered c.in-Ok.entered old mid c.requires.may.fits in_enter goes in
     let outer = family_in_hand numbers c.enter_cell.new.parents c.enter_cell.new.parent mid.held.list in
     let lowers = below ports levels place (entered c.in-Ok.entered) in
-    let left = λ (u : Unit {0}). (let it : Own × Machine = (own_in_hand numbers c.walk_below.new.own c.walk_below.new.corners, machine_of rules numbers s low) in it) in
-    let goes_low : Goes rules numbers s mid low = record { keeps = c.in-Ok-walk_below.ensures.stays.keeps; vertices = c.in-Ok-walk_below.ensures.left.keeps; cells = c.in-Ok-walk_below.ensures.cells_left.keeps } in
+    let left = λ (u : Unit {0}). (let it : Own × Machine = (own_in_hand numbers c.walk_below.new.own c.walk_below.new.corners, machine_of numbers low) in it) in
+    let goes_low : Goes rules s mid low = record { keeps = c.in-Ok-walk_below.ensures.left.stays.keeps; vertices = c.in-Ok-walk_below.ensures.left.vertices.keeps; cells = c.in-Ok-walk_below.ensures.left.cells.keeps } in
     let in_below = c.in-Ok-walk_below.ensures.follows outer in
-    let after = λ (u : Unit {0}). (let it : List VertexRecord × Machine = (seen_corners numbers.vertex c.leave_cell.new.corners, machine_of rules numbers s new) in it) in
+    let after = λ (u : Unit {0}). (let it : List VertexRecord × Machine = (seen_corners numbers.vertex c.leave_cell.new.corners, machine_of numbers new) in it) in
     let answer = read_by (failure_in c.leave_cell.new.progress) c.leave_cell.result in
-    runs-then rules numbers s enters (after_enter ports levels place) entered c.in-Ok.entered after answer old mid new in_enter goes
-    (runs-then rules numbers s lowers (leaving ports levels place) left tt after answer mid low new in_below goes_low
+    runs-then rules s enters (after_enter ports levels place) entered c.in-Ok.entered after answer old mid new in_enter goes
+    (runs-then rules s lowers (leaving ports levels place) left tt after answer mid low new in_below goes_low
     (c.leave_cell.ensures.follows low.vertices (held_by low.vertices low.room)))
 
 pub visit_cell-returns-in-Err-walk_below-clause-follows : goal.visit_cell-returns-in-Err-walk_below-clause-follows
@@ -180,21 +147,21 @@ visit_cell-returns-in-Err-walk_below-clause-follows g t c =
     let place = c.args.cell.now.place in
     let levels = c.args.levels in
     let its = seen_corners numbers.vertex c.args.corners.now in
-    let old = hands (g.M.Mapping.held c.args.m.now) (g.DV.Depot.holds c.args.dv.now) (g.DV.Depot.room c.args.dv.now) (g.DC.Depot.holds c.args.dc.now) (g.DC.Depot.room c.args.dc.now) c.args.parents.now c.args.parent.now c.args.progress.now in
-    let mid = hands (g.M.Mapping.held c.enter_cell.new.m) (g.DV.Depot.holds c.args.dv.now) (g.DV.Depot.room c.args.dv.now) (g.DC.Depot.holds c.enter_cell.new.dc) (g.DC.Depot.room c.enter_cell.new.dc) c.enter_cell.new.parents c.enter_cell.new.parent c.enter_cell.new.progress in
-    let new = hands (g.M.Mapping.held c.walk_below.new.m) (g.DV.Depot.holds c.walk_below.new.dv) (g.DV.Depot.room c.walk_below.new.dv) (g.DC.Depot.holds c.give_up.new.self) (g.DC.Depot.room c.give_up.new.self) c.enter_cell.new.parents c.enter_cell.new.parent c.walk_below.new.progress in
-    let enters = entering ports levels place its (machine_of rules numbers s old) in
-    let entered = λ (own : ACell g.row.M-C.Denot). (let it : Own × Machine = (own_in_hand numbers own c.enter_cell.new.corners, machine_of rules numbers s mid) in it) in
-    let goes : Goes rules numbers s old mid = record { keeps = c.in-Ok.ensures.stays.keeps; vertices = λ n. omega arith; cells = c.in-Ok.ensures.left.keeps } in
+    let old = hands_of (g.M.Mapping.held c.args.m.now) (g.DV.Depot.holds c.args.dv.now) (g.DV.Depot.room c.args.dv.now) (g.DC.Depot.holds c.args.dc.now) (g.DC.Depot.room c.args.dc.now) c.args.parents.now c.args.parent.now c.args.progress.now in
+    let mid = hands_of (g.M.Mapping.held c.enter_cell.new.m) (g.DV.Depot.holds c.args.dv.now) (g.DV.Depot.room c.args.dv.now) (g.DC.Depot.holds c.enter_cell.new.dc) (g.DC.Depot.room c.enter_cell.new.dc) c.enter_cell.new.parents c.enter_cell.new.parent c.enter_cell.new.progress in
+    let new = hands_of (g.M.Mapping.held c.walk_below.new.m) (g.DV.Depot.holds c.walk_below.new.dv) (g.DV.Depot.room c.walk_below.new.dv) (g.DC.Depot.holds c.give_up.new.self) (g.DC.Depot.room c.give_up.new.self) c.enter_cell.new.parents c.enter_cell.new.parent c.walk_below.new.progress in
+    let enters = entering ports levels place its (machine_of numbers old) in
+    let entered = λ (own : ACell g.row.M-C.Denot). (let it : Own × Machine = (own_in_hand numbers own c.enter_cell.new.corners, machine_of numbers mid) in it) in
+    let goes : Goes rules s old mid = record { keeps = c.in-Ok.ensures.stays.keeps; vertices = λ n. omega arith; cells = c.in-Ok.ensures.left.keeps } in
     let in_enter = c.in-Ok.ensures.follows old.vertices (held_by old.vertices old.room) in
-    let fits = runs-may rules numbers s enters (after_enter ports levels place) entered c.in-Ok.entered old mid c.requires.fits in_enter goes in
+    let fits = runs-may rules s enters (after_enter ports levels place) entered c.in-Ok.entered old mid c.requires.may.fits in_enter goes in
     let outer = family_in_hand numbers c.enter_cell.new.parents c.enter_cell.new.parent mid.held.list in
     let lowers = below ports levels place (entered c.in-Ok.entered) in
-    let left = λ (u : Unit {0}). (let it : Own × Machine = (own_in_hand numbers c.walk_below.new.own c.walk_below.new.corners, machine_of rules numbers s new) in it) in
-    let after = λ (u : Unit {0}). (let it : List VertexRecord × Machine = (seen_corners numbers.vertex c.walk_below.new.corners, machine_of rules numbers s new) in it) in
+    let left = λ (u : Unit {0}). (let it : Own × Machine = (own_in_hand numbers c.walk_below.new.own c.walk_below.new.corners, machine_of numbers new) in it) in
+    let after = λ (u : Unit {0}). (let it : List VertexRecord × Machine = (seen_corners numbers.vertex c.walk_below.new.corners, machine_of numbers new) in it) in
     let failure = failure_in c.walk_below.new.progress c.in-Err-walk_below.halt in
-    runs-then rules numbers s enters (after_enter ports levels place) entered c.in-Ok.entered after (Err failure) old mid new in_enter goes
-    (runs-err rules numbers s lowers (leaving ports levels place) left after failure mid new (c.in-Err-walk_below.ensures.follows outer))
+    runs-then rules s enters (after_enter ports levels place) entered c.in-Ok.entered after (Err failure) old mid new in_enter goes
+    (runs-err rules s lowers (leaving ports levels place) left after failure mid new (c.in-Err-walk_below.ensures.follows outer))
 
 pub visit_cell-returns-in-Err-clause-follows : goal.visit_cell-returns-in-Err-clause-follows
 visit_cell-returns-in-Err-clause-follows g t c =
@@ -205,12 +172,12 @@ visit_cell-returns-in-Err-clause-follows g t c =
     let place = c.args.cell.now.place in
     let levels = c.args.levels in
     let its = seen_corners numbers.vertex c.args.corners.now in
-    let old = hands (g.M.Mapping.held c.args.m.now) (g.DV.Depot.holds c.args.dv.now) (g.DV.Depot.room c.args.dv.now) (g.DC.Depot.holds c.args.dc.now) (g.DC.Depot.room c.args.dc.now) c.args.parents.now c.args.parent.now c.args.progress.now in
-    let mid = hands (g.M.Mapping.held c.enter_cell.new.m) (g.DV.Depot.holds c.args.dv.now) (g.DV.Depot.room c.args.dv.now) (g.DC.Depot.holds c.enter_cell.new.dc) (g.DC.Depot.room c.enter_cell.new.dc) c.enter_cell.new.parents c.enter_cell.new.parent c.enter_cell.new.progress in
-    let enters = entering ports levels place its (machine_of rules numbers s old) in
-    let entered = λ (own : ACell g.row.M-C.Denot). (let it : Own × Machine = (own_in_hand numbers own c.enter_cell.new.corners, machine_of rules numbers s mid) in it) in
-    let after = λ (u : Unit {0}). (let it : List VertexRecord × Machine = (seen_corners numbers.vertex c.enter_cell.new.corners, machine_of rules numbers s mid) in it) in
-    runs-err rules numbers s enters (after_enter ports levels place) entered after (failure_in c.enter_cell.new.progress c.in-Err.halt) old mid (c.in-Err.ensures.follows old.vertices (held_by old.vertices old.room))
+    let old = hands_of (g.M.Mapping.held c.args.m.now) (g.DV.Depot.holds c.args.dv.now) (g.DV.Depot.room c.args.dv.now) (g.DC.Depot.holds c.args.dc.now) (g.DC.Depot.room c.args.dc.now) c.args.parents.now c.args.parent.now c.args.progress.now in
+    let mid = hands_of (g.M.Mapping.held c.enter_cell.new.m) (g.DV.Depot.holds c.args.dv.now) (g.DV.Depot.room c.args.dv.now) (g.DC.Depot.holds c.enter_cell.new.dc) (g.DC.Depot.room c.enter_cell.new.dc) c.enter_cell.new.parents c.enter_cell.new.parent c.enter_cell.new.progress in
+    let enters = entering ports levels place its (machine_of numbers old) in
+    let entered = λ (own : ACell g.row.M-C.Denot). (let it : Own × Machine = (own_in_hand numbers own c.enter_cell.new.corners, machine_of numbers mid) in it) in
+    let after = λ (u : Unit {0}). (let it : List VertexRecord × Machine = (seen_corners numbers.vertex c.enter_cell.new.corners, machine_of numbers mid) in it) in
+    runs-err rules s enters (after_enter ports levels place) entered after (failure_in c.enter_cell.new.progress c.in-Err.halt) old mid (c.in-Err.ensures.follows old.vertices (held_by old.vertices old.room))
 
 pub walk_below-returns-then-levels-eq0-clause-follows : goal.walk_below-returns-then-levels-eq0-clause-follows
 walk_below-returns-then-levels-eq0-clause-follows g t c =
@@ -221,10 +188,10 @@ walk_below-returns-then-levels-eq0-clause-follows g t c =
     let ports = ports_of s in
     let place = c.args.cell.now.place in
     let levels = c.args.levels in
-    let old = hands (g.M.Mapping.held c.args.m.now) (g.DV.Depot.holds c.args.dv.now) (g.DV.Depot.room c.args.dv.now) (g.DC.Depot.holds c.args.dc.now) (g.DC.Depot.room c.args.dc.now) c.args.corners.now c.args.own.now c.args.progress.now in
-    let it = λ (outer : Family). (let own : Own × Machine = (own_in_hand numbers c.args.own.now c.args.corners.now, with_family outer (machine_of rules numbers s old)) in own) in
-    let set = set_in rules numbers s old in
-    let hangs = below-greatest set ports levels place (it c.requires.fits.0) c.if-levels-eq0.true c.requires.fits.1 in
+    let old = hands_of (g.M.Mapping.held c.args.m.now) (g.DV.Depot.holds c.args.dv.now) (g.DV.Depot.room c.args.dv.now) (g.DC.Depot.holds c.args.dc.now) (g.DC.Depot.room c.args.dc.now) c.args.corners.now c.args.own.now c.args.progress.now in
+    let it = λ (outer : Family). (let own : Own × Machine = (own_in_hand numbers c.args.own.now c.args.corners.now, with_family outer (machine_of numbers old)) in own) in
+    let set = set_in rules s old in
+    let hangs = below-greatest set ports levels place (it c.requires.may.0) c.if-levels-eq0.true c.requires.may.1.fits in
     let course = below-hanging set ports levels place (it outer) hangs in
     record {
       ends = ap (λ (course : Course (Own × Machine)). course.ending) course;
@@ -239,69 +206,29 @@ walk_below-walk_children-requires g t c κs within =
     let ports = ports_of s in
     let place = c.args.cell.now.place in
     let levels = c.args.levels in
-    let old = hands (g.M.Mapping.held c.args.m.now) (g.DV.Depot.holds c.args.dv.now) (g.DV.Depot.room c.args.dv.now) (g.DC.Depot.holds c.args.dc.now) (g.DC.Depot.room c.args.dc.now) c.args.corners.now c.args.own.now c.args.progress.now in
-    let it = λ (outer : Family). (let own : Own × Machine = (own_in_hand numbers c.args.own.now c.args.corners.now, with_family outer (machine_of rules numbers s old)) in own) in
+    let old = hands_of (g.M.Mapping.held c.args.m.now) (g.DV.Depot.holds c.args.dv.now) (g.DV.Depot.room c.args.dv.now) (g.DC.Depot.holds c.args.dc.now) (g.DC.Depot.room c.args.dc.now) c.args.corners.now c.args.own.now c.args.progress.now in
+    let it = λ (outer : Family). (let own : Own × Machine = (own_in_hand numbers c.args.own.now c.args.corners.now, with_family outer (machine_of numbers old)) in own) in
     let marked : AreMarksOf old.held.dim (seen_corners numbers.vertex c.args.corners.now) c.marks_of-marks.result =
-    subst (λ d. AreMarksOf d (seen_corners numbers.vertex c.args.corners.now) c.marks_of-marks.result) (sym c.requires.dim) (c.marks_of-marks.ensures numbers.vertex) in
+    subst (λ d. AreMarksOf d (seen_corners numbers.vertex c.args.corners.now) c.marks_of-marks.result) (sym c.requires.may.1.dim) (c.marks_of-marks.ensures numbers.vertex) in
     let is_kind : kind_below (seen_corners numbers.vertex c.args.corners.now) ≡ c.kind_of-kind.result =
-    sym (kind_below-marks old.held.dim (seen_corners numbers.vertex c.args.corners.now) c.marks_of-marks.result marked (length-seen numbers.vertex old.held.dim c.args.corners.now c.requires.own_full) (few-corners old.held.dim c.requires.walked.state.grid))
+    sym (kind_below-marks old.held.dim (seen_corners numbers.vertex c.args.corners.now) c.marks_of-marks.result marked (length-seen numbers.vertex old.held.dim c.args.corners.now c.requires.may.1.full) (few-corners old.held.dim c.requires.walked.state.grid))
     ∙ sym (c.kind_of-kind.ensures ∙ any-kind c.any-old.result c.any-old.ensures) in
-    let walked = below-walked (set_in rules numbers s old) ports levels place (it c.requires.fits.0) (λ hangs. c.in_default.not-Hanging (sym is_kind ∙ hangs)) in
-    let set = set_in rules numbers s old in
+    let walked = below-walked (set_in rules s old) ports levels place (it c.requires.may.0) (λ hangs. c.in_default.not-Hanging (sym is_kind ∙ hangs)) in
+    let set = set_in rules s old in
     let few : 0 < levels = omega (arith, c.if-levels-eq0.false) in
     let above : IsAbove old.held.dim s (record { place = place; state = c.args.cell.now.state; marks = c.marks_of-marks.result }) =
-    record { place = c.requires.walked.place; level = omega (arith, c.requires.levels, few); state = c.requires.walked.state } in (
-      search the_rules,
-      (
-        search the_rules,
-        (
-          within.0,
-          (
-            within.1.0,
-            (
-              within.1.1.0,
-              (
-                within.1.1.1.0,
-                (
-                  within.1.1.1.1.0,
-                  (
-                    within.1.1.1.1.1,
-                    (
-                      c.requires.axes,
-                      (
-                        c.requires.dim,
-                        (
-                          above,
-                          (
-                            c.requires.levels,
-                            (
-                              few,
-                              (
-                                marked,
-                                (
-                                  (λ cell level. kind_among-deep s.traversal cell (seen_corners numbers.vertex c.args.corners.now) (omega (arith, level, c.requires.walked.deep)) ∙ is_kind),
-                                  (
-                                    c.requires.own_full,
-                                    (
-                                      c.requires.few,
-                                      and_then-fits (walk_children set ports levels place (machine_of rules numbers s old)) _ (subst Fits walked c.requires.fits.1),
-                                    ),
-                                  ),
-                                ),
-                              ),
-                            ),
-                          ),
-                        ),
-                      ),
-                    ),
-                  ),
-                ),
-              ),
-            ),
-          ),
-        ),
-      ),
-    )
+    record { place = c.requires.walked.place; level = omega (arith, c.requires.may.1.levels, few); state = c.requires.walked.state } in
+    let kind : (cell : Place) → cell.level ≡ place.level + 1 → kind_among s.traversal cell (seen_corners numbers.vertex c.args.corners.now) ≡ c.kind_of-kind.result =
+    λ cell level. kind_among-deep s.traversal cell (seen_corners numbers.vertex c.args.corners.now) (omega (arith, level, c.requires.walked.deep)) ∙ is_kind in
+    let may : MayWalk rules numbers s place.level levels (λ set. walk_children set ports levels place) old =
+    record {
+      dim = c.requires.may.1.dim;
+      levels = c.requires.may.1.levels;
+      full = c.requires.may.1.full;
+      few = c.requires.may.1.few;
+      fits = and_then-fits (walk_children set ports levels place (machine_of numbers old)) _ (subst Fits walked c.requires.may.1.fits);
+    } in
+    (search the_rules, (search the_rules, (within.0, (within.1.0, (within.1.1.0, (within.1.1.1.0, (within.1.1.1.1.0, (within.1.1.1.1.1, (c.requires.axes, (may, (above, (few, (marked, kind)))))))))))))
 
 pub walk_below-returns-in-Hanging-clause-follows : goal.walk_below-returns-in-Hanging-clause-follows
 walk_below-returns-in-Hanging-clause-follows g t c =
@@ -312,14 +239,14 @@ walk_below-returns-in-Hanging-clause-follows g t c =
     let ports = ports_of s in
     let place = c.args.cell.now.place in
     let levels = c.args.levels in
-    let old = hands (g.M.Mapping.held c.args.m.now) (g.DV.Depot.holds c.args.dv.now) (g.DV.Depot.room c.args.dv.now) (g.DC.Depot.holds c.args.dc.now) (g.DC.Depot.room c.args.dc.now) c.args.corners.now c.args.own.now c.args.progress.now in
-    let it = λ (outer : Family). (let own : Own × Machine = (own_in_hand numbers c.args.own.now c.args.corners.now, with_family outer (machine_of rules numbers s old)) in own) in
+    let old = hands_of (g.M.Mapping.held c.args.m.now) (g.DV.Depot.holds c.args.dv.now) (g.DV.Depot.room c.args.dv.now) (g.DC.Depot.holds c.args.dc.now) (g.DC.Depot.room c.args.dc.now) c.args.corners.now c.args.own.now c.args.progress.now in
+    let it = λ (outer : Family). (let own : Own × Machine = (own_in_hand numbers c.args.own.now c.args.corners.now, with_family outer (machine_of numbers old)) in own) in
     let marked : AreMarksOf old.held.dim (seen_corners numbers.vertex c.args.corners.now) c.marks_of-marks.result =
-    subst (λ d. AreMarksOf d (seen_corners numbers.vertex c.args.corners.now) c.marks_of-marks.result) (sym c.requires.dim) (c.marks_of-marks.ensures numbers.vertex) in
+    subst (λ d. AreMarksOf d (seen_corners numbers.vertex c.args.corners.now) c.marks_of-marks.result) (sym c.requires.may.1.dim) (c.marks_of-marks.ensures numbers.vertex) in
     let is_kind : kind_below (seen_corners numbers.vertex c.args.corners.now) ≡ c.kind_of-kind.result =
-    sym (kind_below-marks old.held.dim (seen_corners numbers.vertex c.args.corners.now) c.marks_of-marks.result marked (length-seen numbers.vertex old.held.dim c.args.corners.now c.requires.own_full) (few-corners old.held.dim c.requires.walked.state.grid))
+    sym (kind_below-marks old.held.dim (seen_corners numbers.vertex c.args.corners.now) c.marks_of-marks.result marked (length-seen numbers.vertex old.held.dim c.args.corners.now c.requires.may.1.full) (few-corners old.held.dim c.requires.walked.state.grid))
     ∙ sym (c.kind_of-kind.ensures ∙ any-kind c.any-old.result c.any-old.ensures) in
-    let set = set_in rules numbers s old in
+    let set = set_in rules s old in
     let hangs = is_kind ∙ c.in-Hanging.is in
     let course = below-hanging set ports levels place (it outer) hangs in
     record {
@@ -336,20 +263,20 @@ walk_below-returns-in_default-clause-follows g t c =
     let ports = ports_of s in
     let place = c.args.cell.now.place in
     let levels = c.args.levels in
-    let old = hands (g.M.Mapping.held c.args.m.now) (g.DV.Depot.holds c.args.dv.now) (g.DV.Depot.room c.args.dv.now) (g.DC.Depot.holds c.args.dc.now) (g.DC.Depot.room c.args.dc.now) c.args.corners.now c.args.own.now c.args.progress.now in
-    let new = hands (g.M.Mapping.held c.walk_children.new.m) (g.DV.Depot.holds c.walk_children.new.dv) (g.DV.Depot.room c.walk_children.new.dv) (g.DC.Depot.holds c.walk_children.new.dc) (g.DC.Depot.room c.walk_children.new.dc) c.walk_children.new.parents c.walk_children.new.parent c.walk_children.new.progress in
-    let it = λ (outer : Family). (let own : Own × Machine = (own_in_hand numbers c.args.own.now c.args.corners.now, with_family outer (machine_of rules numbers s old)) in own) in
+    let old = hands_of (g.M.Mapping.held c.args.m.now) (g.DV.Depot.holds c.args.dv.now) (g.DV.Depot.room c.args.dv.now) (g.DC.Depot.holds c.args.dc.now) (g.DC.Depot.room c.args.dc.now) c.args.corners.now c.args.own.now c.args.progress.now in
+    let new = hands_of (g.M.Mapping.held c.walk_children.new.m) (g.DV.Depot.holds c.walk_children.new.dv) (g.DV.Depot.room c.walk_children.new.dv) (g.DC.Depot.holds c.walk_children.new.dc) (g.DC.Depot.room c.walk_children.new.dc) c.walk_children.new.parents c.walk_children.new.parent c.walk_children.new.progress in
+    let it = λ (outer : Family). (let own : Own × Machine = (own_in_hand numbers c.args.own.now c.args.corners.now, with_family outer (machine_of numbers old)) in own) in
     let marked : AreMarksOf old.held.dim (seen_corners numbers.vertex c.args.corners.now) c.marks_of-marks.result =
-    subst (λ d. AreMarksOf d (seen_corners numbers.vertex c.args.corners.now) c.marks_of-marks.result) (sym c.requires.dim) (c.marks_of-marks.ensures numbers.vertex) in
+    subst (λ d. AreMarksOf d (seen_corners numbers.vertex c.args.corners.now) c.marks_of-marks.result) (sym c.requires.may.1.dim) (c.marks_of-marks.ensures numbers.vertex) in
     let is_kind : kind_below (seen_corners numbers.vertex c.args.corners.now) ≡ c.kind_of-kind.result =
-    sym (kind_below-marks old.held.dim (seen_corners numbers.vertex c.args.corners.now) c.marks_of-marks.result marked (length-seen numbers.vertex old.held.dim c.args.corners.now c.requires.own_full) (few-corners old.held.dim c.requires.walked.state.grid))
+    sym (kind_below-marks old.held.dim (seen_corners numbers.vertex c.args.corners.now) c.marks_of-marks.result marked (length-seen numbers.vertex old.held.dim c.args.corners.now c.requires.may.1.full) (few-corners old.held.dim c.requires.walked.state.grid))
     ∙ sym (c.kind_of-kind.ensures ∙ any-kind c.any-old.result c.any-old.ensures) in
-    let set = set_in rules numbers s old in
+    let set = set_in rules s old in
     let walked = below-walked set ports levels place (it outer) (λ hangs. c.in_default.not-Hanging (sym is_kind ∙ hangs)) in
     let out = outside set ports (it outer).1 in
     let answer = read_by (failure_in c.walk_children.new.progress) c.walk_children.result in
-    subst (λ course. Follows course (λ (u : Unit {0}). out (machine_of rules numbers s new)) answer (found_in rules numbers s old) new.held.told) (sym walked)
-    (follows-map out (walk_children set ports levels place (machine_of rules numbers s old)) (λ (u : Unit {0}). machine_of rules numbers s new) answer (found_in rules numbers s old) new.held.told
+    subst (λ course. Follows course (λ (u : Unit {0}). out (machine_of numbers new)) answer (found_in old) new.held.told) (sym walked)
+    (follows-map out (walk_children set ports levels place (machine_of numbers old)) (λ (u : Unit {0}). machine_of numbers new) answer (found_in old) new.held.told
     c.walk_children.ensures.follows)
 
 pub walk_cell-load_corners-requires-clause-fits : goal.walk_cell-load_corners-requires-clause-fits
@@ -361,18 +288,18 @@ walk_cell-load_corners-requires-clause-fits g t c =
     let ports = ports_of s in
     let place = c.args.cell.now.place in
     let levels = c.args.levels in
-    let old = hands (g.M.Mapping.held c.args.m.now) (g.DV.Depot.holds c.args.dv.now) (g.DV.Depot.room c.args.dv.now) (g.DC.Depot.holds c.args.dc.now) (g.DC.Depot.room c.args.dc.now) c.args.parents.now c.args.parent.now c.args.progress.now in
-    let counted = hands (g.M.Mapping.held c.args.m.now) (g.DV.Depot.holds c.args.dv.now) (g.DV.Depot.room c.args.dv.now) (g.DC.Depot.holds c.args.dc.now) (g.DC.Depot.room c.args.dc.now) c.args.parents.now c.args.parent.now c.count_cell.new.progress in
-    let counts = counting ports levels place (machine_of rules numbers s old) in
+    let old = hands_of (g.M.Mapping.held c.args.m.now) (g.DV.Depot.holds c.args.dv.now) (g.DV.Depot.room c.args.dv.now) (g.DC.Depot.holds c.args.dc.now) (g.DC.Depot.room c.args.dc.now) c.args.parents.now c.args.parent.now c.args.progress.now in
+    let counted = hands_of (g.M.Mapping.held c.args.m.now) (g.DV.Depot.holds c.args.dv.now) (g.DV.Depot.room c.args.dv.now) (g.DC.Depot.holds c.args.dc.now) (g.DC.Depot.room c.args.dc.now) c.args.parents.now c.args.parent.now c.count_cell.new.progress in
+    let counts = counting ports levels place (machine_of numbers old) in
     let cells = cells_on_stacks numbers old.cells in
-    let to_count = λ (u : Unit {0}). machine_of rules numbers s counted in
-    let in_count = counts-to ports levels place (set_in rules numbers s old) (machine_of rules numbers s old) c.count_cell.new.progress.tally (found_in rules numbers s old)
-    (and_then-fits (counts (set_in rules numbers s old)) (after_count ports levels place (set_in rules numbers s old)) c.requires.fits) c.count_cell.ensures.tally c.in-Ok.ensures.within in
-    let goes_count : Goes rules numbers s old counted = record { keeps = keeps-same old.held; vertices = λ n. omega arith; cells = λ n. omega arith } in
-    let fits = runs-may rules numbers s counts (after_count ports levels place) to_count tt old counted c.requires.fits in_count goes_count in
-    let loads = loading ports levels place (machine_of rules numbers s counted) in
-    load_all-any_cells (set_in rules numbers s counted) ports place cells' (2 ^ counted.held.dim) [] (machine_of rules numbers s counted)
-    (and_then-fits (loads (set_in rules numbers s counted)) (after_load ports levels place (set_in rules numbers s counted)) fits)
+    let to_count = λ (u : Unit {0}). machine_of numbers counted in
+    let in_count = counts-to ports levels place (set_in rules s old) (machine_of numbers old) c.count_cell.new.progress.tally (found_in old)
+    (and_then-fits (counts (set_in rules s old)) (after_count ports levels place (set_in rules s old)) c.requires.may.fits) c.count_cell.ensures.tally c.in-Ok.ensures.within in
+    let goes_count : Goes rules s old counted = record { keeps = keeps-same old.held; vertices = λ n. omega arith; cells = λ n. omega arith } in
+    let fits = runs-may rules s counts (after_count ports levels place) to_count tt old counted c.requires.may.fits in_count goes_count in
+    let loads = loading ports levels place (machine_of numbers counted) in
+    load_all-any_cells (set_in rules s counted) ports place cells' (2 ^ counted.held.dim) [] (machine_of numbers counted)
+    (and_then-fits (loads (set_in rules s counted)) (after_load ports levels place (set_in rules s counted)) fits)
 
 pub walk_cell-returns-in-Err-load_corners-clause-follows : goal.walk_cell-returns-in-Err-load_corners-clause-follows
 walk_cell-returns-in-Err-load_corners-clause-follows g t c =
@@ -382,22 +309,22 @@ walk_cell-returns-in-Err-load_corners-clause-follows g t c =
     let ports = ports_of s in
     let place = c.args.cell.now.place in
     let levels = c.args.levels in
-    let old = hands (g.M.Mapping.held c.args.m.now) (g.DV.Depot.holds c.args.dv.now) (g.DV.Depot.room c.args.dv.now) (g.DC.Depot.holds c.args.dc.now) (g.DC.Depot.room c.args.dc.now) c.args.parents.now c.args.parent.now c.args.progress.now in
-    let counted = hands (g.M.Mapping.held c.args.m.now) (g.DV.Depot.holds c.args.dv.now) (g.DV.Depot.room c.args.dv.now) (g.DC.Depot.holds c.args.dc.now) (g.DC.Depot.room c.args.dc.now) c.args.parents.now c.args.parent.now c.count_cell.new.progress in
-    let loaded = hands (g.M.Mapping.held c.load_corners.new.m) (g.DV.Depot.holds c.load_corners.new.dv) (g.DV.Depot.room c.load_corners.new.dv) (g.DC.Depot.holds c.args.dc.now) (g.DC.Depot.room c.args.dc.now) c.load_corners.new.parents c.load_corners.new.parent c.load_corners.new.progress in
-    let counts = counting ports levels place (machine_of rules numbers s old) in
+    let old = hands_of (g.M.Mapping.held c.args.m.now) (g.DV.Depot.holds c.args.dv.now) (g.DV.Depot.room c.args.dv.now) (g.DC.Depot.holds c.args.dc.now) (g.DC.Depot.room c.args.dc.now) c.args.parents.now c.args.parent.now c.args.progress.now in
+    let counted = hands_of (g.M.Mapping.held c.args.m.now) (g.DV.Depot.holds c.args.dv.now) (g.DV.Depot.room c.args.dv.now) (g.DC.Depot.holds c.args.dc.now) (g.DC.Depot.room c.args.dc.now) c.args.parents.now c.args.parent.now c.count_cell.new.progress in
+    let loaded = hands_of (g.M.Mapping.held c.load_corners.new.m) (g.DV.Depot.holds c.load_corners.new.dv) (g.DV.Depot.room c.load_corners.new.dv) (g.DC.Depot.holds c.args.dc.now) (g.DC.Depot.room c.args.dc.now) c.load_corners.new.parents c.load_corners.new.parent c.load_corners.new.progress in
+    let counts = counting ports levels place (machine_of numbers old) in
     let cells = cells_on_stacks numbers old.cells in
-    let to_count = λ (u : Unit {0}). machine_of rules numbers s counted in
-    let in_count = counts-to ports levels place (set_in rules numbers s old) (machine_of rules numbers s old) c.count_cell.new.progress.tally (found_in rules numbers s old)
-    (and_then-fits (counts (set_in rules numbers s old)) (after_count ports levels place (set_in rules numbers s old)) c.requires.fits) c.count_cell.ensures.tally c.in-Ok.ensures.within in
-    let goes_count : Goes rules numbers s old counted = record { keeps = keeps-same old.held; vertices = λ n. omega arith; cells = λ n. omega arith } in
-    let fits = runs-may rules numbers s counts (after_count ports levels place) to_count tt old counted c.requires.fits in_count goes_count in
-    let loads = loading ports levels place (machine_of rules numbers s counted) in
-    let to_load = λ (u : Unit {0}). (let it : List VertexRecord × Machine = (seen_corners numbers.vertex c.load_corners.new.corners, machine_of rules numbers s loaded) in it) in
-    let after = λ (u : Unit {0}). machine_of rules numbers s loaded in
+    let to_count = λ (u : Unit {0}). machine_of numbers counted in
+    let in_count = counts-to ports levels place (set_in rules s old) (machine_of numbers old) c.count_cell.new.progress.tally (found_in old)
+    (and_then-fits (counts (set_in rules s old)) (after_count ports levels place (set_in rules s old)) c.requires.may.fits) c.count_cell.ensures.tally c.in-Ok.ensures.within in
+    let goes_count : Goes rules s old counted = record { keeps = keeps-same old.held; vertices = λ n. omega arith; cells = λ n. omega arith } in
+    let fits = runs-may rules s counts (after_count ports levels place) to_count tt old counted c.requires.may.fits in_count goes_count in
+    let loads = loading ports levels place (machine_of numbers counted) in
+    let to_load = λ (u : Unit {0}). (let it : List VertexRecord × Machine = (seen_corners numbers.vertex c.load_corners.new.corners, machine_of numbers loaded) in it) in
+    let after = λ (u : Unit {0}). machine_of numbers loaded in
     let failure = failure_in c.load_corners.new.progress c.in-Err-load_corners.halt in
-    runs-then rules numbers s counts (after_count ports levels place) to_count tt after (Err failure) old counted loaded in_count goes_count
-    (runs-err rules numbers s loads (after_load ports levels place) to_load after failure counted loaded (c.in-Err-load_corners.ensures.follows cells (held_by old.cells old.cell_room)))
+    runs-then rules s counts (after_count ports levels place) to_count tt after (Err failure) old counted loaded in_count goes_count
+    (runs-err rules s loads (after_load ports levels place) to_load after failure counted loaded (c.in-Err-load_corners.ensures.follows cells (held_by old.cells old.cell_room)))
 
 pub walk_cell-visit_cell-requires : goal.walk_cell-visit_cell-requires
 walk_cell-visit_cell-requires g t c κs within =
@@ -407,79 +334,39 @@ walk_cell-visit_cell-requires g t c κs within =
     let ports = ports_of s in
     let place = c.args.cell.now.place in
     let levels = c.args.levels in
-    let old = hands (g.M.Mapping.held c.args.m.now) (g.DV.Depot.holds c.args.dv.now) (g.DV.Depot.room c.args.dv.now) (g.DC.Depot.holds c.args.dc.now) (g.DC.Depot.room c.args.dc.now) c.args.parents.now c.args.parent.now c.args.progress.now in
-    let counted = hands (g.M.Mapping.held c.args.m.now) (g.DV.Depot.holds c.args.dv.now) (g.DV.Depot.room c.args.dv.now) (g.DC.Depot.holds c.args.dc.now) (g.DC.Depot.room c.args.dc.now) c.args.parents.now c.args.parent.now c.count_cell.new.progress in
-    let loaded = hands (g.M.Mapping.held c.load_corners.new.m) (g.DV.Depot.holds c.load_corners.new.dv) (g.DV.Depot.room c.load_corners.new.dv) (g.DC.Depot.holds c.args.dc.now) (g.DC.Depot.room c.args.dc.now) c.load_corners.new.parents c.load_corners.new.parent c.load_corners.new.progress in
-    let counts = counting ports levels place (machine_of rules numbers s old) in
+    let old = hands_of (g.M.Mapping.held c.args.m.now) (g.DV.Depot.holds c.args.dv.now) (g.DV.Depot.room c.args.dv.now) (g.DC.Depot.holds c.args.dc.now) (g.DC.Depot.room c.args.dc.now) c.args.parents.now c.args.parent.now c.args.progress.now in
+    let counted = hands_of (g.M.Mapping.held c.args.m.now) (g.DV.Depot.holds c.args.dv.now) (g.DV.Depot.room c.args.dv.now) (g.DC.Depot.holds c.args.dc.now) (g.DC.Depot.room c.args.dc.now) c.args.parents.now c.args.parent.now c.count_cell.new.progress in
+    let loaded = hands_of (g.M.Mapping.held c.load_corners.new.m) (g.DV.Depot.holds c.load_corners.new.dv) (g.DV.Depot.room c.load_corners.new.dv) (g.DC.Depot.holds c.args.dc.now) (g.DC.Depot.room c.args.dc.now) c.load_corners.new.parents c.load_corners.new.parent c.load_corners.new.progress in
+    let counts = counting ports levels place (machine_of numbers old) in
     let cells = cells_on_stacks numbers old.cells in
-    let to_count = λ (u : Unit {0}). machine_of rules numbers s counted in
-    let in_count = counts-to ports levels place (set_in rules numbers s old) (machine_of rules numbers s old) c.count_cell.new.progress.tally (found_in rules numbers s old)
-    (and_then-fits (counts (set_in rules numbers s old)) (after_count ports levels place (set_in rules numbers s old)) c.requires.fits) c.count_cell.ensures.tally c.in-Ok.ensures.within in
-    let goes_count : Goes rules numbers s old counted = record { keeps = keeps-same old.held; vertices = λ n. omega arith; cells = λ n. omega arith } in
-    let fits = runs-may rules numbers s counts (after_count ports levels place) to_count tt old counted c.requires.fits in_count goes_count in
-    let loads = loading ports levels place (machine_of rules numbers s counted) in
+    let to_count = λ (u : Unit {0}). machine_of numbers counted in
+    let in_count = counts-to ports levels place (set_in rules s old) (machine_of numbers old) c.count_cell.new.progress.tally (found_in old)
+    (and_then-fits (counts (set_in rules s old)) (after_count ports levels place (set_in rules s old)) c.requires.may.fits) c.count_cell.ensures.tally c.in-Ok.ensures.within in
+    let goes_count : Goes rules s old counted = record { keeps = keeps-same old.held; vertices = λ n. omega arith; cells = λ n. omega arith } in
+    let fits = runs-may rules s counts (after_count ports levels place) to_count tt old counted c.requires.may.fits in_count goes_count in
+    let loads = loading ports levels place (machine_of numbers counted) in
     let its = seen_corners numbers.vertex c.load_corners.new.corners in
-    let to_load = λ (u : Unit {0}). (let it : List VertexRecord × Machine = (its, machine_of rules numbers s loaded) in it) in
+    let to_load = λ (u : Unit {0}). (let it : List VertexRecord × Machine = (its, machine_of numbers loaded) in it) in
     let in_load = c.in-Ok-load_corners.ensures.follows cells (held_by old.cells old.cell_room) in
-    let goes_load : Goes rules numbers s counted loaded = record { keeps = c.in-Ok-load_corners.ensures.stays.keeps; vertices = c.in-Ok-load_corners.ensures.left.keeps; cells = λ n. omega arith } in
-    let fits_load = runs-may rules numbers s loads (after_load ports levels place) to_load tt counted loaded fits in_load goes_load in
+    let goes_load : Goes rules s counted loaded = record { keeps = c.in-Ok-load_corners.ensures.stays.keeps; vertices = c.in-Ok-load_corners.ensures.left.keeps; cells = λ n. omega arith } in
+    let fits_load = runs-may rules s loads (after_load ports levels place) to_load tt counted loaded fits in_load goes_load in
     let it = to_load tt in
-    let fits_visit = subst Fits (sym (visit-grouped ports levels place (set_in rules numbers s loaded) it)) fits_load in
+    let fits_visit = subst Fits (sym (visit-grouped ports levels place (set_in rules s loaded) it)) fits_load in
     let visits = visiting ports levels place it in
     let dim = c.in-Ok-load_corners.ensures.stays.keeps.dim in
     let walked : IsWalked loaded.held.dim s c.args.cell.now = subst (λ d. IsWalked d s c.args.cell.now) (sym dim) c.requires.walked in
     let kind = kind_among-kept (seen_corners numbers.vertex c.args.parents.now) (seen_corners numbers.vertex c.load_corners.new.parents) c.in-Ok-load_corners.ensures.stays.parents.marks s.traversal place ∙ c.requires.kind in
-    let full : IsFull loaded.held.dim c.load_corners.new.parents = stays-full c.in-Ok-load_corners.ensures.stays in
     let own : IsFull loaded.held.dim c.load_corners.new.corners = subst (λ d. IsFull d c.load_corners.new.corners) (sym dim) c.in-Ok-load_corners.ensures.loaded in
-    let few : c.load_corners.new.progress.tally.cells ≤ s.setup.max_cells = omega (arith, c.in-Ok-load_corners.ensures.counted, c.in-Ok.ensures.within) in (
-      search the_rules,
-      (
-        search the_rules,
-        (
-          within.0,
-          (
-            within.1.0,
-            (
-              within.1.1.0,
-              (
-                within.1.1.1.0,
-                (
-                  within.1.1.1.1.0,
-                  (
-                    within.1.1.1.1.1,
-                    (
-                      c.requires.axes,
-                      (
-                        dim ∙ c.requires.dim,
-                        (
-                          walked,
-                          (
-                            c.requires.levels,
-                            (
-                              kind,
-                              (
-                                full,
-                                (
-                                  own,
-                                  (
-                                    few,
-                                    and_then-fits (visits (set_in rules numbers s loaded)) (storing ports levels place (set_in rules numbers s loaded)) fits_visit,
-                                  ),
-                                ),
-                              ),
-                            ),
-                          ),
-                        ),
-                      ),
-                    ),
-                  ),
-                ),
-              ),
-            ),
-          ),
-        ),
-      ),
-    )
+    let few : c.load_corners.new.progress.tally.cells ≤ s.setup.max_cells = omega (arith, c.in-Ok-load_corners.ensures.counted, c.in-Ok.ensures.within) in
+    let may : MayWalk rules numbers s place.level levels (λ set. visit_cell set ports levels place its) loaded =
+    record {
+      dim = dim ∙ c.requires.may.dim;
+      levels = c.requires.may.levels;
+      full = stays-full c.in-Ok-load_corners.ensures.stays;
+      few = few;
+      fits = and_then-fits (visits (set_in rules s loaded)) (storing ports levels place (set_in rules s loaded)) fits_visit;
+    } in
+    (search the_rules, (search the_rules, (within.0, (within.1.0, (within.1.1.0, (within.1.1.1.0, (within.1.1.1.1.0, (within.1.1.1.1.1, (c.requires.axes, (may, (walked, (kind, own))))))))))))
 
 pub walk_cell-store_corners-requires-clause-fits : goal.walk_cell-store_corners-requires-clause-fits
 walk_cell-store_corners-requires-clause-fits g t c =
@@ -490,31 +377,31 @@ walk_cell-store_corners-requires-clause-fits g t c =
     let ports = ports_of s in
     let place = c.args.cell.now.place in
     let levels = c.args.levels in
-    let old = hands (g.M.Mapping.held c.args.m.now) (g.DV.Depot.holds c.args.dv.now) (g.DV.Depot.room c.args.dv.now) (g.DC.Depot.holds c.args.dc.now) (g.DC.Depot.room c.args.dc.now) c.args.parents.now c.args.parent.now c.args.progress.now in
-    let counted = hands (g.M.Mapping.held c.args.m.now) (g.DV.Depot.holds c.args.dv.now) (g.DV.Depot.room c.args.dv.now) (g.DC.Depot.holds c.args.dc.now) (g.DC.Depot.room c.args.dc.now) c.args.parents.now c.args.parent.now c.count_cell.new.progress in
-    let loaded = hands (g.M.Mapping.held c.load_corners.new.m) (g.DV.Depot.holds c.load_corners.new.dv) (g.DV.Depot.room c.load_corners.new.dv) (g.DC.Depot.holds c.args.dc.now) (g.DC.Depot.room c.args.dc.now) c.load_corners.new.parents c.load_corners.new.parent c.load_corners.new.progress in
-    let visited = hands (g.M.Mapping.held c.visit_cell.new.m) (g.DV.Depot.holds c.visit_cell.new.dv) (g.DV.Depot.room c.visit_cell.new.dv) (g.DC.Depot.holds c.visit_cell.new.dc) (g.DC.Depot.room c.visit_cell.new.dc) c.visit_cell.new.parents c.visit_cell.new.parent c.visit_cell.new.progress in
-    let counts = counting ports levels place (machine_of rules numbers s old) in
+    let old = hands_of (g.M.Mapping.held c.args.m.now) (g.DV.Depot.holds c.args.dv.now) (g.DV.Depot.room c.args.dv.now) (g.DC.Depot.holds c.args.dc.now) (g.DC.Depot.room c.args.dc.now) c.args.parents.now c.args.parent.now c.args.progress.now in
+    let counted = hands_of (g.M.Mapping.held c.args.m.now) (g.DV.Depot.holds c.args.dv.now) (g.DV.Depot.room c.args.dv.now) (g.DC.Depot.holds c.args.dc.now) (g.DC.Depot.room c.args.dc.now) c.args.parents.now c.args.parent.now c.count_cell.new.progress in
+    let loaded = hands_of (g.M.Mapping.held c.load_corners.new.m) (g.DV.Depot.holds c.load_corners.new.dv) (g.DV.Depot.room c.load_corners.new.dv) (g.DC.Depot.holds c.args.dc.now) (g.DC.Depot.room c.args.dc.now) c.load_corners.new.parents c.load_corners.new.parent c.load_corners.new.progress in
+    let visited = hands_of (g.M.Mapping.held c.visit_cell.new.m) (g.DV.Depot.holds c.visit_cell.new.dv) (g.DV.Depot.room c.visit_cell.new.dv) (g.DC.Depot.holds c.visit_cell.new.dc) (g.DC.Depot.room c.visit_cell.new.dc) c.visit_cell.new.parents c.visit_cell.new.parent c.visit_cell.new.progress in
+    let counts = counting ports levels place (machine_of numbers old) in
     let cells = cells_on_stacks numbers old.cells in
-    let to_count = λ (u : Unit {0}). machine_of rules numbers s counted in
-    let in_count = counts-to ports levels place (set_in rules numbers s old) (machine_of rules numbers s old) c.count_cell.new.progress.tally (found_in rules numbers s old)
-    (and_then-fits (counts (set_in rules numbers s old)) (after_count ports levels place (set_in rules numbers s old)) c.requires.fits) c.count_cell.ensures.tally c.in-Ok.ensures.within in
-    let goes_count : Goes rules numbers s old counted = record { keeps = keeps-same old.held; vertices = λ n. omega arith; cells = λ n. omega arith } in
-    let fits = runs-may rules numbers s counts (after_count ports levels place) to_count tt old counted c.requires.fits in_count goes_count in
-    let loads = loading ports levels place (machine_of rules numbers s counted) in
+    let to_count = λ (u : Unit {0}). machine_of numbers counted in
+    let in_count = counts-to ports levels place (set_in rules s old) (machine_of numbers old) c.count_cell.new.progress.tally (found_in old)
+    (and_then-fits (counts (set_in rules s old)) (after_count ports levels place (set_in rules s old)) c.requires.may.fits) c.count_cell.ensures.tally c.in-Ok.ensures.within in
+    let goes_count : Goes rules s old counted = record { keeps = keeps-same old.held; vertices = λ n. omega arith; cells = λ n. omega arith } in
+    let fits = runs-may rules s counts (after_count ports levels place) to_count tt old counted c.requires.may.fits in_count goes_count in
+    let loads = loading ports levels place (machine_of numbers counted) in
     let its = seen_corners numbers.vertex c.load_corners.new.corners in
-    let to_load = λ (u : Unit {0}). (let it : List VertexRecord × Machine = (its, machine_of rules numbers s loaded) in it) in
+    let to_load = λ (u : Unit {0}). (let it : List VertexRecord × Machine = (its, machine_of numbers loaded) in it) in
     let in_load = c.in-Ok-load_corners.ensures.follows cells (held_by old.cells old.cell_room) in
-    let goes_load : Goes rules numbers s counted loaded = record { keeps = c.in-Ok-load_corners.ensures.stays.keeps; vertices = c.in-Ok-load_corners.ensures.left.keeps; cells = λ n. omega arith } in
-    let fits_load = runs-may rules numbers s loads (after_load ports levels place) to_load tt counted loaded fits in_load goes_load in
+    let goes_load : Goes rules s counted loaded = record { keeps = c.in-Ok-load_corners.ensures.stays.keeps; vertices = c.in-Ok-load_corners.ensures.left.keeps; cells = λ n. omega arith } in
+    let fits_load = runs-may rules s loads (after_load ports levels place) to_load tt counted loaded fits in_load goes_load in
     let it = to_load tt in
-    let fits_visit = subst Fits (sym (visit-grouped ports levels place (set_in rules numbers s loaded) it)) fits_load in
+    let fits_visit = subst Fits (sym (visit-grouped ports levels place (set_in rules s loaded) it)) fits_load in
     let visits = visiting ports levels place it in
-    let to_visit = λ (u : Unit {0}). (let it : List VertexRecord × Machine = (seen_corners numbers.vertex c.visit_cell.new.corners, machine_of rules numbers s visited) in it) in
+    let to_visit = λ (u : Unit {0}). (let it : List VertexRecord × Machine = (seen_corners numbers.vertex c.visit_cell.new.corners, machine_of numbers visited) in it) in
     let in_visit = c.in-Ok-visit_cell.ensures.follows in
-    let goes_visit : Goes rules numbers s loaded visited = record { keeps = c.in-Ok-visit_cell.ensures.stays.keeps; vertices = c.in-Ok-visit_cell.ensures.left.keeps; cells = c.in-Ok-visit_cell.ensures.cells_left.keeps } in
-    store_all-any_cells (set_in rules numbers s visited) ports place cells' 0 (seen_corners numbers.vertex c.visit_cell.new.corners) (machine_of rules numbers s visited)
-    (runs-may rules numbers s visits (storing ports levels place) to_visit tt loaded visited fits_visit in_visit goes_visit)
+    let goes_visit : Goes rules s loaded visited = record { keeps = c.in-Ok-visit_cell.ensures.left.stays.keeps; vertices = c.in-Ok-visit_cell.ensures.left.vertices.keeps; cells = c.in-Ok-visit_cell.ensures.left.cells.keeps } in
+    store_all-any_cells (set_in rules s visited) ports place cells' 0 (seen_corners numbers.vertex c.visit_cell.new.corners) (machine_of numbers visited)
+    (runs-may rules s visits (storing ports levels place) to_visit tt loaded visited fits_visit in_visit goes_visit)
 
 pub walk_cell-returns-in-Ok-visit_cell-clause-follows : goal.walk_cell-returns-in-Ok-visit_cell-clause-follows
 walk_cell-returns-in-Ok-visit_cell-clause-follows g t c =
@@ -524,36 +411,36 @@ walk_cell-returns-in-Ok-visit_cell-clause-follows g t c =
     let ports = ports_of s in
     let place = c.args.cell.now.place in
     let levels = c.args.levels in
-    let old = hands (g.M.Mapping.held c.args.m.now) (g.DV.Depot.holds c.args.dv.now) (g.DV.Depot.room c.args.dv.now) (g.DC.Depot.holds c.args.dc.now) (g.DC.Depot.room c.args.dc.now) c.args.parents.now c.args.parent.now c.args.progress.now in
-    let counted = hands (g.M.Mapping.held c.args.m.now) (g.DV.Depot.holds c.args.dv.now) (g.DV.Depot.room c.args.dv.now) (g.DC.Depot.holds c.args.dc.now) (g.DC.Depot.room c.args.dc.now) c.args.parents.now c.args.parent.now c.count_cell.new.progress in
-    let loaded = hands (g.M.Mapping.held c.load_corners.new.m) (g.DV.Depot.holds c.load_corners.new.dv) (g.DV.Depot.room c.load_corners.new.dv) (g.DC.Depot.holds c.args.dc.now) (g.DC.Depot.room c.args.dc.now) c.load_corners.new.parents c.load_corners.new.parent c.load_corners.new.progress in
-    let visited = hands (g.M.Mapping.held c.visit_cell.new.m) (g.DV.Depot.holds c.visit_cell.new.dv) (g.DV.Depot.room c.visit_cell.new.dv) (g.DC.Depot.holds c.visit_cell.new.dc) (g.DC.Depot.room c.visit_cell.new.dc) c.visit_cell.new.parents c.visit_cell.new.parent c.visit_cell.new.progress in
-    let new = hands (g.M.Mapping.held c.store_corners.new.m) (g.DV.Depot.holds c.store_corners.new.dv) (g.DV.Depot.room c.store_corners.new.dv) (g.DC.Depot.holds c.visit_cell.new.dc) (g.DC.Depot.room c.visit_cell.new.dc) c.store_corners.new.parents c.store_corners.new.parent c.store_corners.new.progress in
-    let counts = counting ports levels place (machine_of rules numbers s old) in
+    let old = hands_of (g.M.Mapping.held c.args.m.now) (g.DV.Depot.holds c.args.dv.now) (g.DV.Depot.room c.args.dv.now) (g.DC.Depot.holds c.args.dc.now) (g.DC.Depot.room c.args.dc.now) c.args.parents.now c.args.parent.now c.args.progress.now in
+    let counted = hands_of (g.M.Mapping.held c.args.m.now) (g.DV.Depot.holds c.args.dv.now) (g.DV.Depot.room c.args.dv.now) (g.DC.Depot.holds c.args.dc.now) (g.DC.Depot.room c.args.dc.now) c.args.parents.now c.args.parent.now c.count_cell.new.progress in
+    let loaded = hands_of (g.M.Mapping.held c.load_corners.new.m) (g.DV.Depot.holds c.load_corners.new.dv) (g.DV.Depot.room c.load_corners.new.dv) (g.DC.Depot.holds c.args.dc.now) (g.DC.Depot.room c.args.dc.now) c.load_corners.new.parents c.load_corners.new.parent c.load_corners.new.progress in
+    let visited = hands_of (g.M.Mapping.held c.visit_cell.new.m) (g.DV.Depot.holds c.visit_cell.new.dv) (g.DV.Depot.room c.visit_cell.new.dv) (g.DC.Depot.holds c.visit_cell.new.dc) (g.DC.Depot.room c.visit_cell.new.dc) c.visit_cell.new.parents c.visit_cell.new.parent c.visit_cell.new.progress in
+    let new = hands_of (g.M.Mapping.held c.store_corners.new.m) (g.DV.Depot.holds c.store_corners.new.dv) (g.DV.Depot.room c.store_corners.new.dv) (g.DC.Depot.holds c.visit_cell.new.dc) (g.DC.Depot.room c.visit_cell.new.dc) c.store_corners.new.parents c.store_corners.new.parent c.store_corners.new.progress in
+    let counts = counting ports levels place (machine_of numbers old) in
     let cells = cells_on_stacks numbers old.cells in
-    let to_count = λ (u : Unit {0}). machine_of rules numbers s counted in
-    let in_count = counts-to ports levels place (set_in rules numbers s old) (machine_of rules numbers s old) c.count_cell.new.progress.tally (found_in rules numbers s old)
-    (and_then-fits (counts (set_in rules numbers s old)) (after_count ports levels place (set_in rules numbers s old)) c.requires.fits) c.count_cell.ensures.tally c.in-Ok.ensures.within in
-    let goes_count : Goes rules numbers s old counted = record { keeps = keeps-same old.held; vertices = λ n. omega arith; cells = λ n. omega arith } in
-    let fits = runs-may rules numbers s counts (after_count ports levels place) to_count tt old counted c.requires.fits in_count goes_count in
-    let loads = loading ports levels place (machine_of rules numbers s counted) in
+    let to_count = λ (u : Unit {0}). machine_of numbers counted in
+    let in_count = counts-to ports levels place (set_in rules s old) (machine_of numbers old) c.count_cell.new.progress.tally (found_in old)
+    (and_then-fits (counts (set_in rules s old)) (after_count ports levels place (set_in rules s old)) c.requires.may.fits) c.count_cell.ensures.tally c.in-Ok.ensures.within in
+    let goes_count : Goes rules s old counted = record { keeps = keeps-same old.held; vertices = λ n. omega arith; cells = λ n. omega arith } in
+    let fits = runs-may rules s counts (after_count ports levels place) to_count tt old counted c.requires.may.fits in_count goes_count in
+    let loads = loading ports levels place (machine_of numbers counted) in
     let its = seen_corners numbers.vertex c.load_corners.new.corners in
-    let to_load = λ (u : Unit {0}). (let it : List VertexRecord × Machine = (its, machine_of rules numbers s loaded) in it) in
+    let to_load = λ (u : Unit {0}). (let it : List VertexRecord × Machine = (its, machine_of numbers loaded) in it) in
     let in_load = c.in-Ok-load_corners.ensures.follows cells (held_by old.cells old.cell_room) in
-    let goes_load : Goes rules numbers s counted loaded = record { keeps = c.in-Ok-load_corners.ensures.stays.keeps; vertices = c.in-Ok-load_corners.ensures.left.keeps; cells = λ n. omega arith } in
-    let fits_load = runs-may rules numbers s loads (after_load ports levels place) to_load tt counted loaded fits in_load goes_load in
+    let goes_load : Goes rules s counted loaded = record { keeps = c.in-Ok-load_corners.ensures.stays.keeps; vertices = c.in-Ok-load_corners.ensures.left.keeps; cells = λ n. omega arith } in
+    let fits_load = runs-may rules s loads (after_load ports levels place) to_load tt counted loaded fits in_load goes_load in
     let it = to_load tt in
-    let fits_visit = subst Fits (sym (visit-grouped ports levels place (set_in rules numbers s loaded) it)) fits_load in
+    let fits_visit = subst Fits (sym (visit-grouped ports levels place (set_in rules s loaded) it)) fits_load in
     let visits = visiting ports levels place it in
-    let to_visit = λ (u : Unit {0}). (let it : List VertexRecord × Machine = (seen_corners numbers.vertex c.visit_cell.new.corners, machine_of rules numbers s visited) in it) in
+    let to_visit = λ (u : Unit {0}). (let it : List VertexRecord × Machine = (seen_corners numbers.vertex c.visit_cell.new.corners, machine_of numbers visited) in it) in
     let in_visit = c.in-Ok-visit_cell.ensures.follows in
-    let goes_visit : Goes rules numbers s loaded visited = record { keeps = c.in-Ok-visit_cell.ensures.stays.keeps; vertices = c.in-Ok-visit_cell.ensures.left.keeps; cells = c.in-Ok-visit_cell.ensures.cells_left.keeps } in
-    let after = λ (u : Unit {0}). machine_of rules numbers s new in
+    let goes_visit : Goes rules s loaded visited = record { keeps = c.in-Ok-visit_cell.ensures.left.stays.keeps; vertices = c.in-Ok-visit_cell.ensures.left.vertices.keeps; cells = c.in-Ok-visit_cell.ensures.left.cells.keeps } in
+    let after = λ (u : Unit {0}). machine_of numbers new in
     let answer = read_by (failure_in c.store_corners.new.progress) c.store_corners.result in
-    runs-then rules numbers s counts (after_count ports levels place) to_count tt after answer old counted new in_count goes_count
-    (runs-then rules numbers s loads (after_load ports levels place) to_load tt after answer counted loaded new in_load goes_load
-    (runs-as rules numbers s (λ set. and_then (visits set) (storing ports levels place set)) (λ set. after_load ports levels place set it) after answer loaded new (visit-grouped ports levels place (set_in rules numbers s loaded) it)
-    (runs-then rules numbers s visits (storing ports levels place) to_visit tt after answer loaded visited new in_visit goes_visit
+    runs-then rules s counts (after_count ports levels place) to_count tt after answer old counted new in_count goes_count
+    (runs-then rules s loads (after_load ports levels place) to_load tt after answer counted loaded new in_load goes_load
+    (runs-as rules s (λ set. and_then (visits set) (storing ports levels place set)) (λ set. after_load ports levels place set it) after answer loaded new (visit-grouped ports levels place (set_in rules s loaded) it)
+    (runs-then rules s visits (storing ports levels place) to_visit tt after answer loaded visited new in_visit goes_visit
     (c.store_corners.ensures.follows (cells_on_stacks numbers visited.cells) (held_by visited.cells visited.cell_room)))))
 
 pub walk_cell-returns-in-Err-visit_cell-clause-follows : goal.walk_cell-returns-in-Err-visit_cell-clause-follows
@@ -564,33 +451,33 @@ walk_cell-returns-in-Err-visit_cell-clause-follows g t c =
     let ports = ports_of s in
     let place = c.args.cell.now.place in
     let levels = c.args.levels in
-    let old = hands (g.M.Mapping.held c.args.m.now) (g.DV.Depot.holds c.args.dv.now) (g.DV.Depot.room c.args.dv.now) (g.DC.Depot.holds c.args.dc.now) (g.DC.Depot.room c.args.dc.now) c.args.parents.now c.args.parent.now c.args.progress.now in
-    let counted = hands (g.M.Mapping.held c.args.m.now) (g.DV.Depot.holds c.args.dv.now) (g.DV.Depot.room c.args.dv.now) (g.DC.Depot.holds c.args.dc.now) (g.DC.Depot.room c.args.dc.now) c.args.parents.now c.args.parent.now c.count_cell.new.progress in
-    let loaded = hands (g.M.Mapping.held c.load_corners.new.m) (g.DV.Depot.holds c.load_corners.new.dv) (g.DV.Depot.room c.load_corners.new.dv) (g.DC.Depot.holds c.args.dc.now) (g.DC.Depot.room c.args.dc.now) c.load_corners.new.parents c.load_corners.new.parent c.load_corners.new.progress in
-    let new = hands (g.M.Mapping.held c.visit_cell.new.m) (g.DV.Depot.holds c.give_up_from.new.vertices) (g.DV.Depot.room c.give_up_from.new.vertices) (g.DC.Depot.holds c.visit_cell.new.dc) (g.DC.Depot.room c.visit_cell.new.dc) c.visit_cell.new.parents c.visit_cell.new.parent c.visit_cell.new.progress in
-    let counts = counting ports levels place (machine_of rules numbers s old) in
+    let old = hands_of (g.M.Mapping.held c.args.m.now) (g.DV.Depot.holds c.args.dv.now) (g.DV.Depot.room c.args.dv.now) (g.DC.Depot.holds c.args.dc.now) (g.DC.Depot.room c.args.dc.now) c.args.parents.now c.args.parent.now c.args.progress.now in
+    let counted = hands_of (g.M.Mapping.held c.args.m.now) (g.DV.Depot.holds c.args.dv.now) (g.DV.Depot.room c.args.dv.now) (g.DC.Depot.holds c.args.dc.now) (g.DC.Depot.room c.args.dc.now) c.args.parents.now c.args.parent.now c.count_cell.new.progress in
+    let loaded = hands_of (g.M.Mapping.held c.load_corners.new.m) (g.DV.Depot.holds c.load_corners.new.dv) (g.DV.Depot.room c.load_corners.new.dv) (g.DC.Depot.holds c.args.dc.now) (g.DC.Depot.room c.args.dc.now) c.load_corners.new.parents c.load_corners.new.parent c.load_corners.new.progress in
+    let new = hands_of (g.M.Mapping.held c.visit_cell.new.m) (g.DV.Depot.holds c.give_up_from.new.vertices) (g.DV.Depot.room c.give_up_from.new.vertices) (g.DC.Depot.holds c.visit_cell.new.dc) (g.DC.Depot.room c.visit_cell.new.dc) c.visit_cell.new.parents c.visit_cell.new.parent c.visit_cell.new.progress in
+    let counts = counting ports levels place (machine_of numbers old) in
     let cells = cells_on_stacks numbers old.cells in
-    let to_count = λ (u : Unit {0}). machine_of rules numbers s counted in
-    let in_count = counts-to ports levels place (set_in rules numbers s old) (machine_of rules numbers s old) c.count_cell.new.progress.tally (found_in rules numbers s old)
-    (and_then-fits (counts (set_in rules numbers s old)) (after_count ports levels place (set_in rules numbers s old)) c.requires.fits) c.count_cell.ensures.tally c.in-Ok.ensures.within in
-    let goes_count : Goes rules numbers s old counted = record { keeps = keeps-same old.held; vertices = λ n. omega arith; cells = λ n. omega arith } in
-    let fits = runs-may rules numbers s counts (after_count ports levels place) to_count tt old counted c.requires.fits in_count goes_count in
-    let loads = loading ports levels place (machine_of rules numbers s counted) in
+    let to_count = λ (u : Unit {0}). machine_of numbers counted in
+    let in_count = counts-to ports levels place (set_in rules s old) (machine_of numbers old) c.count_cell.new.progress.tally (found_in old)
+    (and_then-fits (counts (set_in rules s old)) (after_count ports levels place (set_in rules s old)) c.requires.may.fits) c.count_cell.ensures.tally c.in-Ok.ensures.within in
+    let goes_count : Goes rules s old counted = record { keeps = keeps-same old.held; vertices = λ n. omega arith; cells = λ n. omega arith } in
+    let fits = runs-may rules s counts (after_count ports levels place) to_count tt old counted c.requires.may.fits in_count goes_count in
+    let loads = loading ports levels place (machine_of numbers counted) in
     let its = seen_corners numbers.vertex c.load_corners.new.corners in
-    let to_load = λ (u : Unit {0}). (let it : List VertexRecord × Machine = (its, machine_of rules numbers s loaded) in it) in
+    let to_load = λ (u : Unit {0}). (let it : List VertexRecord × Machine = (its, machine_of numbers loaded) in it) in
     let in_load = c.in-Ok-load_corners.ensures.follows cells (held_by old.cells old.cell_room) in
-    let goes_load : Goes rules numbers s counted loaded = record { keeps = c.in-Ok-load_corners.ensures.stays.keeps; vertices = c.in-Ok-load_corners.ensures.left.keeps; cells = λ n. omega arith } in
-    let fits_load = runs-may rules numbers s loads (after_load ports levels place) to_load tt counted loaded fits in_load goes_load in
+    let goes_load : Goes rules s counted loaded = record { keeps = c.in-Ok-load_corners.ensures.stays.keeps; vertices = c.in-Ok-load_corners.ensures.left.keeps; cells = λ n. omega arith } in
+    let fits_load = runs-may rules s loads (after_load ports levels place) to_load tt counted loaded fits in_load goes_load in
     let it = to_load tt in
-    let fits_visit = subst Fits (sym (visit-grouped ports levels place (set_in rules numbers s loaded) it)) fits_load in
+    let fits_visit = subst Fits (sym (visit-grouped ports levels place (set_in rules s loaded) it)) fits_load in
     let visits = visiting ports levels place it in
-    let to_visit = λ (u : Unit {0}). (let it : List VertexRecord × Machine = (seen_corners numbers.vertex c.visit_cell.new.corners, machine_of rules numbers s new) in it) in
-    let after = λ (u : Unit {0}). machine_of rules numbers s new in
+    let to_visit = λ (u : Unit {0}). (let it : List VertexRecord × Machine = (seen_corners numbers.vertex c.visit_cell.new.corners, machine_of numbers new) in it) in
+    let after = λ (u : Unit {0}). machine_of numbers new in
     let failure = failure_in c.visit_cell.new.progress c.in-Err-visit_cell.halt in
-    runs-then rules numbers s counts (after_count ports levels place) to_count tt after (Err failure) old counted new in_count goes_count
-    (runs-then rules numbers s loads (after_load ports levels place) to_load tt after (Err failure) counted loaded new in_load goes_load
-    (runs-as rules numbers s (λ set. and_then (visits set) (storing ports levels place set)) (λ set. after_load ports levels place set it) after (Err failure) loaded new (visit-grouped ports levels place (set_in rules numbers s loaded) it)
-    (runs-err rules numbers s visits (storing ports levels place) to_visit after failure loaded new c.in-Err-visit_cell.ensures.follows)))
+    runs-then rules s counts (after_count ports levels place) to_count tt after (Err failure) old counted new in_count goes_count
+    (runs-then rules s loads (after_load ports levels place) to_load tt after (Err failure) counted loaded new in_load goes_load
+    (runs-as rules s (λ set. and_then (visits set) (storing ports levels place set)) (λ set. after_load ports levels place set it) after (Err failure) loaded new (visit-grouped ports levels place (set_in rules s loaded) it)
+    (runs-err rules s visits (storing ports levels place) to_visit after failure loaded new c.in-Err-visit_cell.ensures.follows)))
 
 pub walk_children-loop-digits-init : goal.walk_children-loop-digits-init
 walk_children-loop-digits-init g t c =
@@ -602,22 +489,24 @@ walk_children-loop-digits-init g t c =
     let place = above.place in
     let levels = c.args.levels in
     let axes = s.setup.dim in
-    let old = hands (g.M.Mapping.held c.args.m.now) (g.DV.Depot.holds c.args.dv.now) (g.DV.Depot.room c.args.dv.now) (g.DC.Depot.holds c.args.dc.now) (g.DC.Depot.room c.args.dc.now) c.args.parents.now c.args.parent.now c.args.progress.now in
-    let set = set_in rules numbers s old in
-    let whole = walk_children set ports levels place (machine_of rules numbers s old) in
+    let old = hands_of (g.M.Mapping.held c.args.m.now) (g.DV.Depot.holds c.args.dv.now) (g.DV.Depot.room c.args.dv.now) (g.DC.Depot.holds c.args.dc.now) (g.DC.Depot.room c.args.dc.now) c.args.parents.now c.args.parent.now c.args.progress.now in
+    let set = set_in rules s old in
+    let whole = walk_children set ports levels place (machine_of numbers old) in
     let kept = c.into_iter-digits-iterator.ensures.into_iter_gives in
-    let same : IsAbove axes s above = subst (λ d. IsAbove d s above) c.requires.dim c.requires.above in
+    let same : IsAbove axes s above = subst (λ d. IsAbove d s above) c.requires.may.dim c.requires.above in
     let all : map (child_at place) c.into_iter-digits-iterator.result ≡ children old.held.dim (way_of s.traversal) place =
     all-children axes (way_of s.traversal) s.way place c.flips.result c.cursor_in-digits-items.result c.into_iter-digits-iterator.result s.turned kept c.cursor_in-digits-items.ensures.digits (c.flips.ensures axes s.way place same.place same.state)
-    ∙ ap (λ d. children d (way_of s.traversal) place) (sym c.requires.dim) in
+    ∙ ap (λ d. children d (way_of s.traversal) place) (sym c.requires.may.dim) in
     record {
-      leads = subst (λ cells. Leads whole (found_in rules numbers s old) (found_in rules numbers s old) (each (walk_cell set ports levels) cells (machine_of rules numbers s old))) (sym all) (leads_start whole (found_in rules numbers s old));
+      leads = subst (λ cells. Leads whole (found_in old) (found_in old) (each (walk_cell set ports levels) cells (machine_of numbers old))) (sym all) (leads_start whole (found_in old));
       digits = subst (All (IsDigits axes)) (sym kept) c.cursor_in-digits-items.ensures.places;
       child = c.child_of-child.ensures.child;
-      left = record { count = refl; keeps = λ n. omega arith; out = omega arith };
-      cells_left = record { count = refl; keeps = λ n. omega arith; out = omega arith };
-      counts = record { made = omega arith; few = omega (arith, c.requires.few) };
-      stays = stays-beside (keeps-same old.held) c.requires.full;
+      left = record {
+        vertices = record { count = refl; keeps = λ n. omega arith; out = omega arith };
+        cells = record { count = refl; keeps = λ n. omega arith; out = omega arith };
+        counts = record { made = omega arith; few = omega (arith, c.requires.may.few) };
+        stays = stays-beside (keeps-same old.held) c.requires.may.full;
+      };
       empty = c.empty-corners.ensures;
     }
 
@@ -631,74 +520,34 @@ walk_children-walk_cell-requires g t c κs within =
     let place = above.place in
     let levels = c.args.levels in
     let axes = s.setup.dim in
-    let old = hands (g.M.Mapping.held c.args.m.now) (g.DV.Depot.holds c.args.dv.now) (g.DV.Depot.room c.args.dv.now) (g.DC.Depot.holds c.args.dc.now) (g.DC.Depot.room c.args.dc.now) c.args.parents.now c.args.parent.now c.args.progress.now in
-    let set = set_in rules numbers s old in
-    let whole = walk_children set ports levels place (machine_of rules numbers s old) in
-    let now = hands (g.M.Mapping.held c.loop-digits.m) (g.DV.Depot.holds c.loop-digits.dv) (g.DV.Depot.room c.loop-digits.dv) (g.DC.Depot.holds c.loop-digits.dc) (g.DC.Depot.room c.loop-digits.dc) c.loop-digits.parents c.loop-digits.parent c.loop-digits.progress in
+    let old = hands_of (g.M.Mapping.held c.args.m.now) (g.DV.Depot.holds c.args.dv.now) (g.DV.Depot.room c.args.dv.now) (g.DC.Depot.holds c.args.dc.now) (g.DC.Depot.room c.args.dc.now) c.args.parents.now c.args.parent.now c.args.progress.now in
+    let set = set_in rules s old in
+    let whole = walk_children set ports levels place (machine_of numbers old) in
+    let now = hands_of (g.M.Mapping.held c.loop-digits.m) (g.DV.Depot.holds c.loop-digits.dv) (g.DV.Depot.room c.loop-digits.dv) (g.DC.Depot.holds c.loop-digits.dc) (g.DC.Depot.room c.loop-digits.dc) c.loop-digits.parents c.loop-digits.parent c.loop-digits.progress in
     let is = c.loop-digits.invariant in
-    let goes : Goes rules numbers s old now = record { keeps = is.stays.keeps; vertices = is.left.keeps; cells = is.cells_left.keeps } in
+    let goes : Goes rules s old now = record { keeps = is.left.stays.keeps; vertices = is.left.vertices.keeps; cells = is.left.cells.keeps } in
     let child = c.move_to.ensures.child in
     let there : c.move_to.new.child.cell.place ≡ child_at place c.in-Some.digits = child.place ∙ ap (child_at place) c.move_to.ensures.digits in
-    let same = child-walk ports set (set_in rules numbers s now) levels (child_at place c.in-Some.digits) c.move_to.new.child.cell.place (machine_of rules numbers s now) (goes-set rules numbers s old now goes) c.requires.some there in
-    let dim : now.held.dim ≡ axes = is.stays.keeps.dim ∙ c.requires.dim in
+    let same = child-walk ports set (set_in rules s now) levels (child_at place c.in-Some.digits) c.move_to.new.child.cell.place (machine_of numbers now) (goes-set rules s old now goes) c.requires.some there in
+    let dim : now.held.dim ≡ axes = is.left.stays.keeps.dim ∙ c.requires.may.dim in
     let marked : AreMarksOf axes (seen_corners numbers.vertex c.loop-digits.parents) above.marks =
-    subst (λ d. AreMarksOf d (seen_corners numbers.vertex c.loop-digits.parents) above.marks) c.requires.dim (marks-kept (seen_corners numbers.vertex c.args.parents.now) (seen_corners numbers.vertex c.loop-digits.parents) is.stays.parents.marks old.held.dim above.marks c.requires.marked) in
+    subst (λ d. AreMarksOf d (seen_corners numbers.vertex c.loop-digits.parents) above.marks) c.requires.may.dim (marks-kept (seen_corners numbers.vertex c.args.parents.now) (seen_corners numbers.vertex c.loop-digits.parents) is.left.stays.parents.marks old.held.dim above.marks c.requires.marked) in
     let level : c.move_to.new.child.cell.place.level ≡ place.level + 1 = ap (λ (p : Place). p.level) there in
-    let walked : IsWalked axes s c.move_to.new.child.cell = child-walked axes s above c.move_to.new.child (subst (λ d. IsAbove d s above) c.requires.dim c.requires.above) child in
+    let walked : IsWalked axes s c.move_to.new.child.cell = child-walked axes s above c.move_to.new.child (subst (λ d. IsAbove d s above) c.requires.may.dim c.requires.above) child in
     let kinds = child.kinds (seen_corners numbers.vertex c.loop-digits.parents) marked in
-    let kind = kind_among-kept (seen_corners numbers.vertex c.args.parents.now) (seen_corners numbers.vertex c.loop-digits.parents) is.stays.parents.marks s.traversal c.move_to.new.child.cell.place ∙ c.requires.kind c.move_to.new.child.cell.place level in
-    let may = child-may ports set levels place whole (found_in rules numbers s old) (found_in rules numbers s now) c.loop-digits.digits-iterator (machine_of rules numbers s now) c.in-Some.digits c.next.new.self c.in-Some.ensures.steps is.leads c.requires.fits in (
-      search the_rules,
-      (
-        search the_rules,
-        (
-          within.0,
-          (
-            within.1.0,
-            (
-              within.1.1.0,
-              (
-                within.1.1.1.0,
-                (
-                  within.1.1.1.1.0,
-                  (
-                    within.1.1.1.1.1,
-                    (
-                      c.requires.axes,
-                      (
-                        dim,
-                        (
-                          subst (λ d. IsWalked d s c.move_to.new.child.cell) (sym dim) walked,
-                          (
-                            omega (arith, level, c.requires.levels, c.requires.some),
-                            (
-                              subst (λ d. GiveKinds d s.traversal c.move_to.new.child.cell.place (seen_corners numbers.vertex c.loop-digits.parents) c.move_to.new.child.cell.marks) (sym dim) kinds,
-                              (
-                                kind,
-                                (
-                                  stays-full is.stays,
-                                  (
-                                    is.empty ∙ ap no_vertices (sym dim),
-                                    (
-                                      omega (arith, is.counts.few),
-                                      subst Fits (sym same) may,
-                                    ),
-                                  ),
-                                ),
-                              ),
-                            ),
-                          ),
-                        ),
-                      ),
-                    ),
-                  ),
-                ),
-              ),
-            ),
-          ),
-        ),
-      ),
-    )
+    let kind = kind_among-kept (seen_corners numbers.vertex c.args.parents.now) (seen_corners numbers.vertex c.loop-digits.parents) is.left.stays.parents.marks s.traversal c.move_to.new.child.cell.place ∙ c.requires.kind c.move_to.new.child.cell.place level in
+    let may = child-may ports set levels place whole (found_in old) (found_in now) c.loop-digits.digits-iterator (machine_of numbers now) c.in-Some.digits c.next.new.self c.in-Some.ensures.steps is.leads c.requires.may.fits in
+    let walked' = subst (λ d. IsWalked d s c.move_to.new.child.cell) (sym dim) walked in
+    let kinds' = subst (λ d. GiveKinds d s.traversal c.move_to.new.child.cell.place (seen_corners numbers.vertex c.loop-digits.parents) c.move_to.new.child.cell.marks) (sym dim) kinds in
+    let ready : MayWalk rules numbers s c.move_to.new.child.cell.place.level (levels - 1) (λ set. walk_cell set ports (suc (levels - 1)) c.move_to.new.child.cell.place) now =
+    record {
+      dim = dim;
+      levels = omega (arith, level, c.requires.may.levels, c.requires.some);
+      full = stays-full is.left.stays;
+      few = omega (arith, is.left.counts.few);
+      fits = subst Fits (sym same) may;
+    } in
+    (search the_rules, (search the_rules, (within.0, (within.1.0, (within.1.1.0, (within.1.1.1.0, (within.1.1.1.1.0, (within.1.1.1.1.1, (c.requires.axes, (ready, (walked', (kinds', (kind, is.empty ∙ ap no_vertices (sym dim))))))))))))))
 
 pub walk_children-loop-digits-preserved : goal.walk_children-loop-digits-preserved
 walk_children-loop-digits-preserved g t c =
@@ -710,29 +559,26 @@ walk_children-loop-digits-preserved g t c =
     let place = above.place in
     let levels = c.args.levels in
     let axes = s.setup.dim in
-    let old = hands (g.M.Mapping.held c.args.m.now) (g.DV.Depot.holds c.args.dv.now) (g.DV.Depot.room c.args.dv.now) (g.DC.Depot.holds c.args.dc.now) (g.DC.Depot.room c.args.dc.now) c.args.parents.now c.args.parent.now c.args.progress.now in
-    let set = set_in rules numbers s old in
-    let whole = walk_children set ports levels place (machine_of rules numbers s old) in
-    let now = hands (g.M.Mapping.held c.loop-digits.m) (g.DV.Depot.holds c.loop-digits.dv) (g.DV.Depot.room c.loop-digits.dv) (g.DC.Depot.holds c.loop-digits.dc) (g.DC.Depot.room c.loop-digits.dc) c.loop-digits.parents c.loop-digits.parent c.loop-digits.progress in
-    let new = hands (g.M.Mapping.held c.walk_cell.new.m) (g.DV.Depot.holds c.walk_cell.new.dv) (g.DV.Depot.room c.walk_cell.new.dv) (g.DC.Depot.holds c.walk_cell.new.dc) (g.DC.Depot.room c.walk_cell.new.dc) c.walk_cell.new.parents c.walk_cell.new.parent c.walk_cell.new.progress in
+    let old = hands_of (g.M.Mapping.held c.args.m.now) (g.DV.Depot.holds c.args.dv.now) (g.DV.Depot.room c.args.dv.now) (g.DC.Depot.holds c.args.dc.now) (g.DC.Depot.room c.args.dc.now) c.args.parents.now c.args.parent.now c.args.progress.now in
+    let set = set_in rules s old in
+    let whole = walk_children set ports levels place (machine_of numbers old) in
+    let now = hands_of (g.M.Mapping.held c.loop-digits.m) (g.DV.Depot.holds c.loop-digits.dv) (g.DV.Depot.room c.loop-digits.dv) (g.DC.Depot.holds c.loop-digits.dc) (g.DC.Depot.room c.loop-digits.dc) c.loop-digits.parents c.loop-digits.parent c.loop-digits.progress in
+    let new = hands_of (g.M.Mapping.held c.walk_cell.new.m) (g.DV.Depot.holds c.walk_cell.new.dv) (g.DV.Depot.room c.walk_cell.new.dv) (g.DC.Depot.holds c.walk_cell.new.dc) (g.DC.Depot.room c.walk_cell.new.dc) c.walk_cell.new.parents c.walk_cell.new.parent c.walk_cell.new.progress in
     let is = c.loop-digits.invariant in
-    let goes : Goes rules numbers s old now = record { keeps = is.stays.keeps; vertices = is.left.keeps; cells = is.cells_left.keeps } in
+    let goes : Goes rules s old now = record { keeps = is.left.stays.keeps; vertices = is.left.vertices.keeps; cells = is.left.cells.keeps } in
     let child = c.move_to.ensures.child in
     let there : c.move_to.new.child.cell.place ≡ child_at place c.in-Some.digits = child.place ∙ ap (child_at place) c.move_to.ensures.digits in
-    let same = child-walk ports set (set_in rules numbers s now) levels (child_at place c.in-Some.digits) c.move_to.new.child.cell.place (machine_of rules numbers s now) (goes-set rules numbers s old now goes) c.requires.some there in
-    let dim : now.held.dim ≡ axes = is.stays.keeps.dim ∙ c.requires.dim in
+    let same = child-walk ports set (set_in rules s now) levels (child_at place c.in-Some.digits) c.move_to.new.child.cell.place (machine_of numbers now) (goes-set rules s old now goes) c.requires.some there in
+    let dim : now.held.dim ≡ axes = is.left.stays.keeps.dim ∙ c.requires.may.dim in
     let done = c.in-Ok.ensures in
     record {
-      leads = child-next ports set levels place whole (found_in rules numbers s old) (found_in rules numbers s now) c.loop-digits.digits-iterator (machine_of rules numbers s now) c.in-Some.digits c.next.new.self c.in-Some.ensures.steps is.leads
-          (found_in rules numbers s new) (machine_of rules numbers s new)
-          (subst (λ course. Follows course (λ (u : Unit {0}). machine_of rules numbers s new) (Ok tt) (found_in rules numbers s now) new.held.told) same done.follows)
-          (record { sure = done.stays.keeps.sure; vertices = done.left.keeps; cells = done.cells_left.keeps });
+      leads = child-next ports set levels place whole (found_in old) (found_in now) c.loop-digits.digits-iterator (machine_of numbers now) c.in-Some.digits c.next.new.self c.in-Some.ensures.steps is.leads
+          (found_in new) (machine_of numbers new)
+          (subst (λ course. Follows course (λ (u : Unit {0}). machine_of numbers new) (Ok tt) (found_in now) new.held.told) same done.follows)
+          (record { sure = done.left.stays.keeps.sure; vertices = done.left.vertices.keeps; cells = done.left.cells.keeps });
       digits = all-tail (IsDigits axes) c.in-Some.digits c.next.new.self c.loop-digits.digits-iterator c.in-Some.ensures.steps is.digits;
       child = child;
-      left = record { count = done.left.count ∙ is.left.count; keeps = λ n. omega (arith, is.left.keeps n, done.left.keeps n); out = omega (arith, is.left.out, done.left.out) };
-      cells_left = record { count = done.cells_left.count ∙ is.cells_left.count; keeps = λ n. omega (arith, is.cells_left.keeps n, done.cells_left.keeps n); out = omega (arith, is.cells_left.out, done.cells_left.out) };
-      counts = record { made = omega (arith, is.counts.made, done.counts.made); few = done.counts.few };
-      stays = stays-then is.stays done.stays;
+      left = left-then is.left done.left;
       empty = done.emptied ∙ ap no_vertices dim;
     }
 
@@ -746,24 +592,27 @@ walk_children-returns-in-Err-clause-follows g t c =
     let place = above.place in
     let levels = c.args.levels in
     let axes = s.setup.dim in
-    let old = hands (g.M.Mapping.held c.args.m.now) (g.DV.Depot.holds c.args.dv.now) (g.DV.Depot.room c.args.dv.now) (g.DC.Depot.holds c.args.dc.now) (g.DC.Depot.room c.args.dc.now) c.args.parents.now c.args.parent.now c.args.progress.now in
-    let set = set_in rules numbers s old in
-    let whole = walk_children set ports levels place (machine_of rules numbers s old) in
-    let now = hands (g.M.Mapping.held c.loop-digits.m) (g.DV.Depot.holds c.loop-digits.dv) (g.DV.Depot.room c.loop-digits.dv) (g.DC.Depot.holds c.loop-digits.dc) (g.DC.Depot.room c.loop-digits.dc) c.loop-digits.parents c.loop-digits.parent c.loop-digits.progress in
-    let new = hands (g.M.Mapping.held c.walk_cell.new.m) (g.DV.Depot.holds c.walk_cell.new.dv) (g.DV.Depot.room c.walk_cell.new.dv) (g.DC.Depot.holds c.walk_cell.new.dc) (g.DC.Depot.room c.walk_cell.new.dc) c.walk_cell.new.parents c.walk_cell.new.parent c.walk_cell.new.progress in
+    let old = hands_of (g.M.Mapping.held c.args.m.now) (g.DV.Depot.holds c.args.dv.now) (g.DV.Depot.room c.args.dv.now) (g.DC.Depot.holds c.args.dc.now) (g.DC.Depot.room c.args.dc.now) c.args.parents.now c.args.parent.now c.args.progress.now in
+    let set = set_in rules s old in
+    let whole = walk_children set ports levels place (machine_of numbers old) in
+    let now = hands_of (g.M.Mapping.held c.loop-digits.m) (g.DV.Depot.holds c.loop-digits.dv) (g.DV.Depot.room c.loop-digits.dv) (g.DC.Depot.holds c.loop-digits.dc) (g.DC.Depot.room c.loop-digits.dc) c.loop-digits.parents c.loop-digits.parent c.loop-digits.progress in
+    let new = hands_of (g.M.Mapping.held c.walk_cell.new.m) (g.DV.Depot.holds c.walk_cell.new.dv) (g.DV.Depot.room c.walk_cell.new.dv) (g.DC.Depot.holds c.walk_cell.new.dc) (g.DC.Depot.room c.walk_cell.new.dc) c.walk_cell.new.parents c.walk_cell.new.parent c.walk_cell.new.progress in
     let is = c.loop-digits.invariant in
-    let goes : Goes rules numbers s old now = record { keeps = is.stays.keeps; vertices = is.left.keeps; cells = is.cells_left.keeps } in
+    let goes : Goes rules s old now = record { keeps = is.left.stays.keeps; vertices = is.left.vertices.keeps; cells = is.left.cells.keeps } in
     let child = c.move_to.ensures.child in
     let there : c.move_to.new.child.cell.place ≡ child_at place c.in-Some.digits = child.place ∙ ap (child_at place) c.move_to.ensures.digits in
-    let same = child-walk ports set (set_in rules numbers s now) levels (child_at place c.in-Some.digits) c.move_to.new.child.cell.place (machine_of rules numbers s now) (goes-set rules numbers s old now goes) c.requires.some there in
-    let after = λ (u : Unit {0}). machine_of rules numbers s new in
+    let same = child-walk ports set (set_in rules s now) levels (child_at place c.in-Some.digits) c.move_to.new.child.cell.place (machine_of numbers now) (goes-set rules s old now goes) c.requires.some there in
+    let after = λ (u : Unit {0}). machine_of numbers new in
     let failure = failure_in c.walk_cell.new.progress c.in-Err.halt in
-    child-err ports set levels place whole (found_in rules numbers s old) (found_in rules numbers s now) c.loop-digits.digits-iterator (machine_of rules numbers s now) c.in-Some.digits c.next.new.self c.in-Some.ensures.steps is.leads
-    after after failure (found_in rules numbers s new)
-    (subst (λ course. Follows course after (Err failure) (found_in rules numbers s now) new.held.told) same c.in-Err.ensures.follows)
+    child-err ports set levels place whole (found_in old) (found_in now) c.loop-digits.digits-iterator (machine_of numbers now) c.in-Some.digits c.next.new.self c.in-Some.ensures.steps is.leads
+    after after failure (found_in new)
+    (subst (λ course. Follows course after (Err failure) (found_in now) new.held.told) same c.in-Err.ensures.follows)
 
 pub walk_cell-give_up_from-requires-clause-full : goal.walk_cell-give_up_from-requires-clause-full
 walk_cell-give_up_from-requires-clause-full g t c =
     let corners = c.visit_cell.new.corners in
-    let kept = c.in-Ok-load_corners.ensures.stays.keeps.dim ∙ c.requires.dim in
+    let kept = c.in-Ok-load_corners.ensures.stays.keeps.dim ∙ c.requires.may.dim in
     full_from c.args.settings.now.setup.dim corners (subst (λ d. IsFull d corners) kept c.in-Err-visit_cell.ensures.own.full)
+
+pub walk_children-returns-in-Err-clause-left : goal.walk_children-returns-in-Err-clause-left
+walk_children-returns-in-Err-clause-left g t c = left-then c.loop-digits.invariant.left c.in-Err.ensures.left

@@ -1,4 +1,5 @@
-use Rattle.std.proofs.Common.{◌≡◌, suc, Ok, Err, sym, ap, subst, ◌∙◌}
+use Rattle.std.proofs.Common.{◌≡◌, suc, Ok, Err, sym, ap, subst, ◌∙◌, arith}
+use Rattle.pe_base.specs.declared.place.Place.{Place}
 use Rattle.pe_mapping.specs.Sights.{seen_vertex, seen_cell, seen_corners}
 use Rattle.pe_hang.specs.InHand.{setting_of, cells_on_stacks}
 use Rattle.pe_hang.specs.Follows.{Fits, Follows, found_of, held_by}
@@ -33,17 +34,25 @@ walk_cell-walked-requires-clause-kind g c =
     ∙ c.kind_at-kind.ensures axes c.walked_cell-cell.result.place its c.requires.called.stands.grid (ap (λ place. place.level) c.walked_cell-cell.ensures.place)
     (length-seen g.M.Mapping.numbers.vertex axes c.args.parents.now c.requires.full) marked
 
-pub walk_cell-walked-requires-clause-fits : goal.walk_cell-walked-requires-clause-fits
-walk_cell-walked-requires-clause-fits g c =
+pub walk_cell-walked-requires-clause-may : goal.walk_cell-walked-requires-clause-may
+walk_cell-walked-requires-clause-may g c =
     let held = g.M.Mapping.held c.args.m.now in
     let moment = c.requires.may.0 in
     let can = c.requires.may.1 in
     let begins = machine_in_hand g.M.Mapping.numbers (g.DV.Depot.holds c.args.dv.now) (cells_on_stacks g.M.Mapping.numbers (g.DC.Depot.holds c.args.dc.now)) c.args.parents.now c.args.parent.now held.list c.args.tally.now in
     let set = setting_of g.M.Effects.rules held c.args.setup.now.start_level c.args.setup.now.max_cells c.args.traversal in
-    subst Fits
+    let setup = c.settings_at-settings.ensures.setup in
+    let fits = subst Fits
     (sym (same-course g.M.Effects.rules held c.args.setup.now c.settings_at-settings.result c.args.traversal c.args.input c.args.cell_input c.walked_cell-cell.result.place c.args.at.now begins moment
     c.settings_at-settings.ensures.setup c.settings_at-settings.ensures.traversal c.settings_at-settings.ensures.input c.settings_at-settings.ensures.cell_input c.walked_cell-cell.ensures.place can.here))
-    (cell-fits set moment begins can.may)
+    (cell-fits set moment begins can.may) in
+    record {
+      dim = c.requires.dim ∙ sym (ap (λ setup. setup.dim) setup);
+      levels = omega (arith, ap (λ (place : Place). place.level) c.walked_cell-cell.ensures.place, c.args.setup.now.levels.few, c.requires.called.place.level);
+      full = c.requires.full;
+      few = omega (arith, c.requires.few.few, ap (λ setup. setup.max_cells) setup);
+      fits = fits;
+    }
 
 pub returns-in-Ok-clause-answers : goal.returns-in-Ok-clause-answers
 returns-in-Ok-clause-answers g c moment can =
