@@ -78,7 +78,7 @@ abbrev pub found_in : {Plan V C : Type 0} → Hands Plan V C → Found
 found_in hands = found_of hands.held (held_by hands.vertices hands.room) (held_by hands.cells hands.cell_room)
 
 -- A call may walk cells as the machine walks them: they are of a level, or so many levels below it at most.
-pub record MayWalk {Plan V C X : Type 0} (rules : Rules Plan) (numbers : Numbers V C) (settings : Settings) (level below : ℕ) (course : Setting Plan → Machine → Course X) (hands : Hands Plan V C) : Type 0 where
+pub record MayWalkCells {Plan V C X : Type 0} (rules : Rules Plan) (numbers : Numbers V C) (settings : Settings) (level below : ℕ) (course : Setting Plan → Machine → Course X) (hands : Hands Plan V C) : Type 0 where
   pub dim : hands.held.dim ≡ settings.setup.dim
   pub levels : level + below ≤ 20
   pub full : IsFull hands.held.dim hands.parents

@@ -7,7 +7,7 @@ ghost use Rattle.pe_adapt.specs.Marked.{AreMarksOf, GiveKinds};
 ghost use Rattle.pe_walk.specs.Machine.{kind_among, walk_cell};
 ghost use Rattle.pe_walk.specs.InHand.{ports_of, IsWalked};
 ghost use Rattle.pe_walk.specs.Children.{IsAbove};
-ghost use Rattle.pe_walk.specs.Visits.{walk_children, MayWalk, Walks, WalkLeft, hands_of};
+ghost use Rattle.pe_walk.specs.Visits.{walk_children, MayWalkCells, Walks, WalkLeft, hands_of};
 
 use crate::cell;
 use crate::child::Above;
@@ -33,7 +33,7 @@ pub(crate) fn walk_cell<M: Mapping, DV: Depot<Vertex<M::V>>, DC: Depot<CellRec<M
     parents: &mut Corners<M::V>,
     parent: &mut CellRec<M::C>,
 ) -> Result<(), Halt>
-    requires may { MayWalk M.rules M.numbers settings.now cell.now.place.level levels
+    requires may { MayWalkCells M.rules M.numbers settings.now cell.now.place.level levels
         (λ set. walk_cell set (ports_of settings.now) (suc levels) cell.now.place)
         (hands_of (M.held m.old) (DV.holds dv.old) (DV.room dv.old) (DC.holds dc.old) (DC.room dc.old) parents.old parent.old progress.old) }
     requires walked { IsWalked (M.held m.old).dim settings.now cell.now }
@@ -76,7 +76,7 @@ pub(crate) fn walk_children<M: Mapping, DV: Depot<Vertex<M::V>>, DC: Depot<CellR
     parents: &mut Corners<M::V>,
     parent: &mut CellRec<M::C>,
 ) -> Result<(), Halt>
-    requires may { MayWalk M.rules M.numbers settings.now above.now.place.level levels
+    requires may { MayWalkCells M.rules M.numbers settings.now above.now.place.level levels
         (λ set. walk_children set (ports_of settings.now) levels above.now.place)
         (hands_of (M.held m.old) (DV.holds dv.old) (DV.room dv.old) (DC.holds dc.old) (DC.room dc.old) parents.old parent.old progress.old) }
     requires above { IsAbove (M.held m.old).dim settings.now above.now }

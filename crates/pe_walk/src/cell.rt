@@ -9,7 +9,7 @@ ghost use Rattle.pe_adapt.specs.Marked.{AreMarksOf, GiveKinds};
 ghost use Rattle.pe_walk.specs.Machine.{kind_among, walk_cell};
 ghost use Rattle.pe_walk.specs.InHand.{ports_of, IsWalked};
 ghost use Rattle.pe_walk.specs.Children.{IsAbove};
-ghost use Rattle.pe_walk.specs.Visits.{walk_children, walk_below, visit_cell, with_family, MayWalk, Walks, WalkLeft, hands_of};
+ghost use Rattle.pe_walk.specs.Visits.{walk_children, walk_below, visit_cell, with_family, MayWalkCells, Walks, WalkLeft, hands_of};
 
 use crate::child::{Above, child_of, move_to};
 use crate::corners::{load_corners, store_corners};
@@ -46,7 +46,7 @@ pub(crate) fn walk_cell<
     parent: &mut CellRec<M::C>,
 ) -> Result<(), Halt>
     requires axes { settings.now.setup.dim ≡ AXES }
-    requires may { MayWalk M.rules M.numbers settings.now cell.now.place.level levels
+    requires may { MayWalkCells M.rules M.numbers settings.now cell.now.place.level levels
         (λ set. walk_cell set (ports_of settings.now) (suc levels) cell.now.place)
         (hands_of (M.held m.old) (DV.holds dv.old) (DV.room dv.old) (DC.holds dc.old) (DC.room dc.old) parents.old parent.old progress.old) }
     requires walked { IsWalked (M.held m.old).dim settings.now cell.now }
@@ -101,7 +101,7 @@ fn visit_cell<const AXES: u8, M: Mapping, DV: Depot<Vertex<M::V>>, DC: Depot<Cel
     parent: &mut CellRec<M::C>,
 ) -> Result<(), Halt>
     requires axes { settings.now.setup.dim ≡ AXES }
-    requires may { MayWalk M.rules M.numbers settings.now cell.now.place.level levels
+    requires may { MayWalkCells M.rules M.numbers settings.now cell.now.place.level levels
         (λ set. visit_cell set (ports_of settings.now) levels cell.now.place (seen_corners M.numbers.vertex corners.old))
         (hands_of (M.held m.old) (DV.holds dv.old) (DV.room dv.old) (DC.holds dc.old) (DC.room dc.old) parents.old parent.old progress.old) }
     requires walked { IsWalked (M.held m.old).dim settings.now cell.now }
@@ -153,7 +153,7 @@ fn walk_below<const AXES: u8, M: Mapping, DV: Depot<Vertex<M::V>>, DC: Depot<Cel
     own: &mut CellRec<M::C>,
 ) -> Result<(), Halt>
     requires axes { settings.now.setup.dim ≡ AXES }
-    requires may { (outer : Family) × MayWalk M.rules M.numbers settings.now cell.now.place.level levels
+    requires may { (outer : Family) × MayWalkCells M.rules M.numbers settings.now cell.now.place.level levels
         (λ set machine. walk_below set (ports_of settings.now) levels cell.now.place (own_in_hand M.numbers own.old corners.old, with_family outer machine))
         (hands_of (M.held m.old) (DV.holds dv.old) (DV.room dv.old) (DC.holds dc.old) (DC.room dc.old) corners.old own.old progress.old) }
     requires walked { IsWalked (M.held m.old).dim settings.now cell.now }
@@ -207,7 +207,7 @@ pub(crate) fn walk_children<
     parent: &mut CellRec<M::C>,
 ) -> Result<(), Halt>
     requires axes { settings.now.setup.dim ≡ AXES }
-    requires may { MayWalk M.rules M.numbers settings.now above.now.place.level levels
+    requires may { MayWalkCells M.rules M.numbers settings.now above.now.place.level levels
         (λ set. walk_children set (ports_of settings.now) levels above.now.place)
         (hands_of (M.held m.old) (DV.holds dv.old) (DV.room dv.old) (DC.holds dc.old) (DC.room dc.old) parents.old parent.old progress.old) }
     requires above { IsAbove (M.held m.old).dim settings.now above.now }

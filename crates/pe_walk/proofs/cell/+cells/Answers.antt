@@ -24,7 +24,7 @@ use Rattle.pe_adapt.specs.Marked.{AreMarksOf, GiveKinds}
 use Rattle.pe_walk.specs.InHand.{IsWalked, ports_of, failure_in}
 use Rattle.pe_walk.specs.Machine.{Machine, kind_among, enter_cell, outside, walk_cell}
 use Rattle.pe_walk.specs.Children.{IsAbove}
-use Rattle.pe_walk.specs.Visits.{walk_children, walk_below, visit_cell, with_family, hands_of, machine_of, found_in, MayWalk}
+use Rattle.pe_walk.specs.Visits.{walk_children, walk_below, visit_cell, with_family, hands_of, machine_of, found_in, MayWalkCells}
 use Rattle.pe_walk.proofs.Walking.{set_in, Goes, goes-set, runs-may, runs-then, runs-err, runs-as, left-then}
 use Rattle.pe_walk.proofs.Markings.{kind_among-kept, kind_among-deep, kind_below-marks, any-kind, length-seen, few-corners, marks-kept}
 use Rattle.pe_walk.proofs.Children.{child-walked}
@@ -66,7 +66,7 @@ visit_cell-walk_below-requires g t c κs within =
     let walked : IsWalked mid.held.dim s c.args.cell.now = subst (λ d. IsWalked d s c.args.cell.now) (sym c.in-Ok.ensures.stays.keeps.dim) c.requires.walked in
     let full : IsFull mid.held.dim c.enter_cell.new.corners = subst (λ d. IsFull d c.enter_cell.new.corners) (sym c.in-Ok.ensures.stays.keeps.dim) c.in-Ok.ensures.own.full in
     let few : c.enter_cell.new.progress.tally.cells ≤ s.setup.max_cells = subst (λ (tally : Tally). tally.cells ≤ s.setup.max_cells) (sym c.in-Ok.ensures.tally) c.requires.may.few in
-    let may : MayWalk rules numbers s place.level levels (λ set m. walk_below set ports levels place (own_in_hand numbers c.in-Ok.entered c.enter_cell.new.corners, with_family outer m)) (record mid { parents = c.enter_cell.new.corners; parent = c.in-Ok.entered }) =
+    let may : MayWalkCells rules numbers s place.level levels (λ set m. walk_below set ports levels place (own_in_hand numbers c.in-Ok.entered c.enter_cell.new.corners, with_family outer m)) (record mid { parents = c.enter_cell.new.corners; parent = c.in-Ok.entered }) =
     record {
       dim = c.in-Ok.ensures.stays.keeps.dim ∙ c.requires.may.dim;
       levels = c.requires.may.levels;
@@ -220,7 +220,7 @@ walk_below-walk_children-requires g t c κs within =
     record { place = c.requires.walked.place; level = omega (arith, c.requires.may.1.levels, few); state = c.requires.walked.state } in
     let kind : (cell : Place) → cell.level ≡ place.level + 1 → kind_among s.traversal cell (seen_corners numbers.vertex c.args.corners.now) ≡ c.kind_of-kind.result =
     λ cell level. kind_among-deep s.traversal cell (seen_corners numbers.vertex c.args.corners.now) (omega (arith, level, c.requires.walked.deep)) ∙ is_kind in
-    let may : MayWalk rules numbers s place.level levels (λ set. walk_children set ports levels place) old =
+    let may : MayWalkCells rules numbers s place.level levels (λ set. walk_children set ports levels place) old =
     record {
       dim = c.requires.may.1.dim;
       levels = c.requires.may.1.levels;
@@ -358,7 +358,7 @@ walk_cell-visit_cell-requires g t c κs within =
     let kind = kind_among-kept (seen_corners numbers.vertex c.args.parents.now) (seen_corners numbers.vertex c.load_corners.new.parents) c.in-Ok-load_corners.ensures.stays.parents.marks s.traversal place ∙ c.requires.kind in
     let own : IsFull loaded.held.dim c.load_corners.new.corners = subst (λ d. IsFull d c.load_corners.new.corners) (sym dim) c.in-Ok-load_corners.ensures.loaded in
     let few : c.load_corners.new.progress.tally.cells ≤ s.setup.max_cells = omega (arith, c.in-Ok-load_corners.ensures.counted, c.in-Ok.ensures.within) in
-    let may : MayWalk rules numbers s place.level levels (λ set. visit_cell set ports levels place its) loaded =
+    let may : MayWalkCells rules numbers s place.level levels (λ set. visit_cell set ports levels place its) loaded =
     record {
       dim = dim ∙ c.requires.may.dim;
       levels = c.requires.may.levels;
@@ -539,7 +539,7 @@ walk_children-walk_cell-requires g t c κs within =
     let may = child-may ports set levels place whole (found_in old) (found_in now) c.loop-digits.digits-iterator (machine_of numbers now) c.in-Some.digits c.next.new.self c.in-Some.ensures.steps is.leads c.requires.may.fits in
     let walked' = subst (λ d. IsWalked d s c.move_to.new.child.cell) (sym dim) walked in
     let kinds' = subst (λ d. GiveKinds d s.traversal c.move_to.new.child.cell.place (seen_corners numbers.vertex c.loop-digits.parents) c.move_to.new.child.cell.marks) (sym dim) kinds in
-    let ready : MayWalk rules numbers s c.move_to.new.child.cell.place.level (levels - 1) (λ set. walk_cell set ports (suc (levels - 1)) c.move_to.new.child.cell.place) now =
+    let ready : MayWalkCells rules numbers s c.move_to.new.child.cell.place.level (levels - 1) (λ set. walk_cell set ports (suc (levels - 1)) c.move_to.new.child.cell.place) now =
     record {
       dim = dim;
       levels = omega (arith, level, c.requires.may.levels, c.requires.some);
