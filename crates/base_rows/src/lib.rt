@@ -1,4 +1,4 @@
-//! Worked rows of what a walk is made of: words and printed lines, the curve, routes, marks, and records on stacks.
+//! Worked rows of what a walk is made of: words and printed lines, the curve, routes, ages, and records on stacks.
 #![tactic(auto)]
 
 #[cfg(test)]

@@ -1,13 +1,13 @@
-//! Worked rows of marks. A function without a body computes the definitions that its contract names.
+//! Worked rows of ages. A function without a body computes the definitions that its contract names.
 ghost use Rattle.std.specs.Prelude.{◌≡◌, [], ◌∷◌, map, true, false};
 ghost use Rattle.pe_base.specs.Tree.Places.{at, child_at, corner};
 ghost use Rattle.pe_base.specs.Tree.Curve.{digits_of};
 ghost use Rattle.pe_base.specs.Life.Carriers.{carriers};
 ghost use Rattle.pe_states.specs.Carriers.{carrier_numbers};
-ghost use Rattle.pe_states.specs.Marks.{is_first_old, is_first_new};
+ghost use Rattle.pe_states.specs.Ages.{is_first_old, is_first_new};
 
 use pe_base::{Digits, Dim, Kind, State};
-use pe_states::{Marks, carrier, first_touch, kind_of, last_touch, level_one, start_state};
+use pe_states::{Ages, carrier, first_touch, kind_of, last_touch, level_one, start_state};
 use std::test::Fail;
 
 // The corners of the child at the middle left of a cell of the plane, and of the child in the middle.
@@ -30,7 +30,7 @@ fn a_child_at_the_left(rt: HostRuntime) -> Result<(), Fail> {
     let dim = Dim::new(2).ok_or("a dimension")?;
     let digits = Digits { k: [0, 1, 0, 0] };
     // The parent's corner 2 is old, and its corner 1 is new.
-    let parents = Marks::new(4, 2);
+    let parents = Ages::new(4, 2);
     let child = parents.carried(dim, digits);
     assert!(rt; child == parents.row(dim, digits).of_row(dim, digits));
     for corner in 0..4 {
@@ -42,10 +42,10 @@ fn a_child_at_the_left(rt: HostRuntime) -> Result<(), Fail> {
 }
 
 #[test]
-fn marks_one_by_one(rt: HostRuntime) {
-    let marks = Marks::new(0, 0).with(2, true, false).with(1, false, true);
-    assert!(rt; marks == Marks::new(4, 2));
-    assert!(rt; marks.any() == (true, true));
+fn ages_one_by_one(rt: HostRuntime) {
+    let ages = Ages::new(0, 0).with(2, true, false).with(1, false, true);
+    assert!(rt; ages == Ages::new(4, 2));
+    assert!(rt; ages.any() == (true, true));
 }
 
 #[test]
@@ -54,7 +54,7 @@ fn level_one_of_the_plane(rt: HostRuntime) -> Result<(), Fail> {
     let digits = Digits { k: [0, 2, 0, 0] };
     assert!(rt; level_one(dim, digits, 1, 1) == (false, true));
     assert!(rt; level_one(dim, digits, 1, 2) == (true, true));
-    assert!(rt; Marks::level_one(dim, digits, 2).at(3) == (false, false));
+    assert!(rt; Ages::level_one(dim, digits, 2).at(3) == (false, false));
     Ok(())
 }
 

@@ -1,5 +1,4 @@
 //! A stream to measure with.
-ghost use Rattle.std.specs.Prelude.{◌≤◌};
 
 use std::alloc::{AllocError, Global};
 

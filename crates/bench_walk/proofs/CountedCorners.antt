@@ -7,7 +7,7 @@ use Rattle.pe_stacks.specs.declared.record.Vertex.{Vertex}
 use Rattle.pe_stacks.specs.Corners.{CornerList, IsFull}
 use Rattle.pe_stacks.specs.declared.quad.Quad.{Quad}
 use Rattle.pe_stacks.specs.Quads.{quad_of, set_quad, quad_at, with_quad}
-use Rattle.pe_mapping.specs.Sights.{seen_vertex, seen_corners}
+use Rattle.pe_stacks.specs.Sights.{seen_vertex, seen_corners}
 use Rattle.bench_walk.specs.Counting.{fields_numbers, counted_vertex}
 use Rattle.bench_walk.specs.Slots.{counted_slot, counted_quad, counted_corners}
 

@@ -1,5 +1,5 @@
 -- Events at cells whose corners are counted.
-use Rattle.std.proofs.Common.{◌≡◌, ℕ, None, refl}
+use Rattle.std.proofs.Common.{◌≡◌, ℕ, Ok, refl}
 use Rattle.pe_base.specs.declared.fields.Fields.{Fields}
 use Rattle.pe_base.specs.declared.place.Place.{Place}
 use Rattle.pe_base.specs.declared.event.Event.{Event}
@@ -9,9 +9,9 @@ use Rattle.pe_stacks.specs.declared.record.Vertex.{Vertex}
 use Rattle.pe_stacks.specs.declared.record.CellRec.{CellRec}
 use Rattle.pe_stacks.specs.Corners.{CornerList}
 use Rattle.pe_mapping.specs.Held.{Held}
-use Rattle.pe_mapping.specs.Sights.{cell_sight}
-use Rattle.pe_mapping.specs.Answers.{IsOutcome}
-use Rattle.pe_mapping.proofs.Texts.{adds-nothing}
+use Rattle.pe_stacks.specs.Sights.{cell_sight}
+use Rattle.pe_mapping.specs.Answers.{Answers}
+use Rattle.pe_base.proofs.Calls.Texts.{adds-nothing}
 use Rattle.bench_walk.specs.declared.sphere.Sphere.{Sphere}
 use Rattle.bench_walk.specs.Counting.{fields_numbers, counted}
 use Rattle.bench_walk.specs.Slots.{counted_corners}
@@ -22,7 +22,7 @@ use Rattle.bench_walk.proofs.CountedCorners.{seen_counted}
 
 module _ (place : Place) (corners after parents : CornerList (Vertex Fields)) (parent : CellRec Fields) where
   pub regular_enters : (held : Held ℕ) (event : Event) (cell : CellRec Fields) → event ≡ EnterCell → after ≡ counted_corners corners
-      → IsOutcome (regular.effect_of event held.list (cell_sight fields_numbers place cell corners parents parent)) None held held (cell_sight fields_numbers place cell after parents parent)
+      → Answers (regular.effect_of event held.list (cell_sight fields_numbers place cell corners parents parent)) held held (cell_sight fields_numbers place cell after parents parent) (Ok tt)
   regular_enters held event cell is same = rw (is, same, seen_counted corners) (record { fault = refl; seen = refl; list = refl; told = adds-nothing held.told })
 
   pub regular_leaves : (greatest : ℕ) (cell : CellRec Fields) → after ≡ counted_corners corners
@@ -30,7 +30,7 @@ module _ (place : Place) (corners after parents : CornerList (Vertex Fields)) (p
   regular_leaves greatest cell same = rw (same, seen_counted corners) (regular_entered greatest (cell_sight fields_numbers place cell corners parents parent))
 
   pub ring_enters : (held : Held Sphere) (event : Event) (traversal : ℕ) (cell left : CellRec Fields) → event ≡ EnterCell → after ≡ counted_corners corners → left.payload.a ≡ counted cell.payload.a
-      → IsOutcome (ring.effect_of held.plan event traversal held.list (cell_sight fields_numbers place cell corners parents parent)) None held held (cell_sight fields_numbers place left after parents parent)
+      → Answers (ring.effect_of held.plan event traversal held.list (cell_sight fields_numbers place cell corners parents parent)) held held (cell_sight fields_numbers place left after parents parent) (Ok tt)
   ring_enters held event traversal cell left is same own = rw (is, same, seen_counted corners, own) (record { fault = refl; seen = refl; list = refl; told = adds-nothing held.told })
 
   pub ring_leaves : (greatest : ℕ) (cell left : CellRec Fields) → after ≡ counted_corners corners → left.payload.a ≡ counted cell.payload.a

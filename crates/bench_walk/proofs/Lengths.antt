@@ -3,7 +3,7 @@ use Rattle.std.proofs.Common.{◌≡◌, ℕ, ◌+◌, ◌-◌, ◌*◌, ◌^◌
 use Rattle.std.proofs.Math.Nat.{mul-le-mul, mul-le-mul_right, pow-le-pow_right}
 use Rattle.std.proofs.lemmas.Nat.{pow-add}
 use Rattle.pe_base.specs.declared.place.Place.{Place}
-use Rattle.pe_mapping.specs.Moments.{IsBelowRoot}
+use Rattle.pe_base.specs.Acts.Moments.{IsBelowRoot}
 
 -- a width
 pub width_few : (levels : ℕ) → levels ≤ 18 → 3 ^ levels ≤ 387420489

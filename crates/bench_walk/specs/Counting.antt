@@ -3,8 +3,8 @@ use Rattle.std.specs.Prelude.{ℤ, pos, ◌+ℤ◌, List, [], ◌∷◌, None}
 use Rattle.std.specs.Int.{w64, saturate_signed}
 use Rattle.pe_base.specs.declared.fields.Fields.{Fields}
 use Rattle.pe_base.specs.Acts.Payloads.{zeros}
-use Rattle.pe_base.specs.Acts.Effects.{VertexRecord, Seen, Fresh, Outcome}
-use Rattle.pe_mapping.specs.Sights.{Numbers}
+use Rattle.pe_base.specs.Acts.Effects.{SeenVertex, Seen, Fresh, Outcome}
+use Rattle.pe_stacks.specs.Sights.{Numbers}
 
 -- payloads as lists of numbers
 abbrev pub fields_numbers : Numbers Fields Fields
@@ -18,7 +18,7 @@ abbrev pub counted : List ℤ → List ℤ
 counted [] = []
 counted (n ∷ ns) = one_more n ∷ ns
 
-abbrev pub counted_vertex : VertexRecord → VertexRecord
+abbrev pub counted_vertex : SeenVertex → SeenVertex
 counted_vertex vertex = record vertex { numbers = counted vertex.numbers }
 
 -- eight zeros, and the mapping's list as it was

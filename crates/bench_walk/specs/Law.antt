@@ -12,8 +12,8 @@ use Rattle.pe_base.specs.declared.state.State.{State}
 use Rattle.pe_base.specs.declared.state.State.TheVariants.{Unrefined, RefinementTriggered, Refining, Refined, EraseTriggered, Erasing}
 use Rattle.pe_base.specs.Life.States.{is_stored, refined_state, erased_state}
 use Rattle.pe_base.specs.Acts.Payloads.{zeros}
-use Rattle.pe_base.specs.Acts.Effects.{VertexRecord, Seen, MayBecome, IsTriggered, AreTriggered, IsTriggeredIfAny, AreBoth, MayLeave, AreLawful}
-use Rattle.pe_mapping.proofs.Lawful.{all_triggered_same, any_triggered_same, both_same, leaves_same}
+use Rattle.pe_base.specs.Acts.Effects.{SeenVertex, Seen, MayBecome, IsTriggered, AreTriggered, IsTriggeredIfAny, AreBoth, MayLeave, AreLawful}
+use Rattle.pe_base.proofs.Lawful.{all_triggered_same, any_triggered_same, both_same, leaves_same}
 use Rattle.bench_walk.specs.declared.sphere.Sphere.{Sphere}
 use Rattle.bench_walk.specs.declared.mill.Wheel.{Wheel}
 use Rattle.bench_walk.specs.Counting.{counted, counted_vertex, leaving}
@@ -25,7 +25,7 @@ all_zeros : All (λ n. n ≡ pos 0) zeros
 all_zeros = All-replicate (λ n. n ≡ pos 0) 8 (pos 0) refl
 
 -- vertices that are counted
-pub all_counted : (greatest level : ℕ) (vertices : List VertexRecord) → AreTriggered greatest level vertices (map counted_vertex vertices)
+pub all_counted : (greatest level : ℕ) (vertices : List SeenVertex) → AreTriggered greatest level vertices (map counted_vertex vertices)
 all_counted greatest level [] = tt
 all_counted greatest level (vertex ∷ vertices) = (record { kind = refl; state = inl refl }, all_counted greatest level vertices)
 
@@ -66,10 +66,10 @@ state_asked sphere traversal place kind state =
           (if b then refined_state place.level sphere.greatest kind state else erased_state kind state)) [ true ↦ inr (inl refl) | false ↦ inr (inr refl) ]
     ]
 
-pub ring_asked : (sphere : Sphere) (traversal : ℕ) (place : Place) (vertex : VertexRecord) → IsTriggered sphere.greatest place.level vertex (ring.asked sphere traversal place vertex)
+pub ring_asked : (sphere : Sphere) (traversal : ℕ) (place : Place) (vertex : SeenVertex) → IsTriggered sphere.greatest place.level vertex (ring.asked sphere traversal place vertex)
 ring_asked sphere traversal place vertex = record { kind = refl; state = state_asked sphere traversal place vertex.kind vertex.state }
 
-ring_asked_if : (sphere : Sphere) (traversal : ℕ) (place : Place) (vertex : Option VertexRecord) → IsTriggeredIfAny sphere.greatest place.level vertex (option_map (ring.asked sphere traversal place) vertex)
+ring_asked_if : (sphere : Sphere) (traversal : ℕ) (place : Place) (vertex : Option SeenVertex) → IsTriggeredIfAny sphere.greatest place.level vertex (option_map (ring.asked sphere traversal place) vertex)
 ring_asked_if sphere traversal place None = tt
 ring_asked_if sphere traversal place (Some vertex) = ring_asked sphere traversal place vertex
 
@@ -137,14 +137,14 @@ state_turned greatest level sum other kind state =
     ]
 
 -- a vertex that is asked
-pub mill_asked : (wheel : Wheel) (traversal : ℕ) (place : Place) (vertex : VertexRecord) (numbers : List ℤ)
+pub mill_asked : (wheel : Wheel) (traversal : ℕ) (place : Place) (vertex : SeenVertex) (numbers : List ℤ)
     → IsTriggered wheel.greatest place.level vertex (mill.asked wheel traversal place (record vertex { numbers = numbers }))
 mill_asked wheel traversal place vertex numbers = record {
   kind = refl;
   state = state_turned wheel.greatest place.level (mill.sum_of wheel.number place) (mill.sum_of wheel.number place + traversal) vertex.kind vertex.state;
 }
 
-mill-touched : (wheel : Wheel) (traversal : ℕ) (list : List ℤ) (seen : Seen) (vertex : Option VertexRecord) → seen.vertex ≡ vertex
+mill-touched : (wheel : Wheel) (traversal : ℕ) (list : List ℤ) (seen : Seen) (vertex : Option SeenVertex) → seen.vertex ≡ vertex
     → MayLeave wheel.greatest seen (mill.touched wheel traversal list seen vertex).seen
 mill-touched wheel traversal list seen None is = leaves_same wheel.greatest seen
 mill-touched wheel traversal list seen (Some vertex) is =

@@ -11,7 +11,7 @@ use Rattle.pe_base.specs.declared.state.State.{State}
 use Rattle.pe_base.specs.declared.kind.Kind.{Kind}
 use Rattle.pe_base.specs.Life.States.{refined_state, erased_state}
 use Rattle.pe_base.specs.Lines.{line}
-use Rattle.pe_base.specs.Acts.Effects.{VertexRecord, Seen, Outcome, Overflow, Rules}
+use Rattle.pe_base.specs.Acts.Effects.{SeenVertex, Seen, Outcome, Overflow, Rules}
 use Rattle.bench_walk.specs.declared.mill.Wheel.{Wheel}
 use Rattle.bench_walk.specs.Counting.{eight_zeros, leaving}
 
@@ -39,12 +39,12 @@ refined_by sum level greatest kind state = if sum % 4 == 0 then refined_state le
 abbrev pub erased_by : ℕ → Kind → State → State
 erased_by sum kind state = if sum % 9 == 0 then erased_state kind state else state
 
-abbrev pub asked : Wheel → ℕ → Place → VertexRecord → VertexRecord
+abbrev pub asked : Wheel → ℕ → Place → SeenVertex → SeenVertex
 asked wheel traversal place vertex = record vertex {
   state = erased_by (sum_of wheel.number place + traversal) vertex.kind (refined_by (sum_of wheel.number place) place.level wheel.greatest vertex.kind vertex.state);
 }
 
-abbrev pub touched : Wheel → ℕ → List ℤ → Seen → Option VertexRecord → Outcome
+abbrev pub touched : Wheel → ℕ → List ℤ → Seen → Option SeenVertex → Outcome
 touched wheel traversal list seen None = leaving list seen
 touched wheel traversal list seen (Some vertex) =
     if is_last vertex.numbers then failing list seen

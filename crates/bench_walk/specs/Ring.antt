@@ -11,7 +11,7 @@ use Rattle.pe_base.specs.declared.event.Event.TheVariants.{TouchVertexFirstTime,
 use Rattle.pe_base.specs.declared.state.State.{State}
 use Rattle.pe_base.specs.declared.kind.Kind.{Kind}
 use Rattle.pe_base.specs.Life.States.{refined_state, erased_state}
-use Rattle.pe_base.specs.Acts.Effects.{VertexRecord, Seen, Outcome, Rules}
+use Rattle.pe_base.specs.Acts.Effects.{SeenVertex, Seen, Outcome, Rules}
 use Rattle.bench_walk.specs.declared.sphere.Sphere.{Sphere}
 use Rattle.bench_walk.specs.Counting.{counted, counted_vertex, eight_zeros, leaving}
 
@@ -58,7 +58,7 @@ asked_state sphere traversal place kind state =
     else if is_near sphere traversal place then refined_state place.level sphere.greatest kind state
     else erased_state kind state
 
-abbrev pub asked : Sphere → ℕ → Place → VertexRecord → VertexRecord
+abbrev pub asked : Sphere → ℕ → Place → SeenVertex → SeenVertex
 asked sphere traversal place vertex = record vertex { state = asked_state sphere traversal place vertex.kind vertex.state }
 
 -- after a cell is entered

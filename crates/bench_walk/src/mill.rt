@@ -1,8 +1,9 @@
 ghost use Rattle.std.specs.Prelude.{◌≡◌, ◌+◌, ◌≤◌, [], ◌∷◌, Ok, Err, OnOk, OnErr, if◌then◌else◌};
 ghost use Rattle.pe_base.specs.declared.stop.Stop.TheVariants.{Overflow};
-ghost use Rattle.pe_io.specs.Counters.{Rises};
-ghost use Rattle.pe_io.specs.Sink.{Appends, AppendsPrefix};
-ghost use Rattle.pe_mapping.specs.Moments.{IsTraversal, IsBelowRoot};
+ghost use Rattle.pe_base.specs.Calls.Counters.{Rises};
+ghost use Rattle.pe_base.specs.Calls.Told.{Appends};
+ghost use Rattle.pe_io.specs.Sink.{AppendsPrefix};
+ghost use Rattle.pe_base.specs.Acts.Moments.{IsTraversal, IsBelowRoot};
 ghost use Rattle.bench_walk.specs.Mill.{is_last, raised, entered_line, sum_of, erased_by, refined_by};
 
 use pe_base::{Dim, Effects, Event, Fields, Place, Stop};

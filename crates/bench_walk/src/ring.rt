@@ -1,6 +1,6 @@
 ghost use Rattle.std.specs.Prelude.{◌≡◌, ◌*◌, ◌≤◌, ◌<◌, ◌^◌, IfSome, slice_index};
 ghost use Rattle.std.specs.Int.{abs_diff};
-ghost use Rattle.pe_mapping.specs.Moments.{IsTraversal, IsBelowRoot};
+ghost use Rattle.pe_base.specs.Acts.Moments.{IsTraversal, IsBelowRoot};
 ghost use Rattle.bench_walk.specs.Ring.{squared, width, distance, is_near, asked_state};
 
 use crate::corners::{count, count_corners};

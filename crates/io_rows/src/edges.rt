@@ -2,7 +2,7 @@
 ghost use Rattle.std.specs.Prelude.{◌≤◌, [], ◌∷◌, codes, decimal, IfOk, OnOk};
 ghost use Rattle.std.specs.Fmt.{signed_decimal};
 ghost use Rattle.pe_base.specs.Lines.{line};
-ghost use Rattle.pe_io.specs.Sink.{Appends};
+ghost use Rattle.pe_base.specs.Calls.Told.{Appends};
 
 use pe_io::{
     FileShelf, Got, Line, MemShelf, MemSink, PutFault, Shelf, Sink, SinkFailed, StdSink, SureShelf,

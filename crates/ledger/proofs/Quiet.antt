@@ -1,5 +1,5 @@
 -- What the mapping for tests does: the corner that it erases, and the events at which it does nothing.
-use Rattle.std.proofs.Common.{◌≡◌, ℕ, ℤ, List, [], ◌∷◌, Option, None, Some, refl, sym, ap}
+use Rattle.std.proofs.Common.{◌≡◌, ℕ, ℤ, List, [], ◌∷◌, Option, None, Some, Ok, refl, sym, ap}
 use Rattle.std.specs.Option.{option_map_or}
 use Rattle.pe_base.specs.declared.event.Event.{Event}
 use Rattle.pe_base.specs.declared.event.Event.TheVariants.{TouchVertexFirstTime, EnterCell}
@@ -9,11 +9,11 @@ use Rattle.pe_base.specs.Acts.Effects.{Seen, Outcome}
 use Rattle.pe_base.specs.Life.States.{erased_state}
 use Rattle.pe_stacks.specs.declared.record.Vertex.{Vertex as Held_vertex}
 use Rattle.pe_stacks.specs.Corners.{CornerList, vertex_at, with_vertex}
-use Rattle.pe_mapping.specs.Sights.{seen_vertex, seen_corners}
+use Rattle.pe_stacks.specs.Sights.{seen_vertex, seen_corners}
 use Rattle.pe_mapping.specs.Held.{Held, outcome_of}
-use Rattle.pe_mapping.specs.Answers.{IsOutcome}
+use Rattle.pe_mapping.specs.Answers.{Answers}
 use Rattle.ledger.specs.Effects.{nothing_done, first_erased, ledger_rules}
-use Rattle.pe_mapping.proofs.Texts.{adds-nothing}
+use Rattle.pe_base.proofs.Calls.Texts.{adds-nothing}
 
 -- a vertex that was asked to erase
 abbrev erased : {P : Type 0} → Held_vertex P → Held_vertex P
@@ -30,7 +30,7 @@ module _ {P : Type 0} (numbers : P → List ℤ) where
     first (None ∷ places) is = absurd cc
     first (Some w ∷ places) is = ap (λ there. first_erased (seen_vertex numbers (option_map_or (λ x. x) there v) ∷ seen_corners numbers (record corners { slots = places }))) (sym is)
 
-quiet : (held : Held ℕ) (event : Event) (traversal : ℕ) (seen : Seen) → outcome_of ledger_rules held event traversal seen ≡ nothing_done held.list seen None → IsOutcome (outcome_of ledger_rules held event traversal seen) None held held seen
+quiet : (held : Held ℕ) (event : Event) (traversal : ℕ) (seen : Seen) → outcome_of ledger_rules held event traversal seen ≡ nothing_done held.list seen None → Answers (outcome_of ledger_rules held event traversal seen) held held seen (Ok tt)
 quiet held event traversal seen is = record {
   fault = ap (λ (o : Outcome). o.fault) is;
   seen = ap (λ (o : Outcome). o.seen) is;
@@ -43,7 +43,7 @@ nothing_at_vertices held TouchVertexFirstTime traversal seen sort other = absurd
 nothing_at_vertices held EnterCell traversal seen sort other = absurd cc
 nothing_at_vertices held _ traversal seen sort other = refl
 
-pub quiet_at_vertices : (held : Held ℕ) (event : Event) (traversal : ℕ) (seen : Seen) → sort_of event ≡ Vertex → (event ≡ TouchVertexFirstTime → ⊥) → IsOutcome (outcome_of ledger_rules held event traversal seen) None held held seen
+pub quiet_at_vertices : (held : Held ℕ) (event : Event) (traversal : ℕ) (seen : Seen) → sort_of event ≡ Vertex → (event ≡ TouchVertexFirstTime → ⊥) → Answers (outcome_of ledger_rules held event traversal seen) held held seen (Ok tt)
 quiet_at_vertices held event traversal seen sort other = quiet held event traversal seen (nothing_at_vertices held event traversal seen sort other)
 
 nothing_at_cells : (held : Held ℕ) (event : Event) (traversal : ℕ) (seen : Seen) → sort_of event ≡ Cell → (event ≡ EnterCell → ⊥) → outcome_of ledger_rules held event traversal seen ≡ nothing_done held.list seen None
@@ -51,5 +51,5 @@ nothing_at_cells held EnterCell traversal seen sort other = absurd (other refl)
 nothing_at_cells held TouchVertexFirstTime traversal seen sort other = absurd cc
 nothing_at_cells held _ traversal seen sort other = refl
 
-pub quiet_at_cells : (held : Held ℕ) (event : Event) (traversal : ℕ) (seen : Seen) → sort_of event ≡ Cell → (event ≡ EnterCell → ⊥) → IsOutcome (outcome_of ledger_rules held event traversal seen) None held held seen
+pub quiet_at_cells : (held : Held ℕ) (event : Event) (traversal : ℕ) (seen : Seen) → sort_of event ≡ Cell → (event ≡ EnterCell → ⊥) → Answers (outcome_of ledger_rules held event traversal seen) held held seen (Ok tt)
 quiet_at_cells held event traversal seen sort other = quiet held event traversal seen (nothing_at_cells held event traversal seen sort other)

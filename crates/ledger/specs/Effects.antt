@@ -5,7 +5,7 @@ use Rattle.std.specs.Option.{option_map}
 use Rattle.pe_base.specs.declared.event.Event.{Event}
 use Rattle.pe_base.specs.declared.event.Event.TheVariants.{TouchVertexFirstTime, EnterCell}
 use Rattle.pe_base.specs.Life.States.{refined_state, erased_state}
-use Rattle.pe_base.specs.Acts.Effects.{VertexRecord, Seen, Outcome, Fault, Overflow, Rules}
+use Rattle.pe_base.specs.Acts.Effects.{SeenVertex, Seen, Outcome, Fault, Overflow, Rules}
 
 -- the greatest number
 abbrev pub last_number : ℕ
@@ -27,14 +27,14 @@ is_at_end (n ∷ ns) = is_last n
 abbrev pub nothing_done : List ℤ → Seen → Option Fault → Outcome
 nothing_done list seen end = record { seen = seen; list = list; text = []; fault = end }
 
-abbrev pub touched : ℕ → ℕ → VertexRecord → VertexRecord
+abbrev pub touched : ℕ → ℕ → SeenVertex → SeenVertex
 touched greatest level vertex = record vertex { state = refined_state level greatest vertex.kind vertex.state; numbers = map raised vertex.numbers }
 
-abbrev pub first_erased : List VertexRecord → List VertexRecord
+abbrev pub first_erased : List SeenVertex → List SeenVertex
 first_erased [] = []
 first_erased (vertex ∷ vertices) = record vertex { state = erased_state vertex.kind vertex.state } ∷ vertices
 
-abbrev pub touch : ℕ → List ℤ → Seen → Option VertexRecord → Outcome
+abbrev pub touch : ℕ → List ℤ → Seen → Option SeenVertex → Outcome
 touch greatest list seen None = nothing_done list seen None
 touch greatest list seen (Some vertex) =
     if is_at_end vertex.numbers then nothing_done list seen (Some Overflow)

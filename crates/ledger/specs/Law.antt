@@ -5,11 +5,11 @@ use Rattle.std.specs.Option.{option_map}
 use Rattle.std.proofs.lemmas.List.Elements.{All-cons}
 use Rattle.pe_base.specs.declared.event.Event.{Event}
 use Rattle.pe_base.specs.declared.event.Event.TheVariants.{TouchVertexFirstTime, EnterCell}
-use Rattle.pe_base.specs.Acts.Effects.{VertexRecord, Seen, Overflow, AreTriggered, AreBoth, MayLeave, AreLawful}
+use Rattle.pe_base.specs.Acts.Effects.{SeenVertex, Seen, Overflow, AreTriggered, AreBoth, MayLeave, AreLawful}
 use Rattle.ledger.specs.Effects.{is_at_end, nothing_done, touched, touch, first_erased, effect_of, ledger_rules}
-use Rattle.pe_mapping.proofs.Lawful.{all_triggered_same, any_triggered_same, both_same, leaves_same}
+use Rattle.pe_base.proofs.Lawful.{all_triggered_same, any_triggered_same, both_same, leaves_same}
 
-touch-lawful : (greatest : ℕ) (list : List ℤ) (seen : Seen) (vertex : Option VertexRecord) → seen.vertex ≡ vertex → MayLeave greatest seen (touch greatest list seen vertex).seen
+touch-lawful : (greatest : ℕ) (list : List ℤ) (seen : Seen) (vertex : Option SeenVertex) → seen.vertex ≡ vertex → MayLeave greatest seen (touch greatest list seen vertex).seen
 touch-lawful greatest list seen None is = leaves_same greatest seen
 touch-lawful greatest list seen (Some vertex) is =
     elim (is_at_end vertex.numbers) as (λ b. MayLeave greatest seen (if b then nothing_done list seen (Some Overflow) else nothing_done list (record seen { vertex = Some (touched greatest seen.place.level vertex) }) None).seen) [
@@ -23,7 +23,7 @@ touch-lawful greatest list seen (Some vertex) is =
       }
     ]
 
-pub first_erased_lawful : (greatest level : ℕ) (vertices : List VertexRecord) → AreTriggered greatest level vertices (first_erased vertices)
+pub first_erased_lawful : (greatest level : ℕ) (vertices : List SeenVertex) → AreTriggered greatest level vertices (first_erased vertices)
 first_erased_lawful greatest level [] = tt
 first_erased_lawful greatest level (vertex ∷ vertices) = (record { kind = refl; state = inr (inr refl) }, all_triggered_same greatest level vertices)
 

@@ -1,11 +1,12 @@
 //! Callers that know a mapping by its bound alone, and what they see of the ledger.
 ghost use Rattle.std.specs.Prelude.{◌≡◌, ℕ, ◌^◌, ◌++◌, OnOk, OnErr, None};
 ghost use Rattle.pe_base.specs.declared.event.Event.TheVariants.{BeginIteration, CreateInnerVertex, TouchVertexFirstTime, EnterCell};
-ghost use Rattle.pe_base.specs.Acts.Effects.{Outcome};
+ghost use Rattle.pe_base.specs.Acts.Effects.{Outcome, plain_sight};
 ghost use Rattle.pe_stacks.specs.Corners.{IsFull};
-ghost use Rattle.pe_mapping.specs.Held.{outcome_of, Adds, AddsPart, Keeps};
-ghost use Rattle.pe_mapping.specs.Sights.{plain_sight, vertex_sight, cell_sight};
-ghost use Rattle.pe_mapping.specs.Moments.{IsTraversal, IsBelowRoot};
+ghost use Rattle.pe_mapping.specs.Held.{outcome_of, Keeps};
+ghost use Rattle.pe_base.specs.Calls.Told.{Adds, AddsPart};
+ghost use Rattle.pe_stacks.specs.Sights.{vertex_sight, cell_sight};
+ghost use Rattle.pe_base.specs.Acts.Moments.{IsTraversal, IsBelowRoot};
 
 use crate::{Ledger, Number};
 use pe_base::{Dim, Event, Kind, Place, State, Stop};

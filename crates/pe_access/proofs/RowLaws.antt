@@ -1,6 +1,7 @@
 -- The numbers of a row, and of a child in it.
 use Rattle.std.proofs.Common.{◌≡◌, ℕ, zero, suc, ◌+◌, ◌-◌, ◌/◌, ◌%◌, ◌^◌, ◌<◌, ◌≤◌, List, [], ◌∷◌, take, set, length, get_or, max, refl, ap, ap₂, ◌∙◌, arith, Option, Some, None, sym}
 use Rattle.std.specs.Prelude.{Bool, true, false, ◌==◌, if◌then◌else◌, slice_index, slice_get}
+use Rattle.pe_base.specs.Limits.{most_levels}
 use Rattle.pe_base.specs.declared.place.Place.{Place}
 use Rattle.pe_base.specs.declared.place.Digits.{Digits}
 use Rattle.pe_base.specs.declared.way.Way.{Way}
@@ -181,7 +182,7 @@ along_is axes way cell state i h within =
     ap (λ xs. slice_get xs i) h.numbers ∙ slice_get-axes_from 0 h.extents i (extent_of axes way cell i) (h.held.grid_axes i within) ∙ ap (λ (n : ℕ). Some (axis_of n (extent_of axes way cell i))) (omega arith)
 
 -- children of a row have one front
-pub one_front : (axes : ℕ) (way : Way) (cell : Place) (digits digits' : Digits) (state state' : CellState) → IsCellPlace axes cell → cell.level < 20 → IsDigits axes digits → IsDigits axes digits'
+pub one_front : (axes : ℕ) (way : Way) (cell : Place) (digits digits' : Digits) (state state' : CellState) → IsCellPlace axes cell → cell.level < most_levels → IsDigits axes digits → IsDigits axes digits'
     → ((i : ℕ) → i < axes - 1 → slice_index digits.k i ≡ slice_index digits'.k i)
     → StandsFor axes way (child_at cell digits) state → StandsFor axes way (child_at cell digits') state' → front_of state ≡ front_of state'
 one_front axes way cell digits digits' state state' place level-below d d' same h h' =

@@ -2,6 +2,7 @@
 use Rattle.std.proofs.Common.{◌≡◌, ℕ, zero, suc, ◌+◌, ◌-◌, ◌%◌, ◌^◌, ◌<◌, ◌≤◌, Bool, List, [], ◌∷◌, ◌++◌, map, take, drop, length, Option, Some, sym, ap, ◌∙◌, subst, refl, inl, inr, arith, add-one}
 use Rattle.std.specs.Prelude.{◌==◌, if◌then◌else◌, sum, slice_index, slice_get, IfSome}
 use Rattle.std.proofs.lemmas.Bool.{cases_lt}
+use Rattle.pe_base.specs.Limits.{most_levels}
 use Rattle.pe_base.specs.declared.place.Place.{Place}
 use Rattle.pe_base.specs.declared.place.Digits.{Digits}
 use Rattle.pe_base.specs.declared.way.Way.{Way}
@@ -69,7 +70,7 @@ extents_at-idle level turns (p ∷ ps) (k ∷ ks) (extent ∷ extents) zero e h 
 extents_at-idle level turns (p ∷ ps) (k ∷ ks) (extent ∷ extents) (suc axis) e h = extents_at-idle level (turns + k) ps ks extents axis e h
 
 -- the extents at a child's digits hold the child
-pub HoldsCell-child : (axes : ℕ) (way : Way) (cell : Place) (digits : Digits) (extents : List Extent) → axes ≤ 4 → IsCellPlace axes cell → cell.level < 20 → IsDigits axes digits → length extents ≡ 4 → HoldsCell axes way cell extents → HoldsCell axes way (child_at cell digits) (extents_at (cell.level + 1) (way_turns way + sum cell.pos) cell.pos digits.k extents)
+pub HoldsCell-child : (axes : ℕ) (way : Way) (cell : Place) (digits : Digits) (extents : List Extent) → axes ≤ 4 → IsCellPlace axes cell → cell.level < most_levels → IsDigits axes digits → length extents ≡ 4 → HoldsCell axes way cell extents → HoldsCell axes way (child_at cell digits) (extents_at (cell.level + 1) (way_turns way + sum cell.pos) cell.pos digits.k extents)
 HoldsCell-child axes way cell digits extents few place level-below d long h =
     let level = cell.level in
     let pos = cell.pos in
@@ -135,7 +136,7 @@ extents_at-alike level turns (p ∷ ps) (k ∷ ks) (k' ∷ ks') (extent ∷ exte
     ∙ extents_at-alike level (turns + k') ps ks ks' extents axis (omega arith) (λ i h. same (suc i) (omega arith))
 
 -- a child's extent along an axis, from its parent's position
-extent_of-child : (axes : ℕ) (way : Way) (cell : Place) (digits : Digits) (axis : ℕ) → axes ≤ 4 → IsCellPlace axes cell → cell.level < 20 → IsDigits axes digits → axis < axes
+extent_of-child : (axes : ℕ) (way : Way) (cell : Place) (digits : Digits) (axis : ℕ) → axes ≤ 4 → IsCellPlace axes cell → cell.level < most_levels → IsDigits axes digits → axis < axes
     → slice_get (extents_at (cell.level + 1) (way_turns way + sum cell.pos) cell.pos digits.k (extents_of way cell.level cell.pos)) axis ≡ Some (extent_of axes way (child_at cell digits) axis)
 extent_of-child axes way cell digits axis few place level-below d within =
     let level = cell.level in
@@ -149,7 +150,7 @@ extent_of-child axes way cell digits axis few place level-below d within =
     ap (λ xs. slice_get xs axis) next ∙ held axes way (child_at cell digits) axis few (IsCellPlace-child_at axes cell digits place level-below d) within
 
 -- children whose digits agree up to an axis have one extent there
-pub extent_of-alike : (axes : ℕ) (way : Way) (cell : Place) (digits digits' : Digits) (axis : ℕ) → axes ≤ 4 → IsCellPlace axes cell → cell.level < 20 → IsDigits axes digits → IsDigits axes digits' → axis < axes
+pub extent_of-alike : (axes : ℕ) (way : Way) (cell : Place) (digits digits' : Digits) (axis : ℕ) → axes ≤ 4 → IsCellPlace axes cell → cell.level < most_levels → IsDigits axes digits → IsDigits axes digits' → axis < axes
     → ((i : ℕ) → i ≤ axis → slice_index digits.k i ≡ slice_index digits'.k i) → extent_of axes way (child_at cell digits) axis ≡ extent_of axes way (child_at cell digits') axis
 extent_of-alike axes way cell digits digits' axis few place level-below d d' within same =
     let one : Some (extent_of axes way (child_at cell digits) axis) ≡ Some (extent_of axes way (child_at cell digits') axis) =

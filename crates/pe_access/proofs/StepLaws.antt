@@ -3,6 +3,7 @@ use Rattle.std.proofs.Common.{◌≡◌, ℕ, zero, suc, ◌+◌, ◌-◌, ◌<�
 use Rattle.std.specs.Prelude.{sum, sum_by, slice_index, slice_get, IfSome}
 use Rattle.std.proofs.lemmas.Bool.{cases_lt}
 use Rattle.std.proofs.lemmas.Option.{slice_get_within}
+use Rattle.pe_base.specs.Limits.{most_levels}
 use Rattle.pe_base.specs.declared.place.Place.{Place}
 use Rattle.pe_base.specs.declared.place.Digits.{Digits}
 use Rattle.pe_base.specs.declared.way.Way.{Way}
@@ -65,7 +66,7 @@ last_extent axes next ks extents t before =
     child_extent next (t + before + bit_of (get_or extents (axes - 1) root_extent).odd) (slice_index ks (axes - 1)) (get_or extents (axes - 1) root_extent)
 
 -- the extent of the last axis is that of the child
-pub last_extent_is : (axes : ℕ) (way : Way) (cell : Place) (digits : Digits) (extents : List Extent) (t before : ℕ) → 2 ≤ axes → axes ≤ 4 → IsCellPlace axes cell → cell.level < 20 → IsDigits axes digits
+pub last_extent_is : (axes : ℕ) (way : Way) (cell : Place) (digits : Digits) (extents : List Extent) (t before : ℕ) → 2 ≤ axes → axes ≤ 4 → IsCellPlace axes cell → cell.level < most_levels → IsDigits axes digits
     → length extents ≡ 4 → HoldsCell axes way cell extents → t ≡ way_turns way + sum_by (λ extent. bit_of extent.odd) extents → BeforeLast axes digits.k before
     → last_extent axes (cell.level + 1) digits.k extents t before ≡ extent_of axes way (child_at cell digits) (axes - 1)
 last_extent_is axes way cell digits extents t before low high place level-below d long holds turns sums =
@@ -106,7 +107,7 @@ last_extent_is axes way cell digits extents t before low high place level-below 
     pick (suc (suc (suc (suc (suc axes))))) low high sums = absurd (omega arith)
 
 -- with that extent the extents hold the child
-pub HoldsCell-step : (axes : ℕ) (way : Way) (cell : Place) (from digits : Digits) (extents : List Extent) (last : Extent) → axes ≤ 4 → 2 ≤ axes → IsCellPlace axes cell → cell.level < 20 → IsDigits axes from → IsDigits axes digits
+pub HoldsCell-step : (axes : ℕ) (way : Way) (cell : Place) (from digits : Digits) (extents : List Extent) (last : Extent) → axes ≤ 4 → 2 ≤ axes → IsCellPlace axes cell → cell.level < most_levels → IsDigits axes from → IsDigits axes digits
     → ((i : ℕ) → i < axes - 1 → slice_index from.k i ≡ slice_index digits.k i) → HoldsCell axes way (child_at cell from) extents → last ≡ extent_of axes way (child_at cell digits) (axes - 1)
     → HoldsCell axes way (child_at cell digits) (set extents (axes - 1) last)
 HoldsCell-step axes way cell from digits extents last few low place level-below d' d same holds is =

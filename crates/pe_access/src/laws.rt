@@ -1,5 +1,6 @@
 //! Laws of the definitions. The functions do nothing.
 ghost use Rattle.std.specs.Prelude.{◌≡◌, ℕ, ◌-◌, ◌<◌, ◌≤◌, slice_index};
+ghost use Rattle.pe_base.specs.Limits.{most_levels};
 ghost use Rattle.pe_base.specs.declared.place.Place.{Place as APlace};
 ghost use Rattle.pe_base.specs.declared.place.Digits.{Digits as SomeDigits};
 ghost use Rattle.pe_base.specs.declared.way.Way.{Way as AWay};
@@ -19,7 +20,7 @@ pub fn order_around()
 
 /// The three children of a row, whose digits differ on the last axis alone, have one row of numbers.
 pub fn rows_of_children()
-    ensures { (axes : ℕ) (way : AWay) (cell : APlace) (digits digits' : SomeDigits) (state state' : State) → IsCellPlace axes cell → cell.level < 20
+    ensures { (axes : ℕ) (way : AWay) (cell : APlace) (digits digits' : SomeDigits) (state state' : State) → IsCellPlace axes cell → cell.level < most_levels
         → IsDigits axes digits → IsDigits axes digits' → ((i : ℕ) → i < axes - 1 → slice_index digits.k i ≡ slice_index digits'.k i)
         → StandsFor axes way (child_at cell digits) state → StandsFor axes way (child_at cell digits') state' → front_of state ≡ front_of state' }
 {}

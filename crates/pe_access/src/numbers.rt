@@ -1,4 +1,5 @@
 ghost use Rattle.std.specs.Prelude.{◌≡◌, ◌<◌, ◌≤◌, ◌==◌, if◌then◌else◌};
+ghost use Rattle.pe_base.specs.Limits.{most_levels};
 ghost use Rattle.pe_access.specs.Extents.{Extent, bit_of, child_extent};
 ghost use Rattle.pe_access.specs.Numbers.{axis_of, root_axis};
 
@@ -46,7 +47,7 @@ impl Axis {
     pub(crate) fn child(self, axis: u8, level: u8, turns: u8, k: u8) -> Axis
         requires axis { axis < 4 }
         requires level { 0 < level }
-        requires few { level ≤ 20 }
+        requires few { level ≤ most_levels }
         requires digit { k < 3 }
         ensures { (extent : Extent) → self ≡ axis_of axis extent → result ≡ axis_of axis (child_extent level turns k extent) }
     {

@@ -1,4 +1,5 @@
 ghost use Rattle.std.specs.Prelude.{◌≡◌, ℕ, ◌+◌, ◌-◌, ◌/◌, ◌%◌, ◌<◌, ◌^◌, max, slice_get, slice_index, Some};
+ghost use Rattle.pe_base.specs.Limits.{most_levels};
 ghost use Rattle.pe_base.specs.declared.place.Place.{Place as APlace};
 ghost use Rattle.pe_base.specs.declared.place.Digits.{Digits as SomeDigits};
 ghost use Rattle.pe_base.specs.declared.way.Way.{Way as AWay};
@@ -38,9 +39,9 @@ impl CellState {
         }
     }
 
-    /// The state of the child at these digits. The cell's level is below 20.
+    /// The state of the child at these digits. The cell's level is below `limits::MOST_LEVELS`.
     pub fn descend(&self, k: Digits) -> CellState
-        requires level { level_of self.now < 20 }
+        requires level { level_of self.now < most_levels }
         requires digits { IsDigits (axes_of self.now) k }
         ensures stands { (axes : ℕ) (way : AWay) (cell : APlace) → IsCellPlace axes cell → StandsFor axes way cell self.now
             → StandsFor axes way (child_at cell k) result }
@@ -54,7 +55,7 @@ impl CellState {
     #[inline(always)]
     pub fn child(&self, axes: u8, digits: Digits) -> CellState
         requires same { axes ≡ axes_of self.now }
-        requires level { level_of self.now < 20 }
+        requires level { level_of self.now < most_levels }
         requires digits { IsDigits (axes_of self.now) digits }
         ensures stands { (axes : ℕ) (way : AWay) (cell : APlace) → IsCellPlace axes cell → StandsFor axes way cell self.now
             → StandsFor axes way (child_at cell digits) result }
@@ -95,7 +96,7 @@ impl CellState {
     #[inline(always)]
     pub fn step(&self, axes: u8, child: &mut CellState, row: &mut Row, turns: u8, digits: Digits)
         requires same { axes ≡ axes_of self.now }
-        requires level { level_of self.now < 20 }
+        requires level { level_of self.now < most_levels }
         requires digits { IsDigits (axes_of self.now) digits }
         requires axes { IsDim (axes_of self.now) }
         requires turns { turns ≡ row_turns self.now digits }

@@ -7,13 +7,13 @@ use Rattle.pe_base.specs.declared.event.Event.{Event}
 use Rattle.pe_base.specs.declared.event.Event.TheVariants.{TouchVertexFirstTime, TouchVertexLastTime, CreateInnerVertex, CreateHangingVertex, DestroyVertex, DestroyHangingVertex}
 use Rattle.pe_base.specs.declared.kind.Kind.{Kind}
 use Rattle.pe_base.specs.declared.kind.Kind.TheVariants.{Kept, Born, Dying, Hanging}
-use Rattle.pe_base.specs.Acts.Effects.{VertexRecord, Seen, Outcome, Fault}
-use Rattle.pe_base.specs.Walk.Course.{Ending, done, halts, stuck, Course, and_then, from}
+use Rattle.pe_base.specs.Acts.Effects.{VertexRecord, seen_of, all_seen, Seen, Outcome, Fault}
+use Rattle.pe_base.specs.Walk.Course.{Ending, done, halts, stuck, Course, and_then, from, allowed}
 use Rattle.pe_base.specs.Walk.Core.{Setting, Family, fire, ended_by, fresh_vertex, read_vertex, load_touch, store_of, vertex_event}
 use Rattle.pe_stacks.specs.Holdings.{Holdings, Stack, new_stack, stack_count, stack_at, items_at, len_at, popped}
 use Rattle.pe_hang.specs.InHand.{map_holdings}
-use Rattle.pe_hang.specs.Moves.{allowed, may_rise, lend, give_up, top_of, pop, push}
-use Rattle.pe_hang.specs.Follows.{Fits, is_fit}
+use Rattle.pe_hang.specs.Moves.{may_rise, lend, give_up, top_of, pop, push}
+use Rattle.pe_base.specs.Calls.Follows.{Fits, is_fit}
 use Rattle.pe_hang.proofs.OnStacks.{stack_count-map, stack_at-map, len_at-map}
 use Rattle.pe_adapt.specs.Touches.{comes, load_as, goes, stack_or, store_as}
 use Rattle.pe_adapt.specs.Spots.{source_of}
@@ -34,7 +34,7 @@ allowed-fit false course is fits = absurd (let no : false ≡ true = is in cc)
 
 module _ {Plan : Type 0} (set : Setting Plan) where
   abbrev seen_at : Place → VertexRecord × Family → Seen
-  seen_at place it = record { place = place; vertex = Some it.0; cell = None; corners = []; parents = it.1.parents; parent = it.1.parent }
+  seen_at place it = record { place = place; vertex = Some (seen_of it.0); cell = None; corners = []; parents = all_seen it.1.parents; parent = it.1.parent }
 
   abbrev fire_of : Event → Place → VertexRecord × Family → Outcome
   fire_of event place it = set.rules.effect set.plan event set.traversal it.1.list (seen_at place it)

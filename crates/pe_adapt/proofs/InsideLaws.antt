@@ -19,7 +19,7 @@ use Rattle.pe_base.proofs.Tree.PlaceLaws.{length-bits}
 use Rattle.pe_base.proofs.Steps.CornerPlaces.{length-moved}
 use Rattle.pe_states.specs.Carriers.{carrier_numbers}
 use Rattle.pe_states.proofs.CarrierLaws.{carriers_within, carrier_numbers-below}
-use Rattle.pe_adapt.specs.Marked.{IsQuiet}
+use Rattle.pe_adapt.specs.Ages.{IsQuiet}
 use Rattle.pe_adapt.specs.Touches.{corner_number, state_in_hand}
 use Rattle.pe_adapt.proofs.KindLaws.{corner_number-corner, parent-cell}
 
@@ -164,9 +164,9 @@ carried-inside axes cell digits k its test within is deep fit child below quiet 
     let seen = λ (q : Place). passes test (state_in_hand parent its q) in
     let found = any-found (λ q. IsCorner q × IsClose q) seen (carriers vertex) carried (each-both IsCorner IsClose (carriers vertex) corners near) in
     let n = found.1.0.0 in
-    let marked : passes test (option_map (λ it. it.state) (slice_get its n)) ≡ true =
+    let aged : passes test (option_map (λ it. it.state) (slice_get its n)) ≡ true =
     sym (ap (λ j. passes test (option_map (λ it. it.state) (slice_get its j))) (ap (corner_number parent) found.1.0.2 ∙ corner_number-corner axes n parent within found.1.0.1 place.pos.four)) ∙ found.2 in
-    let inside = not-outside axes (corner axes parent n) within.1 place.level (λ out. absurd (let no : true ≡ false = sym marked ∙ quiet n found.1.0.1 out in cc)) in
+    let inside = not-outside axes (corner axes parent n) within.1 place.level (λ out. absurd (let no : true ≡ false = sym aged ∙ quiet n found.1.0.1 out in cc)) in
     corner-inside axes cell k (corner axes parent n) within is deep below inside (subst (λ q. IsNear q.pos vertex.pos) found.1.0.2 found.1.1) refl
 
 -- a corner that counts is inside
@@ -177,10 +177,10 @@ pub kind-inside : (axes traversal : ℕ) (cell : Place) (digits : Digits) (k : �
 kind-inside axes traversal cell digits k its within is deep fit child below quiet counts =
     by_level (cell.level == 1) refl
   where
-    by_marks : (a b : Bool) → is_carried is_old (state_in_hand (parent_of cell) its) (corner axes cell k) ≡ a → is_carried is_new (state_in_hand (parent_of cell) its) (corner axes cell k) ≡ b → (kind_from a b ≡ Hanging → ⊥) → IsInside axes (corner axes cell k)
-    by_marks true b is_old' is_new' counts = carried-inside axes cell digits k its is_old within is deep fit child below quiet.old is_old'
-    by_marks false true is_old' is_new' counts = carried-inside axes cell digits k its is_new within is deep fit child below quiet.new is_new'
-    by_marks false false is_old' is_new' counts = absurd (counts refl)
+    by_ages : (a b : Bool) → is_carried is_old (state_in_hand (parent_of cell) its) (corner axes cell k) ≡ a → is_carried is_new (state_in_hand (parent_of cell) its) (corner axes cell k) ≡ b → (kind_from a b ≡ Hanging → ⊥) → IsInside axes (corner axes cell k)
+    by_ages true b is_old' is_new' counts = carried-inside axes cell digits k its is_old within is deep fit child below quiet.old is_old'
+    by_ages false true is_old' is_new' counts = carried-inside axes cell digits k its is_new within is deep fit child below quiet.new is_new'
+    by_ages false false is_old' is_new' counts = absurd (counts refl)
 
     first : (t : Bool) → is_inside axes (corner axes cell k) ≡ t → (kind_from (t && not (traversal == 1)) t ≡ Hanging → ⊥) → IsInside axes (corner axes cell k)
     first true inside counts = inside-is axes (corner axes cell k) within.1 is.level inside
@@ -189,5 +189,5 @@ kind-inside axes traversal cell digits k its within is deep fit child below quie
     by_level : (t : Bool) → (cell.level == 1) ≡ t → IsInside axes (corner axes cell k)
     by_level true level = first (is_inside axes (corner axes cell k)) refl
         (λ hangs. counts (ap (λ t. if t then level_one_kind axes traversal (corner axes cell k) else kind_from (is_carried is_old (state_in_hand (parent_of cell) its) (corner axes cell k)) (is_carried is_new (state_in_hand (parent_of cell) its) (corner axes cell k))) level ∙ hangs))
-    by_level false level = by_marks (is_carried is_old (state_in_hand (parent_of cell) its) (corner axes cell k)) (is_carried is_new (state_in_hand (parent_of cell) its) (corner axes cell k)) refl refl
+    by_level false level = by_ages (is_carried is_old (state_in_hand (parent_of cell) its) (corner axes cell k)) (is_carried is_new (state_in_hand (parent_of cell) its) (corner axes cell k)) refl refl
         (λ hangs. counts (ap (λ t. if t then level_one_kind axes traversal (corner axes cell k) else kind_from (is_carried is_old (state_in_hand (parent_of cell) its) (corner axes cell k)) (is_carried is_new (state_in_hand (parent_of cell) its) (corner axes cell k))) level ∙ hangs))

@@ -2,14 +2,14 @@
 
 -- places of corners, and their numbers
 pub mod CornerPlaces
--- an error that is passed on
+-- errors that are passed on
 pub mod Errors
 -- records as they come to hand
 pub mod Records
 -- the load of a corner of a kind that is known, and its store
 pub mod Loading
 pub mod Storing
--- kinds by the marks of the parent's corners
+-- kinds by the ages of the parent's corners
 pub mod KindLaws
 -- what counts is inside the root
 pub mod InsideLaws

@@ -10,12 +10,12 @@ use Rattle.pe_base.specs.Walk.Course.{Course, at_once, course_map}
 use Rattle.pe_base.specs.Walk.Core.{Setting, Family, load_touch, read_vertex, vertex_event}
 use Rattle.pe_base.specs.Walk.Working.{no_vertex}
 use Rattle.pe_stacks.specs.Holdings.{Holdings, items_at, lent, popped}
-use Rattle.pe_mapping.specs.Held.{Told, Adds}
-use Rattle.pe_mapping.proofs.Texts.{adds-nothing}
+use Rattle.pe_base.specs.Calls.Told.{Told, Adds}
+use Rattle.pe_base.proofs.Calls.Texts.{adds-nothing}
 use Rattle.pe_hang.specs.InHand.{map_holdings}
 use Rattle.pe_hang.specs.Moves.{lend, pop, MayPop}
-use Rattle.pe_hang.specs.Follows.{Follows, Fits, Failure, unwritten, Found, read_by}
-use Rattle.pe_hang.proofs.Leading.{and_then-fits, follows-map, follows-behind}
+use Rattle.pe_base.specs.Calls.Follows.{Follows, Fits, Failure, unwritten, BeforeCall, read_by}
+use Rattle.pe_base.proofs.Calls.Leading.{and_then-fits, follows-map, follows-behind}
 use Rattle.pe_hang.proofs.Moving.{lend-is, pop-may, pop-is}
 use Rattle.pe_adapt.specs.Touches.{Desk, comes, load_as, lent_vertex, popped_vertex}
 
@@ -40,7 +40,7 @@ module _ {Plan X : Type 0} (f : X → VertexRecord) (set : Setting Plan) (input 
   loads kind from = load_as set input kind from place (desk f held family)
 
   -- what the desk is in the end
-  with_held : {A E : Type 0} (kind : Kind) (from : Option ℕ) (held' held'' : Holdings X) (after : A → VertexRecord × Family) (means : E → Failure) (result : Result A E) (found : Found) (new : Told)
+  with_held : {A E : Type 0} (kind : Kind) (from : Option ℕ) (held' held'' : Holdings X) (after : A → VertexRecord × Family) (means : E → Failure) (result : Result A E) (found : BeforeCall) (new : Told)
       → OnOk result (held' ≡ held'')
       → Follows (loads kind from) (λ a. ((after a).0, desk f held'' (after a).1)) (read_by means result) found new
       → Follows (loads kind from) (λ a. ((after a).0, desk f held' (after a).1)) (read_by means result) found new
@@ -49,7 +49,7 @@ module _ {Plan X : Type 0} (f : X → VertexRecord) (set : Setting Plan) (input 
   with_held kind from held' held'' after means (Err e) found new same is = is
 
   -- what comes is loaded
-  loaded : {A E : Type 0} (kind : Kind) (from : Option ℕ) (held' held'' : Holdings X) (x : VertexRecord) (after : A → VertexRecord × Family) (means : E → Failure) (result : Result A E) (found : Found) (new : Told)
+  loaded : {A E : Type 0} (kind : Kind) (from : Option ℕ) (held' held'' : Holdings X) (x : VertexRecord) (after : A → VertexRecord × Family) (means : E → Failure) (result : Result A E) (found : BeforeCall) (new : Told)
       → comes set input kind from (desk f held family) ≡ at_once (x, desk f held'' family) → OnOk result (held' ≡ held'')
       → Follows (load_touch set kind (is_none from) x place family) after (read_by means result) found new
       → Follows (loads kind from) (λ a. ((after a).0, desk f held' (after a).1)) (read_by means result) found new
@@ -62,7 +62,7 @@ module _ {Plan X : Type 0} (f : X → VertexRecord) (set : Setting Plan) (input 
       (follows-map (λ it. (it.0, desk f held'' it.1)) (load_touch set kind (is_none from) x place family) after (read_by means result) found new is))
 
   -- a hanging vertex
-  pub loaded-hanging : {A E : Type 0} (kind : Kind) (from : Option ℕ) (held' : Holdings X) (after : A → VertexRecord × Family) (means : E → Failure) (result : Result A E) (found : Found) (new : Told)
+  pub loaded-hanging : {A E : Type 0} (kind : Kind) (from : Option ℕ) (held' : Holdings X) (after : A → VertexRecord × Family) (means : E → Failure) (result : Result A E) (found : BeforeCall) (new : Told)
       → kind ≡ Hanging → Fits (loads kind from) → OnOk result (held' ≡ lent held)
       → Follows (load_touch set Hanging (is_none from) no_vertex place family) after (read_by means result) found new
       → Follows (loads kind from) (λ a. ((after a).0, desk f held' (after a).1)) (read_by means result) found new
@@ -72,7 +72,7 @@ module _ {Plan X : Type 0} (f : X → VertexRecord) (set : Setting Plan) (input 
       (lent-is (and_then-fits (lent_vertex set (desk f held family)) _ (subst (λ k. Fits (loads k from)) hangs fits))) same is)
 
   -- one that is born
-  pub loaded-born : {A E : Type 0} (kind : Kind) (from : Option ℕ) (held' : Holdings X) (after : A → VertexRecord × Family) (means : E → Failure) (result : Result A E) (found : Found) (new : Told)
+  pub loaded-born : {A E : Type 0} (kind : Kind) (from : Option ℕ) (held' : Holdings X) (after : A → VertexRecord × Family) (means : E → Failure) (result : Result A E) (found : BeforeCall) (new : Told)
       → kind ≡ Born → from ≡ None → Fits (loads kind from) → OnOk result (held' ≡ lent held)
       → Follows (load_touch set Born true no_vertex place family) after (read_by means result) found new
       → Follows (loads kind from) (λ a. ((after a).0, desk f held' (after a).1)) (read_by means result) found new
@@ -96,7 +96,7 @@ module _ {Plan X : Type 0} (f : X → VertexRecord) (set : Setting Plan) (input 
   touch-stored Hanging x hangs born = absurd (hangs refl)
 
   -- one that was stored
-  pub loaded-stored : {A E : Type 0} (kind : Kind) (from : Option ℕ) (held' : Holdings X) (x : X) (after : A → VertexRecord × Family) (means : E → Failure) (result : Result A E) (found : Found) (new : Told)
+  pub loaded-stored : {A E : Type 0} (kind : Kind) (from : Option ℕ) (held' : Holdings X) (x : X) (after : A → VertexRecord × Family) (means : E → Failure) (result : Result A E) (found : BeforeCall) (new : Told)
       → (kind ≡ Hanging → ⊥) → (kind ≡ Born → ⊥) → from ≡ None → Fits (loads kind from) → OnOk result (held' ≡ popped held input) → slice_get (items_at held input) 0 ≡ Some x
       → Follows (vertex_event set TouchVertexFirstTime place (read_vertex set kind (f x), family)) after (read_by means result) found new
       → Follows (loads kind from) (λ a. ((after a).0, desk f held' (after a).1)) (read_by means result) found new
@@ -141,7 +141,7 @@ module _ {Plan X : Type 0} (f : X → VertexRecord) (set : Setting Plan) (input 
       (subst Fits come (and_then-fits (comes set input kind (Some s) (desk f held family)) _ (subst (λ o. Fits (loads kind o)) waits fits))))
 
   -- one that waits on a stack
-  pub loaded-waiting : (kind : Kind) (from : Option ℕ) (s : ℕ) (held' : Holdings X) (x : X) (found : Found)
+  pub loaded-waiting : (kind : Kind) (from : Option ℕ) (s : ℕ) (held' : Holdings X) (x : X) (found : BeforeCall)
       → (kind ≡ Hanging → ⊥) → from ≡ Some s → Fits (loads kind from) → held' ≡ popped held s → slice_get (items_at held s) 0 ≡ Some x
       → Follows (loads kind from) (λ (v : X). (f v, desk f held' family)) (Ok x) found found.told
   loaded-waiting kind from s held' x found hangs waits fits same top =

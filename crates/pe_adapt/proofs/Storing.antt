@@ -9,12 +9,13 @@ use Rattle.pe_base.specs.Acts.Effects.{VertexRecord}
 use Rattle.pe_base.specs.Walk.Course.{Course, at_once, course_map, done, Push}
 use Rattle.pe_base.specs.Walk.Core.{Setting, Family, store_of, store_touch, written, vertex_event}
 use Rattle.pe_stacks.specs.Holdings.{Holdings, KeepsRoom, len_at, given_up, pushed}
-use Rattle.pe_mapping.specs.Held.{Told, Adds}
-use Rattle.pe_mapping.proofs.Texts.{adds-nothing, part-nothing}
+use Rattle.pe_base.specs.Calls.Told.{Told, Adds}
+use Rattle.pe_base.proofs.Calls.Texts.{adds-nothing, part-nothing}
 use Rattle.pe_hang.specs.InHand.{map_holdings, nothing_of}
 use Rattle.pe_hang.specs.Moves.{give_up, push, MayPush}
-use Rattle.pe_hang.specs.Follows.{Follows, Fits, Failure, Found, IsRoomier, HasOverfull, held_by, read_by}
-use Rattle.pe_hang.proofs.Leading.{and_then-fits, follows-map, leads_start, leads_rest, leads_next, leads_err, leads_last}
+use Rattle.pe_base.specs.Calls.Follows.{Follows, Fits, Failure, BeforeCall, IsRoomier, HasOverfull, read_by}
+use Rattle.pe_stacks.specs.RecordsOut.{held_by}
+use Rattle.pe_base.proofs.Calls.Leading.{and_then-fits, follows-map, leads_start, leads_rest, leads_next, leads_err, leads_last}
 use Rattle.pe_hang.proofs.Moving.{give_up-is, push-may, push-is}
 use Rattle.pe_adapt.specs.declared.stop.Halt.{Halt}
 use Rattle.pe_adapt.specs.declared.stop.Halt.TheVariants.{Memory as ForMemory}
@@ -23,7 +24,7 @@ use Rattle.pe_adapt.specs.Touches.{Desk, goes, stack_or, store_as}
 use Rattle.pe_adapt.proofs.Loading.{desk}
 
 -- the room of stacks of which one depot is looked at
-abbrev pub seen_by : {X : Type 0} → Told → Bool → Holdings X → (ℕ → ℕ) → (ℕ → ℕ) → Found
+abbrev pub seen_by : {X : Type 0} → Told → Bool → Holdings X → (ℕ → ℕ) → (ℕ → ℕ) → BeforeCall
 seen_by told sure held room cells = record { told = told; sure = sure; vertices = held_by held room; cells = cells }
 
 -- there was no room before either
@@ -65,11 +66,11 @@ module _ {Plan X : Type 0} (f : X → VertexRecord) (set : Setting Plan) (output
   stores = store_as set output to place it (desk f held family)
 
   -- a record is given up
-  pub stored-nothing : {A E : Type 0} (held' : Holdings X) (family' : Family) (means : E → Failure) (result : Result A E) (found : Found) (new : Told)
+  pub stored-nothing : {A E : Type 0} (held' : Holdings X) (family' : Family) (means : E → Failure) (result : Result A E) (found : BeforeCall) (new : Told)
       → Fits stores → OnOk result (held' ≡ given_up held) → Follows touch (λ (a : A). nothing_of family') (read_by means result) found new
       → Follows stores (λ (a : A). desk f held' family') (read_by means result) found new
   stored-nothing {A = A} held' family' means (Ok a) found new fits same is =
-      let now : Found = record found { told = new } in
+      let now : BeforeCall = record found { told = new } in
       let room : IsRoomier found now = record { sure = refl; vertices = λ s. omega arith; cells = λ s. omega arith } in
       let lead = leads_next touch leave (λ (b : A). nothing_of family') a now (leads_start stores found) is room in
       let gives = give_up-is f held (and_then-fits (give_up (map_holdings f held)) _ (leads_rest (leave (nothing_of family')) lead fits)) in
@@ -80,15 +81,15 @@ module _ {Plan X : Type 0} (f : X → VertexRecord) (set : Setting Plan) (output
       leads_err touch leave (λ (b : A). nothing_of family') (λ (b : A). desk f held' family') (means e) new (leads_start stores found) is
 
   -- a touch that failed
-  pub stored-failed : {A B : Type 0} (after : A → Option VertexRecord × Family) (after' : B → Desk) (failure : Failure) (found : Found) (new : Told)
+  pub stored-failed : {A B : Type 0} (after : A → Option VertexRecord × Family) (after' : B → Desk) (failure : Failure) (found : BeforeCall) (new : Told)
       → Follows touch after (Err failure) found new → Follows stores after' (Err failure) found new
   stored-failed after after' failure found new is = leads_err touch leave after after' failure new (leads_start stores found) is
 
   -- a record is put on a stack: it may be
-  pub stored-may : (x : X) (family' : Family) (found : Found) (new : Told)
+  pub stored-may : (x : X) (family' : Family) (found : BeforeCall) (new : Told)
       → Fits stores → Follows touch (λ (u : Unit {0}). (Some (f x), family')) (Ok tt) found new → MayPush held (stack_or set output to)
   stored-may x family' found new fits is =
-      let now : Found = record found { told = new } in
+      let now : BeforeCall = record found { told = new } in
       let room : IsRoomier found now = record { sure = refl; vertices = λ s. omega arith; cells = λ s. omega arith } in
       let lead = leads_next touch leave (λ (u : Unit {0}). (Some (f x), family')) tt now (leads_start stores found) is room in
       push-may f false (stack_or set output to) x held
@@ -116,7 +117,7 @@ module _ {Plan X : Type 0} (f : X → VertexRecord) (set : Setting Plan) (output
   waits Dying is hangs on = ap (λ k. store_of set k (is_none to) place it family) is ∙ ap (λ l. store_of set Dying l place it family) on
   waits Hanging is hangs on = absurd (hangs refl)
 
-  pub touch-waiting : (kind : Kind) (found : Found) → it.kind ≡ kind → (kind ≡ Hanging → ⊥) → is_none to ≡ false
+  pub touch-waiting : (kind : Kind) (found : BeforeCall) → it.kind ≡ kind → (kind ≡ Hanging → ⊥) → is_none to ≡ false
       → Follows touch (λ (u : Unit {0}). (Some it, family)) (Ok tt) found found.told
   touch-waiting kind found is hangs on =
       let course = waits kind is hangs on in
@@ -133,7 +134,7 @@ module _ {Plan X : Type 0} (f : X → VertexRecord) (set : Setting Plan) (output
   last-is Dying is hangs dies last = absurd (dies refl)
   last-is Hanging is hangs dies last = absurd (hangs refl)
 
-  pub touch-last : {A : Type 0} (kind : Kind) (after : A → VertexRecord × Family) (answer : Result A Failure) (found : Found) (new : Told)
+  pub touch-last : {A : Type 0} (kind : Kind) (after : A → VertexRecord × Family) (answer : Result A Failure) (found : BeforeCall) (new : Told)
       → it.kind ≡ kind → (kind ≡ Hanging → ⊥) → (kind ≡ Dying → ⊥) → is_none to ≡ true
       → Follows (vertex_event set TouchVertexLastTime place (it, family)) after answer found new
       → Follows touch (λ a. written set kind (after a)) answer found new
@@ -142,7 +143,7 @@ module _ {Plan X : Type 0} (f : X → VertexRecord) (set : Setting Plan) (output
       (follows-map (written set kind) (vertex_event set TouchVertexLastTime place (it, family)) after answer found new fired)
 
   -- it is put on a stack then
-  pub touch-stays : (kind : Kind) (v x : X) (family' : Family) (found : Found) (new : Told)
+  pub touch-stays : (kind : Kind) (v x : X) (family' : Family) (found : BeforeCall) (new : Told)
       → (let after : Option VertexRecord × Family = (Some (f x), family') in after) ≡ written set kind (f v, family')
       → it.kind ≡ kind → (kind ≡ Hanging → ⊥) → (kind ≡ Dying → ⊥) → is_none to ≡ true
       → Follows (vertex_event set TouchVertexLastTime place (it, family)) (λ (w : X). (f w, family')) (Ok v) found new
@@ -152,7 +153,7 @@ module _ {Plan X : Type 0} (f : X → VertexRecord) (set : Setting Plan) (output
       record { ends = is'.ends ∙ ap done (sym same); told = is'.told }
 
   -- the touch of a kind that is known
-  pub touch-of : {A : Type 0} (kind : Kind) (last : Bool) (after : A → Option VertexRecord × Family) (answer : Result A Failure) (found : Found) (new : Told)
+  pub touch-of : {A : Type 0} (kind : Kind) (last : Bool) (after : A → Option VertexRecord × Family) (answer : Result A Failure) (found : BeforeCall) (new : Told)
       → it.kind ≡ kind → is_none to ≡ last → Follows (store_of set kind last place it family) after answer found new → Follows touch after answer found new
   touch-of kind last after answer found new is_kind is_last is =
       subst (λ course. Follows course after answer found new)

@@ -9,4 +9,4 @@ pub mod Stops
 -- a vertex in the slot of its corner
 pub mod Slots
 -- which corners are old and new
-pub mod Marked
+pub mod Ages

@@ -9,8 +9,8 @@ use Rattle.pe_stacks.specs.declared.record.Vertex.{Vertex}
 use Rattle.pe_stacks.specs.declared.record.CellRec.{CellRec}
 use Rattle.pe_stacks.specs.Corners.{CornerList}
 use Rattle.pe_stacks.specs.Holdings.{Holdings}
-use Rattle.pe_mapping.specs.Sights.{Numbers}
-use Rattle.pe_mapping.specs.Moments.{IsTraversal}
+use Rattle.pe_stacks.specs.Sights.{Numbers}
+use Rattle.pe_base.specs.Acts.Moments.{IsTraversal}
 use Rattle.pe_hang.specs.InHand.{vertices_on_stacks, family_in_hand}
 use Rattle.pe_adapt.specs.declared.spot.Spot.{Spot}
 use Rattle.pe_adapt.specs.Touches.{Desk}

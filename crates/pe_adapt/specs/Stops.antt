@@ -2,7 +2,7 @@
 use Rattle.pe_base.specs.declared.stop.Stop.TheVariants.{Overflow, Division, Sink, Memory}
 use Rattle.pe_base.specs.Acts.Effects.{Overflow as overflows, Division as divides}
 use Rattle.pe_base.specs.Walk.Course.{fault_at, limit_at}
-use Rattle.pe_hang.specs.Follows.{Failure, halted, unwritten, wanting, unheard_of}
+use Rattle.pe_base.specs.Calls.Follows.{Failure, halted, unwritten, wanting, unheard_of}
 use Rattle.pe_base.specs.declared.place.Place.{Place}
 use Rattle.pe_adapt.specs.declared.stop.Halt.{Halt}
 use Rattle.pe_adapt.specs.declared.stop.Halt.TheVariants.{Event as ByEvent, CellLimit as ByLimit, Memory as ForMemory}

@@ -6,17 +6,18 @@ ghost use Rattle.pe_base.specs.Steps.Routes.{stack_in};
 ghost use Rattle.pe_access.specs.States.{StandsFor};
 ghost use Rattle.pe_stacks.specs.Corners.{IsFull};
 ghost use Rattle.pe_stacks.specs.Holdings.{CountsWithin, stack_count, len_at};
-ghost use Rattle.pe_mapping.specs.Held.{max_level};
-ghost use Rattle.pe_mapping.specs.Sights.{seen_vertex, seen_corners};
+ghost use Rattle.pe_mapping.specs.Held.{max_level, found_of};
+ghost use Rattle.pe_stacks.specs.Sights.{record_of, corner_records};
 ghost use Rattle.pe_hang.specs.InHand.{setting_of, setting_of_events, Stays};
-ghost use Rattle.pe_hang.specs.Follows.{Follows, Left, read_by, found_of, held_by};
+ghost use Rattle.pe_base.specs.Calls.Follows.{Follows, read_by};
+ghost use Rattle.pe_stacks.specs.RecordsOut.{RecordsOut, held_by};
 ghost use Rattle.pe_adapt.specs.Stops.{failure_of};
-ghost use Rattle.pe_adapt.specs.Marked.{IsPlaced, IsQuiet};
+ghost use Rattle.pe_adapt.specs.Ages.{IsPlaced, IsQuiet};
 ghost use Rattle.pe_adapt.specs.Spots.{IsSpot, AreStreams, source_of, desk_in_hand};
 ghost use Rattle.pe_adapt.specs.Touches.{kind_in_hand, load_corner, store_corner};
 
-use crate::kinds::{corner_marks, marks_of};
-use crate::touch::{load_marked, store_placed};
+use crate::kinds::{ages_of, corner_ages};
+use crate::touch::{load_aged, store_placed};
 use crate::{Spot, WalkStop};
 use pe_access::CellState;
 use pe_base::Setup;
@@ -42,40 +43,31 @@ pub fn load_corner<M: Mapping, DV: Depot<Vertex<M::V>>>(
     requires streams { AreStreams spot.now }
     requires state { StandsFor (M.held m.old).dim (way_of spot.now.traversal) spot.now.cell state.now }
     requires full { IsFull (M.held m.old).dim parents.old }
-    requires quiet { IsQuiet (M.held m.old).dim (parent_of spot.now.cell) (seen_corners M.numbers.vertex parents.old) }
+    requires quiet { IsQuiet (M.held m.old).dim (parent_of spot.now.cell) (corner_records M.numbers.vertex parents.old) }
     requires stacks { stack_count (DV.holds dv.old) ≡ 10 }
     requires counts { CountsWithin (DV.holds dv.old) (2 ^ 62 - 1) }
     requires source { IfSome
         (source_of spot.now.input
         (kind_in_hand (setting_of M.rules (M.held m.old) setup.now.start_level 0 spot.now.traversal) spot.now.cell
-        (seen_corners M.numbers.vertex parents.old) (corner (M.held m.old).dim spot.now.cell spot.now.corner))
+        (corner_records M.numbers.vertex parents.old) (corner (M.held m.old).dim spot.now.cell spot.now.corner))
         (stack_in (M.held m.old).dim (way_of spot.now.traversal) (corner (M.held m.old).dim spot.now.cell spot.now.corner) spot.now.cell))
         (λ s. 0 < len_at (DV.holds dv.old) s) }
     ensures follows { (cells : ℕ → ℕ) → Follows
         (load_corner (setting_of M.rules (M.held m.old) setup.now.start_level 0 spot.now.traversal) spot.now.input spot.now.cell spot.now.corner
         (desk_in_hand M.numbers (DV.holds dv.old) parents.old parent.old (M.held m.old).list))
-        (λ v. (seen_vertex M.numbers.vertex v, desk_in_hand M.numbers (DV.holds dv.new) parents.new parent.new (M.held m.new).list))
+        (λ v. (record_of M.numbers.vertex v, desk_in_hand M.numbers (DV.holds dv.new) parents.new parent.new (M.held m.new).list))
         (read_by failure_of result) (found_of (M.held m.old) (held_by (DV.holds dv.old) (DV.room dv.old)) cells) (M.held m.new).told }
-    ensures left { Left 0 1 (DV.holds dv.old) (DV.room dv.old) (DV.holds dv.new) (DV.room dv.new) (is_err result) }
+    ensures left { RecordsOut 0 1 (DV.holds dv.old) (DV.room dv.old) (DV.holds dv.new) (DV.room dv.new) (is_err result) }
     ensures stays { Stays M.numbers.vertex (M.held m.old) (M.held m.new) parents.old parents.new }
 {
-    let marks = corner_marks(
+    let ages = corner_ages(
         setup.dim,
         spot.cell.level,
         spot.digits,
         spot.traversal,
-        marks_of(setup.dim, parents),
+        ages_of(setup.dim, parents),
     );
-    load_marked(
-        setup.start_level,
-        spot,
-        state,
-        marks,
-        m,
-        dv,
-        parents,
-        parent,
-    )
+    load_aged(setup.start_level, spot, state, ages, m, dv, parents, parent)
 }
 
 /// Stores a corner: the events of the store are fired, and its record is given up, or pushed on the stack that the order
@@ -100,11 +92,11 @@ pub fn store_corner<M: Mapping, DV: Depot<Vertex<M::V>>>(
     requires counts { CountsWithin (DV.holds dv.old) (2 ^ 62 - 1) }
     requires out { 0 < (DV.holds dv.old).out }
     ensures follows { (cells : ℕ → ℕ) → Follows
-        (store_corner (setting_of_events M.rules (M.held m.old) spot.now.traversal) spot.now.output spot.now.cell spot.now.corner (seen_vertex M.numbers.vertex v)
+        (store_corner (setting_of_events M.rules (M.held m.old) spot.now.traversal) spot.now.output spot.now.cell spot.now.corner (record_of M.numbers.vertex v)
         (desk_in_hand M.numbers (DV.holds dv.old) parents.old parent.old (M.held m.old).list))
         (λ done. desk_in_hand M.numbers (DV.holds dv.new) parents.new parent.new (M.held m.new).list)
         (read_by failure_of result) (found_of (M.held m.old) (held_by (DV.holds dv.old) (DV.room dv.old)) cells) (M.held m.new).told }
-    ensures left { Left 1 0 (DV.holds dv.old) (DV.room dv.old) (DV.holds dv.new) (DV.room dv.new) (is_err result) }
+    ensures left { RecordsOut 1 0 (DV.holds dv.old) (DV.room dv.old) (DV.holds dv.new) (DV.room dv.new) (is_err result) }
     ensures stays { Stays M.numbers.vertex (M.held m.old) (M.held m.new) parents.old parents.new }
 {
     store_placed(spot, state, v, m, dv, parents, parent)

@@ -4,9 +4,11 @@ ghost use Rattle.pe_base.specs.declared.event.Sort.TheVariants.{Vertex as OfVert
 ghost use Rattle.pe_base.specs.Acts.Events.{sort_of};
 ghost use Rattle.pe_base.specs.Walk.Core.{vertex_event};
 ghost use Rattle.pe_stacks.specs.Corners.{IsFull};
-ghost use Rattle.pe_mapping.specs.Moments.{IsTraversal, IsBelowRoot};
+ghost use Rattle.pe_base.specs.Acts.Moments.{IsTraversal, IsBelowRoot};
 ghost use Rattle.pe_hang.specs.InHand.{setting_of_events, family_in_hand, Stays};
-ghost use Rattle.pe_hang.specs.Follows.{Follows, Left, read_by, found_of};
+ghost use Rattle.pe_base.specs.Calls.Follows.{Follows, read_by};
+ghost use Rattle.pe_stacks.specs.RecordsOut.{RecordsOut};
+ghost use Rattle.pe_mapping.specs.Held.{found_of};
 ghost use Rattle.pe_adapt.specs.Stops.{failure_of_halt};
 ghost use Rattle.pe_adapt.specs.Slots.{seen_slot};
 
@@ -17,7 +19,7 @@ use pe_stacks::{CellRec, Corners, Depot, Vertex, filled_mut};
 
 // Fires an event of a vertex whose record is out. On an error the record is given up.
 #[inline]
-#[tactic(auto, using(pe_hang::proofs::Marked::marks_triggered))]
+#[tactic(auto, using(pe_hang::proofs::Ages::ages_triggered))]
 pub fn fire<M: Mapping, DV: Depot<Vertex<M::V>>>(
     event: Event,
     traversal: u64,
@@ -40,7 +42,7 @@ pub fn fire<M: Mapping, DV: Depot<Vertex<M::V>>>(
         (λ done. (seen_slot M.numbers.vertex slot.new, family_in_hand M.numbers parents.new parent.new (M.held m.new).list))
         (read_by (failure_of_halt at.now) result) (found_of (M.held m.old) vertices cells) (M.held m.new).told }
     ensures holds { OnOk result (DV.holds dv.new ≡ DV.holds dv.old) }
-    ensures left { Left 1 1 (DV.holds dv.old) (DV.room dv.old) (DV.holds dv.new) (DV.room dv.new) (is_err result) }
+    ensures left { RecordsOut 1 1 (DV.holds dv.old) (DV.room dv.old) (DV.holds dv.new) (DV.room dv.new) (is_err result) }
     ensures stays { Stays M.numbers.vertex (M.held m.old) (M.held m.new) parents.old parents.new }
     ensures filled { OnOk result (IsSome slot.new) }
     ensures emptied { OnErr result (slot.new ≡ None) }

@@ -8,11 +8,13 @@ ghost use Rattle.pe_base.specs.Walk.Working.{no_vertex};
 ghost use Rattle.pe_stacks.specs.declared.record.Vertex.{Vertex as AVertex};
 ghost use Rattle.pe_stacks.specs.Corners.{IsFull};
 ghost use Rattle.pe_stacks.specs.Holdings.{stack_count, stack_at, items_at, len_at, lent, popped};
-ghost use Rattle.pe_mapping.specs.Sights.{seen_vertex};
-ghost use Rattle.pe_mapping.specs.Moments.{IsTraversal, IsBelowRoot};
+ghost use Rattle.pe_stacks.specs.Sights.{record_of};
+ghost use Rattle.pe_base.specs.Acts.Moments.{IsTraversal, IsBelowRoot};
 ghost use Rattle.pe_hang.specs.InHand.{setting_of, setting_of_events, family_in_hand, Stays};
 ghost use Rattle.pe_hang.specs.Moves.{MayPop};
-ghost use Rattle.pe_hang.specs.Follows.{Follows, Fits, Left, read_by, found_of, held_by};
+ghost use Rattle.pe_base.specs.Calls.Follows.{Follows, Fits, read_by};
+ghost use Rattle.pe_stacks.specs.RecordsOut.{RecordsOut, held_by};
+ghost use Rattle.pe_mapping.specs.Held.{found_of};
 ghost use Rattle.pe_adapt.specs.Stops.{failure_of, failure_of_halt};
 ghost use Rattle.pe_adapt.specs.Slots.{seen_slot};
 ghost use Rattle.pe_adapt.specs.Spots.{IsSpot, stack_of, desk_in_hand};
@@ -49,7 +51,7 @@ pub fn load_hanging<M: Mapping, DV: Depot<Vertex<M::V>>>(
         (desk_in_hand M.numbers (DV.holds dv.old) parents.old parent.old (M.held m.old).list))
         (λ done. (seen_slot M.numbers.vertex slot.new, desk_in_hand M.numbers (DV.holds dv.new) parents.new parent.new (M.held m.new).list))
         (read_by (failure_of_halt at.now) result) (found_of (M.held m.old) (held_by (DV.holds dv.old) (DV.room dv.old)) cells) (M.held m.new).told }
-    ensures left { Left 0 1 (DV.holds dv.old) (DV.room dv.old) (DV.holds dv.new) (DV.room dv.new) (is_err result) }
+    ensures left { RecordsOut 0 1 (DV.holds dv.old) (DV.room dv.old) (DV.holds dv.new) (DV.room dv.new) (is_err result) }
     ensures stays { Stays M.numbers.vertex (M.held m.old) (M.held m.new) parents.old parents.new }
     ensures filled { OnOk result (IsSome slot.new) }
     ensures emptied { OnErr result (slot.new ≡ None) }
@@ -86,7 +88,7 @@ fn load_born<M: Mapping, DV: Depot<Vertex<M::V>>>(
         (λ done. (seen_slot M.numbers.vertex slot.new, family_in_hand M.numbers parents.new parent.new (M.held m.new).list))
         (read_by (failure_of_halt at.now) result) (found_of (M.held m.old) vertices cells) (M.held m.new).told }
     ensures lent { OnOk result (DV.holds dv.new ≡ lent (DV.holds dv.old)) }
-    ensures left { Left 0 1 (DV.holds dv.old) (DV.room dv.old) (DV.holds dv.new) (DV.room dv.new) (is_err result) }
+    ensures left { RecordsOut 0 1 (DV.holds dv.old) (DV.room dv.old) (DV.holds dv.new) (DV.room dv.new) (is_err result) }
     ensures stays { Stays M.numbers.vertex (M.held m.old) (M.held m.new) parents.old parents.new }
     ensures filled { OnOk result (IsSome slot.new) }
     ensures emptied { OnErr result (slot.new ≡ None) }
@@ -139,13 +141,13 @@ fn load_stored<M: Mapping, DV: Depot<Vertex<M::V>>>(
     requires may { MayPop (DV.holds dv.old) input }
     ensures follows { (vertices cells : ℕ → ℕ) (found : AVertex M.V) → slice_get (items_at (DV.holds dv.old) input) 0 ≡ Some found → Follows
         (vertex_event (setting_of_events M.rules (M.held m.old) traversal) TouchVertexFirstTime at.now (
-          read_vertex (setting_of_events M.rules (M.held m.old) traversal) kind (seen_vertex M.numbers.vertex found),
+          read_vertex (setting_of_events M.rules (M.held m.old) traversal) kind (record_of M.numbers.vertex found),
           family_in_hand M.numbers parents.old parent.old (M.held m.old).list,
         ))
         (λ done. (seen_slot M.numbers.vertex slot.new, family_in_hand M.numbers parents.new parent.new (M.held m.new).list))
         (read_by (failure_of_halt at.now) result) (found_of (M.held m.old) vertices cells) (M.held m.new).told }
     ensures popped { OnOk result (DV.holds dv.new ≡ popped (DV.holds dv.old) input) }
-    ensures left { Left 0 1 (DV.holds dv.old) (DV.room dv.old) (DV.holds dv.new) (DV.room dv.new) (is_err result) }
+    ensures left { RecordsOut 0 1 (DV.holds dv.old) (DV.room dv.old) (DV.holds dv.new) (DV.room dv.new) (is_err result) }
     ensures stays { Stays M.numbers.vertex (M.held m.old) (M.held m.new) parents.old parents.new }
     ensures filled { OnOk result (IsSome slot.new) }
     ensures emptied { OnErr result (slot.new ≡ None) }
@@ -193,7 +195,7 @@ pub fn load_first<M: Mapping, DV: Depot<Vertex<M::V>>>(
         (desk_in_hand M.numbers (DV.holds dv.old) parents.old parent.old (M.held m.old).list))
         (λ done. (seen_slot M.numbers.vertex slot.new, desk_in_hand M.numbers (DV.holds dv.new) parents.new parent.new (M.held m.new).list))
         (read_by (failure_of_halt at.now) result) (found_of (M.held m.old) (held_by (DV.holds dv.old) (DV.room dv.old)) cells) (M.held m.new).told }
-    ensures left { Left 0 1 (DV.holds dv.old) (DV.room dv.old) (DV.holds dv.new) (DV.room dv.new) (is_err result) }
+    ensures left { RecordsOut 0 1 (DV.holds dv.old) (DV.room dv.old) (DV.holds dv.new) (DV.room dv.new) (is_err result) }
     ensures stays { Stays M.numbers.vertex (M.held m.old) (M.held m.new) parents.old parents.new }
     ensures filled { OnOk result (IsSome slot.new) }
     ensures emptied { OnErr result (slot.new ≡ None) }
@@ -229,7 +231,7 @@ fn load_slot<M: Mapping, DV: Depot<Vertex<M::V>>>(
         (desk_in_hand M.numbers (DV.holds dv.old) parents.old parent.old (M.held m.old).list))
         (λ done. (seen_slot M.numbers.vertex slot.new, desk_in_hand M.numbers (DV.holds dv.new) parents.new parent.new (M.held m.new).list))
         (read_by (failure_of_halt at.now) result) (found_of (M.held m.old) (held_by (DV.holds dv.old) (DV.room dv.old)) cells) (M.held m.new).told }
-    ensures left { Left 0 1 (DV.holds dv.old) (DV.room dv.old) (DV.holds dv.new) (DV.room dv.new) (is_err result) }
+    ensures left { RecordsOut 0 1 (DV.holds dv.old) (DV.room dv.old) (DV.holds dv.new) (DV.room dv.new) (is_err result) }
     ensures stays { Stays M.numbers.vertex (M.held m.old) (M.held m.new) parents.old parents.new }
     ensures filled { OnOk result (IsSome slot.new) }
     ensures emptied { OnErr result (slot.new ≡ None) }
@@ -278,9 +280,9 @@ pub fn load_as<M: Mapping, DV: Depot<Vertex<M::V>>>(
     ensures follows { (cells : ℕ → ℕ) → Follows
         (load_as (setting_of M.rules (M.held m.old) start_level 0 traversal) input kind (stack_of from) at.now
         (desk_in_hand M.numbers (DV.holds dv.old) parents.old parent.old (M.held m.old).list))
-        (λ v. (seen_vertex M.numbers.vertex v, desk_in_hand M.numbers (DV.holds dv.new) parents.new parent.new (M.held m.new).list))
+        (λ v. (record_of M.numbers.vertex v, desk_in_hand M.numbers (DV.holds dv.new) parents.new parent.new (M.held m.new).list))
         (read_by failure_of result) (found_of (M.held m.old) (held_by (DV.holds dv.old) (DV.room dv.old)) cells) (M.held m.new).told }
-    ensures left { Left 0 1 (DV.holds dv.old) (DV.room dv.old) (DV.holds dv.new) (DV.room dv.new) (is_err result) }
+    ensures left { RecordsOut 0 1 (DV.holds dv.old) (DV.room dv.old) (DV.holds dv.new) (DV.room dv.new) (is_err result) }
     ensures stays { Stays M.numbers.vertex (M.held m.old) (M.held m.new) parents.old parents.new }
 {
     let mut slot = None;

@@ -1,7 +1,7 @@
 ghost use Rattle.std.specs.Prelude.{◌≡◌, ℕ, ◌≤◌, ◌<◌, ◌^◌, slice_index};
 ghost use Rattle.pe_base.specs.Tree.Dim.{IsDim};
 ghost use Rattle.pe_base.specs.Tree.Places.{IsCellPlace, corner};
-ghost use Rattle.pe_mapping.specs.Moments.{IsBelowRoot};
+ghost use Rattle.pe_base.specs.Acts.Moments.{IsBelowRoot};
 
 use pe_base::{Digits, Place};
 

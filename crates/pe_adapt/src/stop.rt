@@ -3,7 +3,7 @@ ghost use Rattle.pe_base.specs.declared.place.Place.{Place as APlace};
 ghost use Rattle.pe_base.specs.declared.event.Event.{Event as AnEvent};
 ghost use Rattle.pe_base.specs.declared.stop.Stop.{Stop as AStop};
 ghost use Rattle.pe_base.specs.declared.stop.Stop.TheVariants.{Memory as NoMemory};
-ghost use Rattle.pe_hang.specs.Follows.{failure_at};
+ghost use Rattle.pe_base.specs.Calls.Follows.{failure_at};
 ghost use Rattle.pe_adapt.specs.declared.stop.Halt.TheVariants.{Event as ByEvent};
 ghost use Rattle.pe_adapt.specs.declared.stop.WalkStop.TheVariants.{Event as AtEvent};
 ghost use Rattle.pe_adapt.specs.Stops.{failure_of, failure_of_halt};

@@ -4,11 +4,13 @@ ghost use Rattle.pe_stacks.specs.Corners.{IsFull};
 ghost use Rattle.pe_base.specs.declared.kind.Kind.TheVariants.{Dying, Hanging};
 ghost use Rattle.pe_base.specs.Walk.Core.{store_of};
 ghost use Rattle.pe_stacks.specs.Holdings.{pushed, given_up};
-ghost use Rattle.pe_mapping.specs.Sights.{seen_vertex};
-ghost use Rattle.pe_mapping.specs.Moments.{IsTraversal, IsBelowRoot};
+ghost use Rattle.pe_stacks.specs.Sights.{record_of};
+ghost use Rattle.pe_base.specs.Acts.Moments.{IsTraversal, IsBelowRoot};
 ghost use Rattle.pe_hang.specs.InHand.{setting_of_events, family_in_hand, nothing_of, Stays};
 ghost use Rattle.pe_hang.specs.Moves.{MayPush};
-ghost use Rattle.pe_hang.specs.Follows.{Follows, Fits, Left, read_by, found_of, held_by};
+ghost use Rattle.pe_base.specs.Calls.Follows.{Follows, Fits, read_by};
+ghost use Rattle.pe_stacks.specs.RecordsOut.{RecordsOut, held_by};
+ghost use Rattle.pe_mapping.specs.Held.{found_of};
 ghost use Rattle.pe_adapt.specs.declared.stop.Halt.TheVariants.{Memory as ForMemory};
 ghost use Rattle.pe_adapt.specs.Stops.{failure_of, failure_of_halt};
 ghost use Rattle.pe_adapt.specs.Slots.{seen_slot};
@@ -32,7 +34,7 @@ fn put_down_grown<X, D: Depot<X>>(d: &mut D, s: u8, r: X) -> Result<(), Halt>
     ensures pushed { OnOk result (D.holds d.new ≡ pushed (D.holds d.old) s r) }
     ensures memory { IfErr result (λ halt. halt ≡ ForMemory) }
     ensures overfull { OnErr result (D.room d.old s ≡ 0) }
-    ensures left { Left 1 0 (D.holds d.old) (D.room d.old) (D.holds d.new) (D.room d.new) (is_err result) }
+    ensures left { RecordsOut 1 0 (D.holds d.old) (D.room d.old) (D.holds d.new) (D.room d.new) (is_err result) }
     ensures fresh { (D.holds d.new).fresh ≡ (D.holds d.old).fresh }
 {
     match d.push(s, r) {
@@ -51,7 +53,7 @@ pub fn put_down<X, D: Depot<X>>(d: &mut D, s: u8, r: X) -> Result<(), Halt>
     ensures pushed { OnOk result (D.holds d.new ≡ pushed (D.holds d.old) s r) }
     ensures memory { IfErr result (λ halt. halt ≡ ForMemory) }
     ensures overfull { OnErr result (D.room d.old s ≡ 0) }
-    ensures left { Left 1 0 (D.holds d.old) (D.room d.old) (D.holds d.new) (D.room d.new) (is_err result) }
+    ensures left { RecordsOut 1 0 (D.holds d.old) (D.room d.old) (D.holds d.new) (D.room d.new) (is_err result) }
     ensures fresh { (D.holds d.new).fresh ≡ (D.holds d.old).fresh }
 {
     if d.spare(s) > 0 {
@@ -83,7 +85,7 @@ pub fn store_hanging<M: Mapping, DV: Depot<Vertex<M::V>>>(
         (desk_in_hand M.numbers (DV.holds dv.old) parents.old parent.old (M.held m.old).list) in Fits course → Follows course
         (λ done. desk_in_hand M.numbers (DV.holds dv.new) parents.new parent.new (M.held m.new).list)
         (read_by (failure_of_halt at.now) result) (found_of (M.held m.old) (held_by (DV.holds dv.old) (DV.room dv.old)) cells) (M.held m.new).told }
-    ensures left { Left 1 0 (DV.holds dv.old) (DV.room dv.old) (DV.holds dv.new) (DV.room dv.new) (is_err result) }
+    ensures left { RecordsOut 1 0 (DV.holds dv.old) (DV.room dv.old) (DV.holds dv.new) (DV.room dv.new) (is_err result) }
     ensures stays { Stays M.numbers.vertex (M.held m.old) (M.held m.new) parents.old parents.new }
     ensures emptied { slot.new ≡ None }
 {
@@ -115,7 +117,7 @@ fn store_dying<M: Mapping, DV: Depot<Vertex<M::V>>>(
         (λ done. nothing_of (family_in_hand M.numbers parents.new parent.new (M.held m.new).list))
         (read_by (failure_of_halt at.now) result) (found_of (M.held m.old) vertices cells) (M.held m.new).told }
     ensures given_up { OnOk result (DV.holds dv.new ≡ given_up (DV.holds dv.old)) }
-    ensures left { Left 1 0 (DV.holds dv.old) (DV.room dv.old) (DV.holds dv.new) (DV.room dv.new) (is_err result) }
+    ensures left { RecordsOut 1 0 (DV.holds dv.old) (DV.room dv.old) (DV.holds dv.new) (DV.room dv.new) (is_err result) }
     ensures stays { Stays M.numbers.vertex (M.held m.old) (M.held m.new) parents.old parents.new }
     ensures emptied { slot.new ≡ None }
 {
@@ -172,7 +174,7 @@ fn store_staying<M: Mapping, DV: Depot<Vertex<M::V>>>(
         (desk_in_hand M.numbers (DV.holds dv.old) parents.old parent.old (M.held m.old).list))
         (λ done. desk_in_hand M.numbers (DV.holds dv.new) parents.new parent.new (M.held m.new).list)
         (read_by (failure_of_halt at.now) result) (found_of (M.held m.old) (held_by (DV.holds dv.old) (DV.room dv.old)) cells) (M.held m.new).told }
-    ensures left { Left 1 0 (DV.holds dv.old) (DV.room dv.old) (DV.holds dv.new) (DV.room dv.new) (is_err result) }
+    ensures left { RecordsOut 1 0 (DV.holds dv.old) (DV.room dv.old) (DV.holds dv.new) (DV.room dv.new) (is_err result) }
     ensures stays { Stays M.numbers.vertex (M.held m.old) (M.held m.new) parents.old parents.new }
     ensures emptied { slot.new ≡ None }
 {
@@ -217,7 +219,7 @@ pub fn store_last<M: Mapping, DV: Depot<Vertex<M::V>>>(
         (desk_in_hand M.numbers (DV.holds dv.old) parents.old parent.old (M.held m.old).list))
         (λ done. desk_in_hand M.numbers (DV.holds dv.new) parents.new parent.new (M.held m.new).list)
         (read_by (failure_of_halt at.now) result) (found_of (M.held m.old) (held_by (DV.holds dv.old) (DV.room dv.old)) cells) (M.held m.new).told }
-    ensures left { Left 1 0 (DV.holds dv.old) (DV.room dv.old) (DV.holds dv.new) (DV.room dv.new) (is_err result) }
+    ensures left { RecordsOut 1 0 (DV.holds dv.old) (DV.room dv.old) (DV.holds dv.new) (DV.room dv.new) (is_err result) }
     ensures stays { Stays M.numbers.vertex (M.held m.old) (M.held m.new) parents.old parents.new }
     ensures emptied { slot.new ≡ None }
 {
@@ -252,7 +254,7 @@ fn store_slot<M: Mapping, DV: Depot<Vertex<M::V>>>(
         (desk_in_hand M.numbers (DV.holds dv.old) parents.old parent.old (M.held m.old).list))
         (λ done. desk_in_hand M.numbers (DV.holds dv.new) parents.new parent.new (M.held m.new).list)
         (read_by (failure_of_halt at.now) result) (found_of (M.held m.old) (held_by (DV.holds dv.old) (DV.room dv.old)) cells) (M.held m.new).told }
-    ensures left { Left 1 0 (DV.holds dv.old) (DV.room dv.old) (DV.holds dv.new) (DV.room dv.new) (is_err result) }
+    ensures left { RecordsOut 1 0 (DV.holds dv.old) (DV.room dv.old) (DV.holds dv.new) (DV.room dv.new) (is_err result) }
     ensures stays { Stays M.numbers.vertex (M.held m.old) (M.held m.new) parents.old parents.new }
     ensures emptied { slot.new ≡ None }
 {
@@ -282,14 +284,14 @@ pub fn store_as<M: Mapping, DV: Depot<Vertex<M::V>>>(
     requires place { IsBelowRoot at.now }
     requires full { IsFull (M.held m.old).dim parents.old }
     requires out { 0 < (DV.holds dv.old).out }
-    requires fits { Fits (store_as (setting_of_events M.rules (M.held m.old) traversal) output (stack_of to) at.now (seen_vertex M.numbers.vertex v)
+    requires fits { Fits (store_as (setting_of_events M.rules (M.held m.old) traversal) output (stack_of to) at.now (record_of M.numbers.vertex v)
         (desk_in_hand M.numbers (DV.holds dv.old) parents.old parent.old (M.held m.old).list)) }
     ensures follows { (cells : ℕ → ℕ) → Follows
-        (store_as (setting_of_events M.rules (M.held m.old) traversal) output (stack_of to) at.now (seen_vertex M.numbers.vertex v)
+        (store_as (setting_of_events M.rules (M.held m.old) traversal) output (stack_of to) at.now (record_of M.numbers.vertex v)
         (desk_in_hand M.numbers (DV.holds dv.old) parents.old parent.old (M.held m.old).list))
         (λ done. desk_in_hand M.numbers (DV.holds dv.new) parents.new parent.new (M.held m.new).list)
         (read_by failure_of result) (found_of (M.held m.old) (held_by (DV.holds dv.old) (DV.room dv.old)) cells) (M.held m.new).told }
-    ensures left { Left 1 0 (DV.holds dv.old) (DV.room dv.old) (DV.holds dv.new) (DV.room dv.new) (is_err result) }
+    ensures left { RecordsOut 1 0 (DV.holds dv.old) (DV.room dv.old) (DV.holds dv.new) (DV.room dv.new) (is_err result) }
     ensures stays { Stays M.numbers.vertex (M.held m.old) (M.held m.new) parents.old parents.new }
 {
     let mut slot = Some(v);

@@ -1,5 +1,7 @@
 -- The definitions of the project, in reading order.
 
+-- the limits that grids, scenarios and streams are held to
+pub mod Limits
 -- cells and vertices by level and position, and the order of cells along the curve
 pub mod Tree
 -- how a vertex goes from cell to cell around it, across faces
@@ -8,6 +10,8 @@ pub mod Steps
 pub mod Life
 -- what happens at the moments of a walk
 pub mod Acts
+-- what calls answer and add, beside what they are to do
+pub mod Calls
 -- all that is printed: trace lines, the tally, the last line, refusals
 pub mod Lines
 -- the walk by address

@@ -1,4 +1,4 @@
-ghost use Rattle.std.specs.Prelude.{◌≡◌, ◌^◌, ◌<◌, IsSome, IfSome, ◌↔◌};
+ghost use Rattle.std.specs.Prelude.{◌≡◌, ◌^◌, IsSome, IfSome, ◌↔◌};
 ghost use Rattle.pe_base.specs.Tree.Dim.{IsDim};
 
 use std::marker::Model;

@@ -43,6 +43,25 @@ pub enum Event {
 }
 
 impl Event {
+    /// How many events there are.
+    pub const COUNT: usize = 12;
+
+    /// The events in their order.
+    pub const ALL: [Event; Event::COUNT] = [
+        Event::BeginIteration,
+        Event::EndIteration,
+        Event::TouchVertexFirstTime,
+        Event::TouchVertexLastTime,
+        Event::CreateInnerVertex,
+        Event::CreateHangingVertex,
+        Event::DestroyVertex,
+        Event::DestroyHangingVertex,
+        Event::CreateCell,
+        Event::DestroyCell,
+        Event::EnterCell,
+        Event::LeaveCell,
+    ];
+
     /// The spelling of the event in scenarios and lines.
     pub fn name(self) -> &'static str
         ensures { result.now ≡ name_of self }

@@ -1,7 +1,6 @@
 //! Laws of the definitions that the crates above rest on. Each function has a law for its contract, and no body.
-ghost use Rattle.std.specs.Prelude.{List};
 ghost use Rattle.pe_base.specs.Acts.Effects.{VertexRecord};
-ghost use Rattle.pe_base.specs.Walk.Laws.{PutIsFound, RemovedIsGone, FamilyIsRead, OwnIsRead, CarriersAreParents, KeepsMarks, FirstTouchKeepsOld, LastTouchSettles};
+ghost use Rattle.pe_base.specs.Walk.Laws.{PutIsFound, RemovedIsGone, FamilyIsRead, OwnIsRead, CarriersAreParents, KeepsAges, FirstTouchKeepsOld, LastTouchSettles};
 
 /// Maps from places hold what is put there, and nothing else changes.
 pub fn maps()
@@ -22,7 +21,7 @@ pub fn carriers()
 
 /// Events change neither old nor new.
 pub fn triggers()
-    ensures marks { KeepsMarks }
+    ensures ages { KeepsAges }
 {}
 
 /// What of the state table is rested on.

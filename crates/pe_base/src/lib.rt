@@ -9,6 +9,7 @@ mod event;
 mod fields;
 mod kind;
 pub mod laws;
+pub mod limits;
 mod list;
 mod order;
 mod place;

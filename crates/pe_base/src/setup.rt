@@ -1,5 +1,6 @@
 ghost use Rattle.std.specs.Prelude.{◌≤◌, length};
 ghost use Rattle.pe_base.specs.Acts.Settings.{AreLevels, IsCellLimit};
+ghost use Rattle.pe_base.specs.Limits.{most_fields};
 
 use crate::{Dim, List, Text};
 
@@ -8,17 +9,17 @@ use crate::{Dim, List, Text};
 pub struct Setup {
     /// The number of axes.
     pub dim: Dim,
-    /// The greatest level that a cell may have: 1 to 20.
+    /// The greatest level that a cell may have: 1 to `limits::MOST_LEVELS`.
     pub max_level: u8,
     /// The level down to which the first traversal refines the whole grid: 1 to `max_level`.
     pub start_level: u8,
-    /// How many cells a traversal may walk: 81 to 4,194,304.
+    /// How many cells a traversal may walk: `limits::LEAST_CELLS` to `limits::MOST_CELLS`.
     pub max_cells: u64,
     ghost levels: { AreLevels max_level start_level },
     ghost limit: { IsCellLimit max_cells },
 }
 
-/// The names of the fields of a scenario, at most eight of each kind.
+/// The names of the fields of a scenario, at most `limits::MOST_FIELDS` of each kind.
 #[derive(Debug, Drop)]
 pub struct Names {
     /// The numbers of a vertex.
@@ -27,7 +28,7 @@ pub struct Names {
     pub cell: List<Text>,
     /// The numbers of the whole grid.
     pub global: List<Text>,
-    ghost few_of_vertices: { length vertex ≤ 8 },
-    ghost few_of_cells: { length cell ≤ 8 },
-    ghost few_of_all: { length global ≤ 8 },
+    ghost few_of_vertices: { length vertex ≤ most_fields },
+    ghost few_of_cells: { length cell ≤ most_fields },
+    ghost few_of_all: { length global ≤ most_fields },
 }

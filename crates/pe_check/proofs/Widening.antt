@@ -106,7 +106,7 @@ module _ (narrow wide : Reach) (wider : IsWider narrow wide) where
   stmt_step_wider : (y : Stmt-F ((stmt : Stmt) × StmtWidens stmt)) → IsTrue (stmt_fits_step narrow (map-Stmt Stmt Bool (stmt_fits narrow) (map-Stmt ((stmt : Stmt) × StmtWidens stmt) Stmt (λ e. e.0) y)))
       → IsTrue (stmt_fits_step wide (map-Stmt Stmt Bool (stmt_fits wide) (map-Stmt ((stmt : Stmt) × StmtWidens stmt) Stmt (λ e. e.0) y)))
   stmt_step_wider (Stmt-F.Assign it expr) h = both _ _ (slot_wider it (first_of _ _ h)) (expr_wider expr (second_of (slot_fits narrow it) _ h))
-  stmt_step_wider (Stmt-F.Mark trigger vertex) h = vertex_wider vertex h
+  stmt_step_wider (Stmt-F.Trigger trigger vertex) h = vertex_wider vertex h
   stmt_step_wider (Stmt-F.Print values) h = exprs_wider values h
   stmt_step_wider (Stmt-F.If test body) h = both _ _ (expr_wider test (first_of _ _ h)) (body_wider body (second_of (expr_fits narrow test) _ h))
   stmt_step_wider (Stmt-F.IfElse test body other) h =

@@ -4,11 +4,11 @@ use Rattle.pe_parse.specs.declared.tree.Sign.{Sign}
 use Rattle.pe_parse.specs.declared.tree.Expr.{Expr as Read}
 use Rattle.pe_parse.specs.declared.tree.Expr.TheOpen.{Expr-F}
 use Rattle.pe_parse.specs.declared.tree.Expr.TheFolds.{fold-Expr}
-use Rattle.pe_parse.specs.Statements.{Statement, Statements, Assigns, Marks, Prints, Chooses, ChoosesElse, Nothing, Then}
+use Rattle.pe_parse.specs.Statements.{Statement, Statements, Assigns, Triggers, Prints, Chooses, ChoosesElse, Nothing, Then}
 use Rattle.pe_check.specs.declared.cause.Cause.{Cause}
 use Rattle.pe_check.specs.declared.cause.CheckFault.{CheckFault}
 use Rattle.pe_check.specs.declared.checked.Expr.{Expr, Number, Name, Unary, Chain, Extreme, Abs}
-use Rattle.pe_check.specs.declared.checked.Stmt.{Stmt, Assign, Mark, Print, If, IfElse}
+use Rattle.pe_check.specs.declared.checked.Stmt.{Stmt, Assign, Trigger as Triggered, Print, If, IfElse}
 use Rattle.pe_check.specs.Resolving.{Context, read_name, slot_name, vertex_word}
 use Rattle.pe_check.specs.Answers.{fault_at}
 
@@ -46,7 +46,7 @@ expr_of context = fold-Expr (Result Expr CheckFault) (expr_step context)
 abbrev mutual
   pub stmt_of : Context → Statement → Result Stmt CheckFault
   stmt_of context (Assigns name expr) = located name.at (slot_name context name.first name.second) >>= λ slot. expr_of context expr >>= λ x. Ok (Assign slot x)
-  stmt_of context (Marks trigger word) = located word.at (vertex_word context word.text) >>= λ vertex. Ok (Mark trigger vertex)
+  stmt_of context (Triggers trigger word) = located word.at (vertex_word context word.text) >>= λ vertex. Ok (Triggered trigger vertex)
   stmt_of context (Prints values) = all_of (map (expr_of context) values) >>= λ xs. Ok (Print xs)
   stmt_of context (Chooses test body) = expr_of context test >>= λ x. all_of (each_of context body) >>= λ xs. Ok (If x xs)
   stmt_of context (ChoosesElse test body other) = expr_of context test >>= λ x. all_of (each_of context body) >>= λ xs. all_of (each_of context other) >>= λ ys. Ok (IfElse x xs ys)

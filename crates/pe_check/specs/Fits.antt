@@ -74,7 +74,7 @@ expr_fits reach = fold-Expr Bool (expr_fits_step reach)
 -- a statement whose bodies fit or do not
 abbrev pub stmt_fits_step : Reach → Stmt-F Bool → Bool
 stmt_fits_step reach (Stmt-F.Assign slot expr) = slot_fits reach slot && expr_fits reach expr
-stmt_fits_step reach (Stmt-F.Mark trigger vertex) = vertex_fits reach vertex
+stmt_fits_step reach (Stmt-F.Trigger trigger vertex) = vertex_fits reach vertex
 stmt_fits_step reach (Stmt-F.Print values) = list_all (expr_fits reach) values
 stmt_fits_step reach (Stmt-F.If test body) = expr_fits reach test && list_all (λ fits. fits) body
 stmt_fits_step reach (Stmt-F.IfElse test body other) = expr_fits reach test && list_all (λ fits. fits) body && list_all (λ fits. fits) other

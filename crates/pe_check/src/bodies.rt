@@ -1,7 +1,6 @@
 ghost use Rattle.std.specs.Prelude.{◌≡◌, length, map, IfOk, IsTrue};
 ghost use Rattle.std.specs.List.{list_all};
 ghost use Rattle.std.specs.Option.{option_copied};
-ghost use Rattle.pe_base.specs.Acts.Events.{sort_of};
 ghost use Rattle.pe_parse.specs.Statements.{statement_of, statements_of};
 ghost use Rattle.pe_check.specs.FieldNames.{names_view};
 ghost use Rattle.pe_check.specs.Fits.{expr_fits, stmt_fits, fits};
@@ -140,8 +139,8 @@ fn check_stmt(alloc: Global, stmt: &tree::Stmt, scope: &Scope) -> Result<Stmt, C
                 Err(cause) => Err(cause.at(name.at)),
             }
         }
-        tree::Stmt::Mark(trigger, word) => match scope.vertex(word.text.as_str()) {
-            Ok(vertex) => Ok(Stmt::Mark(*trigger, vertex)),
+        tree::Stmt::Trigger(trigger, word) => match scope.vertex(word.text.as_str()) {
+            Ok(vertex) => Ok(Stmt::Trigger(*trigger, vertex)),
             Err(cause) => Err(cause.at(word.at)),
         },
         tree::Stmt::Print(values) => {

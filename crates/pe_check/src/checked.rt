@@ -109,7 +109,7 @@ pub enum Stmt {
     /// `name = expr;`
     Assign(Slot, Expr),
     /// `refine word;` or `erase word;`
-    Mark(Trigger, VertexName),
+    Trigger(Trigger, VertexName),
     /// `print expr, ..;`
     Print(Values),
     /// `if expr { .. }`

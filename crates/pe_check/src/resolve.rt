@@ -1,8 +1,9 @@
-ghost use Rattle.std.specs.Prelude.{◌≡◌, ◌<◌, ◌≤◌, ◌^◌, length, IsTrue, IfOk, IfSome, option_map};
+ghost use Rattle.std.specs.Prelude.{◌≡◌, ◌<◌, ◌≤◌, ◌^◌, length, IsTrue, IfOk, IfSome};
 ghost use Rattle.std.specs.Option.{option_copied};
+ghost use Rattle.pe_base.specs.Limits.{most_fields};
 ghost use Rattle.pe_check.specs.Fits.{name_fits, slot_fits, vertex_fits};
 ghost use Rattle.pe_check.specs.Table as table;
-ghost use Rattle.pe_check.specs.Resolving.{Context, reach_in, field_of as field_in, behind, of_vertex, read_name, slot_name, vertex_word};
+ghost use Rattle.pe_check.specs.Resolving.{reach_in, field_of as field_in, behind, of_vertex, read_name, slot_name, vertex_word};
 
 use crate::cause::Cause;
 use crate::checked::{Name, Slot, VertexName};
@@ -112,7 +113,7 @@ impl Scope<'_> {
 
 /// The number of a field.
 fn field_of(fields: &[Text], word: &str) -> Option<u8>
-    requires { length fields.now ≤ 8 }
+    requires { length fields.now ≤ most_fields }
     ensures value { result ≡ field_in fields.now word.now }
     ensures inside { IfSome result (λ field. field < length fields.now) }
 {

@@ -1,4 +1,5 @@
 ghost use Rattle.std.specs.Prelude.{◌≡◌, ℕ, ◌+◌, ◌<◌, ◌≤◌, ◌^◌, ◌%◌, slice_get, slice_index, Some};
+ghost use Rattle.pe_base.specs.Limits.{most_levels};
 ghost use Rattle.pe_base.specs.Tree.Places.{IsCellPlace, bits, child_at};
 ghost use Rattle.pe_base.specs.Tree.Curve.{children, flips};
 
@@ -7,11 +8,11 @@ use pe_base::{Digits, Dim, Place, Way};
 
 /// The n-th child of a cell in the order of a way along the curve.
 ///
-/// `n` counts from 0 to `3^d - 1`, and the cell's level is 0 to 19, so that its children have a level.
+/// `n` counts from 0 to `3^d - 1`, and the cell's level is below `limits::MOST_LEVELS`, so that its children have a level.
 /// The two ways give the same children in reversed orders.
 pub fn child(dim: Dim, parent: &Place, way: Way, n: u8) -> Place
     requires place { IsCellPlace dim parent.now }
-    requires level { parent.now.level < 20 }
+    requires level { parent.now.level < most_levels }
     requires number { n < 3 ^ dim }
     ensures child { slice_get (children dim way parent.now) n ≡ Some result }
     ensures place { IsCellPlace dim result }
@@ -21,10 +22,10 @@ pub fn child(dim: Dim, parent: &Place, way: Way, n: u8) -> Place
 
 /// The child of a cell that lies at these digits.
 ///
-/// The cell's level is 0 to 19, and no number of its position is `3^20` or more.
+/// The cell's level is below `limits::MOST_LEVELS`, and each number of its position below `3^MOST_LEVELS`.
 pub fn child_at(parent: &Place, digits: Digits) -> Place
-    requires level { parent.now.level < 20 }
-    requires pos { (axis : ℕ) → slice_index parent.now.pos axis < 3 ^ 20 }
+    requires level { parent.now.level < most_levels }
+    requires pos { (axis : ℕ) → slice_index parent.now.pos axis < 3 ^ most_levels }
     requires digits { (axis : ℕ) → slice_index digits.k axis < 3 }
     ensures { result ≡ child_at parent.now digits }
 {

@@ -3,8 +3,9 @@ use Rattle.std.proofs.Common.{◌≡◌, ◌∙◌, sym, subst, ℤ, ℕ, suc, �
 use Rattle.pe_base.specs.declared.stop.Stop.{Stop}
 use Rattle.pe_base.specs.declared.stop.Stop.TheVariants.{Overflow, Division, Sink, Memory}
 use Rattle.pe_base.specs.Acts.Effects.{Seen}
-use Rattle.pe_io.specs.Counters.{CountsOne}
-use Rattle.pe_io.specs.Sink.{Appends, AppendsPrefix}
+use Rattle.pe_base.specs.Calls.Counters.{CountsOne}
+use Rattle.pe_base.specs.Calls.Told.{Appends}
+use Rattle.pe_io.specs.Sink.{AppendsPrefix}
 use Rattle.pe_check.specs.declared.checked.Expr.{Expr}
 use Rattle.pe_check.specs.declared.checked.Stmt.{Stmt, Print, If, IfElse}
 use Rattle.pe_eval.specs.declared.view.View.{View}

@@ -7,14 +7,14 @@ use Rattle.pe_base.specs.declared.state.State.TheVariants.{Unrefined, Refinement
 use Rattle.pe_base.specs.declared.kind.Kind.{Kind}
 use Rattle.pe_base.specs.declared.kind.Kind.TheVariants.{Kept, Born, Dying, Hanging}
 use Rattle.pe_base.specs.Life.States.{refined_state, erased_state, is_stored}
-use Rattle.pe_base.specs.Acts.Effects.{VertexRecord, Seen, MayBecome, IsTriggered, AreTriggered, IsTriggeredIfAny, AreBoth, MayLeave}
+use Rattle.pe_base.specs.Acts.Effects.{SeenVertex, Seen, MayBecome, IsTriggered, AreTriggered, IsTriggeredIfAny, AreBoth, MayLeave}
 use Rattle.pe_parse.specs.declared.tree.Trigger.{Trigger}
 use Rattle.pe_parse.specs.declared.tree.Trigger.TheVariants.{Refine, Erase}
 use Rattle.pe_check.specs.declared.checked.VertexName.{VertexName}
 use Rattle.pe_check.specs.declared.checked.VertexName.TheVariants.{Own, Corner, ParentCorner}
 use Rattle.pe_check.specs.declared.checked.Slot.{Slot}
 use Rattle.pe_check.specs.declared.checked.Slot.TheVariants as slot
-use Rattle.pe_eval.specs.Meaning.{changed_at, with_vertex, with_field, with_number, with_trigger, marked, level_of}
+use Rattle.pe_eval.specs.Meaning.{changed_at, with_vertex, with_field, with_number, with_trigger, triggered, level_of}
 
 -- asked again, a vertex stays
 refined_state-refined : (level greatest : ℕ) (kind : Kind) (state : State) → refined_state level greatest kind (refined_state level greatest kind state) ≡ refined_state level greatest kind state
@@ -84,19 +84,19 @@ module _ (greatest level : ℕ) where
     becomes second third before (inr (inl is)) = let P : State → Type 0 = λ s. MayBecome greatest level kind first s in subst P (sym is) (refined_on second before)
     becomes second third before (inr (inr is)) = let P : State → Type 0 = λ s. MayBecome greatest level kind first s in subst P (sym is) (erased_on second before)
 
-  triggered-same : (it : VertexRecord) → IsTriggered greatest level it it
+  triggered-same : (it : SeenVertex) → IsTriggered greatest level it it
   triggered-same it = record { kind = refl; state = inl refl }
 
-  triggered-then : (first second third : VertexRecord) → IsTriggered greatest level first second → IsTriggered greatest level second third → IsTriggered greatest level first third
+  triggered-then : (first second third : SeenVertex) → IsTriggered greatest level first second → IsTriggered greatest level second third → IsTriggered greatest level first third
   triggered-then first second third a b =
       let P : Kind → Type 0 = λ kind. MayBecome greatest level kind second.state third.state in
       record { kind = b.kind ∙ a.kind; state = becomes first.kind first.state second.state third.state a.state (subst P a.kind b.state) }
 
-  all_triggered-same : (them : List VertexRecord) → AreTriggered greatest level them them
+  all_triggered-same : (them : List SeenVertex) → AreTriggered greatest level them them
   all_triggered-same [] = tt
   all_triggered-same (it ∷ them) = (triggered-same it, all_triggered-same them)
 
-  all_triggered-then : (first second third : List VertexRecord) → AreTriggered greatest level first second → AreTriggered greatest level second third → AreTriggered greatest level first third
+  all_triggered-then : (first second third : List SeenVertex) → AreTriggered greatest level first second → AreTriggered greatest level second third → AreTriggered greatest level first third
   all_triggered-then [] [] [] a b = tt
   all_triggered-then [] [] (z ∷ zs) a b = b
   all_triggered-then [] (y ∷ ys) third a b = absurd a
@@ -104,11 +104,11 @@ module _ (greatest level : ℕ) where
   all_triggered-then (x ∷ xs) (y ∷ ys) [] a b = absurd b
   all_triggered-then (x ∷ xs) (y ∷ ys) (z ∷ zs) a b = (triggered-then x y z a.0 b.0, all_triggered-then xs ys zs a.1 b.1)
 
-  if_any-same : (it : Option VertexRecord) → IsTriggeredIfAny greatest level it it
+  if_any-same : (it : Option SeenVertex) → IsTriggeredIfAny greatest level it it
   if_any-same None = tt
   if_any-same (Some it) = triggered-same it
 
-  if_any-then : (first second third : Option VertexRecord) → IsTriggeredIfAny greatest level first second → IsTriggeredIfAny greatest level second third → IsTriggeredIfAny greatest level first third
+  if_any-then : (first second third : Option SeenVertex) → IsTriggeredIfAny greatest level first second → IsTriggeredIfAny greatest level second third → IsTriggeredIfAny greatest level first third
   if_any-then None None None a b = tt
   if_any-then None None (Some z) a b = b
   if_any-then None (Some y) third a b = absurd a
@@ -117,12 +117,12 @@ module _ (greatest level : ℕ) where
   if_any-then (Some x) (Some y) (Some z) a b = triggered-then x y z a b
 
   -- a change that triggers at most, of one among many
-  all_triggered-changed : (change : VertexRecord → VertexRecord) → ((it : VertexRecord) → IsTriggered greatest level it (change it)) → (k : ℕ) (them : List VertexRecord) → AreTriggered greatest level them (changed_at k change them)
+  all_triggered-changed : (change : SeenVertex → SeenVertex) → ((it : SeenVertex) → IsTriggered greatest level it (change it)) → (k : ℕ) (them : List SeenVertex) → AreTriggered greatest level them (changed_at k change them)
   all_triggered-changed change each k [] = tt
   all_triggered-changed change each zero (it ∷ them) = (each it, all_triggered-same them)
   all_triggered-changed change each (suc k) (it ∷ them) = behind_first (slice_get them k) (all_triggered-changed change each k them)
     where
-      behind_first : (found : Option VertexRecord) → AreTriggered greatest level them (option_map_or (λ x. slice_set them k (change x)) found them)
+      behind_first : (found : Option SeenVertex) → AreTriggered greatest level them (option_map_or (λ x. slice_set them k (change x)) found them)
           → AreTriggered greatest level (it ∷ them) (option_map_or (λ x. it ∷ slice_set them k (change x)) found (it ∷ them))
       behind_first None rest = (triggered-same it, rest)
       behind_first (Some x) rest = (triggered-same it, rest)
@@ -166,7 +166,7 @@ module _ (greatest : ℕ) where
       }
 
   -- a vertex is changed by a change that triggers at most
-  lawful-vertex : (change : VertexRecord → VertexRecord) (name : VertexName) (seen : Seen) → ((it : VertexRecord) → IsTriggered greatest (level_of name seen) it (change it)) → MayLeave greatest seen (with_vertex name change seen)
+  lawful-vertex : (change : SeenVertex → SeenVertex) (name : VertexName) (seen : Seen) → ((it : SeenVertex) → IsTriggered greatest (level_of name seen) it (change it)) → MayLeave greatest seen (with_vertex name change seen)
   lawful-vertex change Own seen each = record {
     place = refl;
     vertex = of_any seen.vertex;
@@ -175,7 +175,7 @@ module _ (greatest : ℕ) where
     parents = all_triggered-same greatest (seen.place.level - 1) seen.parents;
   }
     where
-      of_any : (it : Option VertexRecord) → IsTriggeredIfAny greatest seen.place.level it (option_map change it)
+      of_any : (it : Option SeenVertex) → IsTriggeredIfAny greatest seen.place.level it (option_map change it)
       of_any None = tt
       of_any (Some it) = each it
   lawful-vertex change (Corner k) seen each = record {
@@ -217,6 +217,6 @@ module _ (greatest : ℕ) where
   }
 
   -- a vertex is asked to refine or to erase
-  pub lawful-mark : (trigger : Trigger) (name : VertexName) (seen : Seen) → MayLeave greatest seen (marked trigger greatest name seen)
-  lawful-mark Refine name seen = lawful-vertex (with_trigger Refine (level_of name seen) greatest) name seen (λ it. record { kind = refl; state = inr (inl refl) })
-  lawful-mark Erase name seen = lawful-vertex (with_trigger Erase (level_of name seen) greatest) name seen (λ it. record { kind = refl; state = inr (inr refl) })
+  pub lawful-trigger : (trigger : Trigger) (name : VertexName) (seen : Seen) → MayLeave greatest seen (triggered trigger greatest name seen)
+  lawful-trigger Refine name seen = lawful-vertex (with_trigger Refine (level_of name seen) greatest) name seen (λ it. record { kind = refl; state = inr (inl refl) })
+  lawful-trigger Erase name seen = lawful-vertex (with_trigger Erase (level_of name seen) greatest) name seen (λ it. record { kind = refl; state = inr (inr refl) })

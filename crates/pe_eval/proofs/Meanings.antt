@@ -10,7 +10,7 @@ use Rattle.pe_eval.specs.Arithmetic.{is_zero}
 use Rattle.pe_eval.specs.Values.{value_of, values_of}
 use Rattle.pe_eval.specs.Meaning.{Act, Setting, fine, behind, unless_stopped, with_value, in_turn, scene_of, stmt_step, act_of, meaning, with_number, with_global, print_line}
 use Rattle.pe_eval.specs.Law.{IsLawfulAct}
-use Rattle.pe_eval.proofs.Lawful.{lawful-same, lawful-then, lawful-number, lawful-mark}
+use Rattle.pe_eval.proofs.Lawful.{lawful-same, lawful-then, lawful-number, lawful-trigger}
 
 -- with a value or without one
 value_lawful : {X : Type 0} (setting : Setting) (seen : Seen) (list : List ℤ) (value : Result X Fault) (next : X → Outcome)
@@ -45,7 +45,7 @@ body_lawful body = let P : List Act → Type 0 = λ acts. IsLawfulAct (in_turn a
 
 step_lawful : (y : Stmt-F ((stmt : Stmt) × IsLawfulAct (act_of stmt))) → IsLawfulAct (stmt_step (map-Stmt Stmt Act act_of (map-Stmt ((stmt : Stmt) × IsLawfulAct (act_of stmt)) Stmt (λ e. e.0) y)))
 step_lawful (Stmt-F.Assign slot expr) setting seen list = value_lawful setting seen list (value_of expr (scene_of setting seen list)) (λ n. fine (with_number slot n seen) (with_global slot n list)) (λ n. lawful-number setting.max_level slot n seen)
-step_lawful (Stmt-F.Mark trigger vertex) setting seen list = lawful-mark setting.max_level trigger vertex seen
+step_lawful (Stmt-F.Trigger trigger vertex) setting seen list = lawful-trigger setting.max_level trigger vertex seen
 step_lawful (Stmt-F.Print values) setting seen list = value_lawful setting seen list (values_of values (scene_of setting seen list)) (λ numbers. behind (print_line numbers) (fine seen list)) (λ numbers. lawful-same setting.max_level seen)
 step_lawful (Stmt-F.If test body) setting seen list = value_lawful setting seen list (value_of test (scene_of setting seen list)) _
     (λ n. chosen_lawful setting seen (is_zero n) (fine seen list) _ (lawful-same setting.max_level seen) (body_lawful body setting seen list))

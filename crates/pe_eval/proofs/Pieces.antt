@@ -6,8 +6,9 @@ use Rattle.pe_base.specs.declared.stop.Stop.{Stop}
 use Rattle.pe_base.specs.declared.stop.Stop.TheVariants.{Overflow, Division, Sink, Memory}
 use Rattle.pe_base.specs.Acts.Effects.{Seen, Outcome}
 use Rattle.pe_base.specs.Acts.Effects as effects
-use Rattle.pe_io.specs.Counters.{CountsOne, last_count}
-use Rattle.pe_io.specs.Sink.{Appends, AppendsPrefix}
+use Rattle.pe_base.specs.Calls.Counters.{CountsOne, last_count}
+use Rattle.pe_base.specs.Calls.Told.{Appends}
+use Rattle.pe_io.specs.Sink.{AppendsPrefix}
 use Rattle.pe_check.specs.declared.checked.Expr.{Expr}
 use Rattle.pe_check.specs.declared.checked.Stmt.{Stmt}
 use Rattle.pe_eval.specs.declared.view.View.{View}

@@ -5,8 +5,9 @@ use Rattle.pe_base.specs.declared.stop.Stop.{Stop}
 use Rattle.pe_base.specs.declared.stop.Stop.TheVariants.{Overflow, Division, Sink, Memory}
 use Rattle.pe_base.specs.Acts.Effects.{Seen, Outcome, MayLeave}
 use Rattle.pe_base.specs.Acts.Effects as effects
-use Rattle.pe_io.specs.Counters.{Rises}
-use Rattle.pe_io.specs.Sink.{Appends, AppendsPrefix}
+use Rattle.pe_base.specs.Calls.Counters.{Rises}
+use Rattle.pe_base.specs.Calls.Told.{Appends}
+use Rattle.pe_io.specs.Sink.{AppendsPrefix}
 use Rattle.pe_check.specs.declared.checked.Stmt.{Stmt, If, IfElse}
 use Rattle.pe_eval.specs.declared.view.View.{View}
 use Rattle.pe_check.specs.declared.checked.Expr.{Expr}
@@ -14,10 +15,9 @@ use Rattle.pe_eval.specs.declared.fault.Fault.{Fault}
 use Rattle.pe_eval.specs.Names.{Situation}
 use Rattle.pe_eval.specs.Values.{values_of, with_values}
 use Rattle.pe_eval.specs.Meaning.{fine, with_value, printed, print_start, print_line, act_of, meaning, behind, and_then, unless_stopped}
-use Rattle.pe_eval.specs.Sights.{Frame, sight, globals_of, frame}
+use Rattle.pe_eval.specs.Sights.{Frame, sight, globals_of, frame, reach_of}
 use Rattle.pe_check.proofs.Trees.{stmt_fits-If, stmt_fits-IfElse}
 use Rattle.pe_check.specs.Fits.{Reach, fits, stmt_fits, expr_fits}
-use Rattle.pe_eval.specs.Sights.{reach_of}
 use Rattle.pe_eval.proofs.Chains.{list_all-at, first_of_both, second_of_both}
 use Rattle.pe_eval.specs.Answers.{Told, IsOutcome, IsSinkFault, Answers}
 use Rattle.pe_eval.proofs.Lawful.{lawful-then}

@@ -4,8 +4,8 @@ use Rattle.pe_base.specs.declared.stop.Stop.{Stop}
 use Rattle.pe_base.specs.declared.stop.Stop.TheVariants.{Overflow, Division, Sink, Memory}
 use Rattle.pe_base.specs.Acts.Effects.{Outcome}
 use Rattle.pe_base.specs.Acts.Effects as effects
-use Rattle.pe_io.specs.Counters.{Rises}
-use Rattle.pe_io.specs.Sink.{Appends}
+use Rattle.pe_base.specs.Calls.Counters.{Rises}
+use Rattle.pe_base.specs.Calls.Told.{Appends}
 use Rattle.pe_eval.specs.declared.view.View.{View}
 use Rattle.pe_eval.specs.Sights.{sight, globals_of}
 

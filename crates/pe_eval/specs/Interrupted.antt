@@ -3,7 +3,7 @@ use Rattle.std.specs.Prelude.{◌≡◌, ℕ, suc, ℤ, true, false, List, [], �
 use Rattle.pe_base.specs.declared.stop.Stop.{Stop}
 use Rattle.pe_base.specs.declared.stop.Stop.TheVariants.{Overflow, Division, Sink, Memory}
 use Rattle.pe_base.specs.Acts.Effects.{Seen}
-use Rattle.pe_io.specs.Sink.{Appends}
+use Rattle.pe_base.specs.Calls.Told.{Appends}
 use Rattle.pe_check.specs.declared.checked.Expr.{Expr}
 use Rattle.pe_check.specs.declared.checked.Stmt.{Stmt, Print, If, IfElse}
 use Rattle.pe_eval.specs.Arithmetic.{is_zero}

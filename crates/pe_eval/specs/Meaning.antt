@@ -7,7 +7,7 @@ use Rattle.pe_base.specs.declared.state.State.{State}
 use Rattle.pe_base.specs.declared.kind.Kind.{Kind}
 use Rattle.pe_base.specs.Life.States.{refined_state, erased_state}
 use Rattle.pe_base.specs.Lines.{line}
-use Rattle.pe_base.specs.Acts.Effects.{VertexRecord, Seen, Outcome}
+use Rattle.pe_base.specs.Acts.Effects.{SeenVertex, Seen, Outcome}
 use Rattle.pe_base.specs.Acts.Effects as effects
 use Rattle.pe_parse.specs.declared.tree.Trigger.{Trigger}
 use Rattle.pe_parse.specs.declared.tree.Trigger.TheVariants.{Refine, Erase}
@@ -72,13 +72,13 @@ abbrev pub changed_at : {X : Type 0} → ℕ → (X → X) → List X → List X
 changed_at k change xs = option_map_or (λ x. slice_set xs k (change x)) (slice_get xs k) xs
 
 -- the vertex that a name speaks of is changed
-abbrev pub with_vertex : VertexName → (VertexRecord → VertexRecord) → Seen → Seen
+abbrev pub with_vertex : VertexName → (SeenVertex → SeenVertex) → Seen → Seen
 with_vertex Own change seen = record seen { vertex = option_map change seen.vertex }
 with_vertex (Corner k) change seen = record seen { corners = changed_at k change seen.corners }
 with_vertex (ParentCorner k) change seen = record seen { parents = changed_at k change seen.parents }
 
 -- a number of a vertex is set
-abbrev pub with_field : ℕ → ℤ → VertexRecord → VertexRecord
+abbrev pub with_field : ℕ → ℤ → SeenVertex → SeenVertex
 with_field field n vertex = record vertex { numbers = slice_set vertex.numbers field n }
 
 -- a number of what the event sees is set
@@ -106,12 +106,12 @@ triggered_state Refine level max_level kind state = refined_state level max_leve
 triggered_state Erase level max_level kind state = erased_state kind state
 
 -- a vertex of a level is asked to refine or to erase
-abbrev pub with_trigger : Trigger → ℕ → ℕ → VertexRecord → VertexRecord
+abbrev pub with_trigger : Trigger → ℕ → ℕ → SeenVertex → SeenVertex
 with_trigger trigger level max_level vertex =
     record vertex { state = triggered_state trigger level max_level vertex.kind vertex.state }
 
-abbrev pub marked : Trigger → ℕ → VertexName → Seen → Seen
-marked trigger max_level vertex seen = with_vertex vertex (with_trigger trigger (level_of vertex seen) max_level) seen
+abbrev pub triggered : Trigger → ℕ → VertexName → Seen → Seen
+triggered trigger max_level vertex seen = with_vertex vertex (with_trigger trigger (level_of vertex seen) max_level) seen
 
 -- the parts of a line, each behind one space
 abbrev pub number_parts : List ℤ → List ℕ
@@ -133,7 +133,7 @@ printed values situation = with_value situation.seen situation.list (values_of v
 abbrev pub stmt_step : Stmt-F Act → Act
 stmt_step (Stmt-F.Assign slot expr) setting seen list =
     with_value seen list (value_of expr (scene_of setting seen list)) (λ n. fine (with_number slot n seen) (with_global slot n list))
-stmt_step (Stmt-F.Mark trigger vertex) setting seen list = fine (marked trigger setting.max_level vertex seen) list
+stmt_step (Stmt-F.Trigger trigger vertex) setting seen list = fine (triggered trigger setting.max_level vertex seen) list
 stmt_step (Stmt-F.Print values) setting seen list = printed values (scene_of setting seen list)
 stmt_step (Stmt-F.If test body) setting seen list =
     with_value seen list (value_of test (scene_of setting seen list)) (λ n. if is_zero n then fine seen list else in_turn body setting seen list)

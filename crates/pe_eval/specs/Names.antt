@@ -5,7 +5,7 @@ use Rattle.pe_base.specs.declared.state.State.{State}
 use Rattle.pe_base.specs.declared.state.State.TheVariants.{Unrefined, RefinementTriggered, Refining, Refined, EraseTriggered, Erasing}
 use Rattle.pe_base.specs.declared.kind.Kind.{Kind}
 use Rattle.pe_base.specs.declared.kind.Kind.TheVariants.{Kept, Born, Dying, Hanging}
-use Rattle.pe_base.specs.Acts.Effects.{VertexRecord, Seen}
+use Rattle.pe_base.specs.Acts.Effects.{SeenVertex, Seen}
 use Rattle.pe_check.specs.declared.checked.VertexName.{VertexName}
 use Rattle.pe_check.specs.declared.checked.VertexName.TheVariants.{Own, Corner, ParentCorner}
 use Rattle.pe_check.specs.declared.checked.Slot.{Slot}
@@ -34,13 +34,13 @@ kind_number Dying = 2
 kind_number Hanging = 3
 
 -- the vertex that a name speaks of
-abbrev pub vertex_named : VertexName → Seen → Option VertexRecord
+abbrev pub vertex_named : VertexName → Seen → Option SeenVertex
 vertex_named Own seen = seen.vertex
 vertex_named (Corner k) seen = slice_get seen.corners k
 vertex_named (ParentCorner k) seen = slice_get seen.parents k
 
 -- what is asked of that vertex, and 0 where there is none
-abbrev pub of_vertex : (VertexRecord → ℤ) → VertexName → Seen → ℤ
+abbrev pub of_vertex : (SeenVertex → ℤ) → VertexName → Seen → ℤ
 of_vertex ask vertex seen = option_map_or ask (vertex_named vertex seen) (pos 0)
 
 abbrev pub number_at : List ℤ → ℕ → ℤ

@@ -3,8 +3,8 @@ use Rattle.std.specs.Prelude.{◌≡◌, ℕ, zero, suc, ℤ, ◌+◌, List, ◌
 use Rattle.std.specs.List.{flat_map}
 use Rattle.pe_base.specs.declared.stop.Stop.{Stop}
 use Rattle.pe_base.specs.declared.stop.Stop.TheVariants.{Overflow, Division, Sink, Memory}
-use Rattle.pe_io.specs.Counters.{last_count}
-use Rattle.pe_io.specs.Sink.{Appends}
+use Rattle.pe_base.specs.Calls.Counters.{last_count}
+use Rattle.pe_base.specs.Calls.Told.{Appends}
 use Rattle.pe_eval.specs.Meaning.{print_line}
 
 -- where text goes: the text, if it is told, and how many pieces were given

@@ -5,7 +5,7 @@ use Rattle.pe_base.specs.declared.place.Place.{Place}
 use Rattle.pe_base.specs.declared.event.Sort.{Sort}
 use Rattle.pe_base.specs.declared.event.Sort.TheVariants as sort
 use Rattle.pe_base.specs.Tree.Places.{root}
-use Rattle.pe_base.specs.Acts.Effects.{VertexRecord, Seen}
+use Rattle.pe_base.specs.Acts.Effects.{SeenVertex, Seen}
 use Rattle.pe_stacks.specs.declared.record.Vertex as stacks
 use Rattle.pe_stacks.specs.Corners.{CornerList, vertices_of, IsFull}
 use Rattle.pe_check.specs.Fits.{Reach}
@@ -16,11 +16,11 @@ use Rattle.pe_eval.specs.Names.{Situation}
 use Rattle.pe_eval.specs.Meaning.{Setting, scene_of}
 
 -- a vertex
-abbrev pub seen_vertex : stacks.Vertex Fields → VertexRecord
+abbrev pub seen_vertex : stacks.Vertex Fields → SeenVertex
 seen_vertex vertex = record { state = vertex.state; kind = vertex.kind; numbers = vertex.payload.a }
 
 -- the corners of a cell, by their numbers
-abbrev pub seen_corners : CornerList (stacks.Vertex Fields) → List VertexRecord
+abbrev pub seen_corners : CornerList (stacks.Vertex Fields) → List SeenVertex
 seen_corners corners = map seen_vertex (vertices_of corners)
 
 -- the numbers of the whole grid

@@ -92,8 +92,8 @@ fn step<K: Sink>(stmt: &Stmt, view: &mut View, sink: &mut K) -> Result<(), Stop>
             }
             Err(fault) => Err(fault.stop()),
         },
-        Stmt::Mark(trigger, vertex) => {
-            view.mark(*trigger, *vertex);
+        Stmt::Trigger(trigger, vertex) => {
+            view.apply(*trigger, *vertex);
             Ok(())
         }
         Stmt::Print(values) => print(values, view, sink),

@@ -1,7 +1,7 @@
 ghost use Rattle.std.specs.Prelude.{◌≡◌, ℕ, ◌^◌, ◌<◌, IsTrue, slice_set};
 ghost use Rattle.pe_stacks.specs.Corners.{IsFull};
 ghost use Rattle.pe_check.specs.Fits.{slot_fits, vertex_fits};
-ghost use Rattle.pe_eval.specs.Meaning.{with_number, with_global, with_field, with_trigger, marked, triggered_state, changed_at};
+ghost use Rattle.pe_eval.specs.Meaning.{with_number, with_global, with_field, with_trigger, triggered, triggered_state, changed_at};
 ghost use Rattle.pe_eval.specs.Sights.{sight, globals_of, frame, reach_of, IsReady, seen_corners, seen_vertex};
 
 use crate::view::View;
@@ -102,10 +102,10 @@ impl View<'_> {
     }
 
     /// Asks a vertex to refine or to erase.
-    pub(crate) fn mark(&mut self, trigger: Trigger, name: VertexName)
+    pub(crate) fn apply(&mut self, trigger: Trigger, name: VertexName)
         requires fits { IsTrue (vertex_fits (reach_of self.old) name) }
         requires ready { IsReady self.old }
-        ensures sight { sight self.new ≡ marked trigger (frame self.old).setting.max_level name (sight self.old) }
+        ensures sight { sight self.new ≡ triggered trigger (frame self.old).setting.max_level name (sight self.old) }
         ensures globals { globals_of self.new ≡ globals_of self.old }
         ensures frame { frame self.new ≡ frame self.old }
         ensures ready { IsReady self.new }
@@ -120,7 +120,7 @@ impl View<'_> {
                 },
                 VertexName::Own,
             ) => {
-                mark_vertex(vertex, trigger, at.level, *max_level);
+                trigger_vertex(vertex, trigger, at.level, *max_level);
             }
             (
                 View::Cell {
@@ -131,7 +131,7 @@ impl View<'_> {
                 },
                 VertexName::Corner(k),
             ) => {
-                mark_corner(corners, k, trigger, at.level, *max_level);
+                trigger_corner(corners, k, trigger, at.level, *max_level);
             }
             (
                 View::Vertex {
@@ -142,7 +142,7 @@ impl View<'_> {
                 },
                 VertexName::ParentCorner(k),
             ) => {
-                mark_corner(parents, k, trigger, at.level - 1, *max_level);
+                trigger_corner(parents, k, trigger, at.level - 1, *max_level);
             }
             (
                 View::Cell {
@@ -153,7 +153,7 @@ impl View<'_> {
                 },
                 VertexName::ParentCorner(k),
             ) => {
-                mark_corner(parents, k, trigger, at.level - 1, *max_level);
+                trigger_corner(parents, k, trigger, at.level - 1, *max_level);
             }
             _ => unreachable!(),
         }
@@ -173,14 +173,14 @@ fn set_of_corner(corners: &mut Corners<Fields>, k: u8, field: u8, x: i64)
 }
 
 /// Asks a corner, on a level, to refine or to erase.
-fn mark_corner(corners: &mut Corners<Fields>, k: u8, trigger: Trigger, level: u8, max_level: u8)
+fn trigger_corner(corners: &mut Corners<Fields>, k: u8, trigger: Trigger, level: u8, max_level: u8)
     requires corner { k < 2 ^ corners.old.dim }
     requires full { IsFull corners.old.dim corners.old }
     ensures seen { seen_corners corners.new ≡ changed_at k (with_trigger trigger level max_level) (seen_corners corners.old) }
     ensures dim { corners.new.dim ≡ corners.old.dim }
     ensures full { (axes : ℕ) → IsFull axes corners.old → IsFull axes corners.new }
 {
-    mark_vertex(corners.at_mut(k), trigger, level, max_level);
+    trigger_vertex(corners.at_mut(k), trigger, level, max_level);
 }
 
 /// Sets a number of a cell.
@@ -200,7 +200,7 @@ fn set_in_vertex(vertex: &mut Vertex<Fields>, field: u8, x: i64)
 }
 
 /// Asks a vertex of a level to refine or to erase.
-fn mark_vertex(vertex: &mut Vertex<Fields>, trigger: Trigger, level: u8, max_level: u8)
+fn trigger_vertex(vertex: &mut Vertex<Fields>, trigger: Trigger, level: u8, max_level: u8)
     ensures { vertex.new ≡ record vertex.old { state = triggered_state trigger level max_level vertex.old.kind vertex.old.state } }
 {
     match trigger {

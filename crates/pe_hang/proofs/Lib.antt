@@ -2,12 +2,10 @@
 
 -- records on stacks, and what is seen of them
 pub mod OnStacks
--- within a body: from the start of a course to its end
-pub mod Leading
 -- an event of the code and of the machine
 pub mod Firing
 -- old and new through events
-pub mod Marked
+pub mod Ages
 -- what stays through calls
 pub mod Staying
 -- calls on a depot as steps of the machine

@@ -2,11 +2,11 @@
 use Rattle.std.proofs.Common.{◌≡◌, ℕ, ◌+◌, ◌^◌, ◌<◌, Bool, true, false, ◌&&◌, List, [], ◌∷◌, map, length, Some, refl, sym, ap, subst, ◌∙◌, arith}
 use Rattle.std.specs.Prelude.{nat_lt, slice_get}
 use Rattle.std.proofs.lemmas.Bool.{ltb-true, and_parts}
-use Rattle.pe_base.specs.Walk.Course.{Course, done, at_once}
+use Rattle.pe_base.specs.Walk.Course.{Course, done, at_once, allowed}
 use Rattle.pe_stacks.specs.Holdings.{Holdings, stack_count, stack_at, items_at, len_at, lent, given_up, pushed, popped}
 use Rattle.pe_hang.specs.InHand.{map_holdings}
-use Rattle.pe_hang.specs.Moves.{allowed, may_rise, lend, give_up, top_of, pop, push, MayPop, MayPush}
-use Rattle.pe_hang.specs.Follows.{Fits}
+use Rattle.pe_hang.specs.Moves.{may_rise, lend, give_up, top_of, pop, push, MayPop, MayPush}
+use Rattle.pe_base.specs.Calls.Follows.{Fits}
 use Rattle.pe_hang.proofs.OnStacks.{stack_count-map, stack_at-map, len_at-map, pushed-map, popped-map}
 
 -- a step that may be made only where a test passes

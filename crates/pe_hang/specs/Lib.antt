@@ -4,7 +4,5 @@
 pub mod InHand
 -- what a call on a depot is to a machine of lists
 pub mod Moves
--- how the answer of a call follows a course of moves
-pub mod Follows
 -- a hanging vertex is made, and ends
 pub mod Hanging

@@ -1,12 +1,7 @@
 -- What a call on a depot is to a machine of lists: a move that is stuck where the call may not be made.
 use Rattle.std.specs.Prelude.{ℕ, ◌+◌, ◌^◌, ◌<◌, Bool, true, false, ◌&&◌, nat_lt, List, [], ◌∷◌}
-use Rattle.pe_base.specs.Walk.Course.{Course, done, stuck, ends, at_once}
+use Rattle.pe_base.specs.Walk.Course.{Course, done, stuck, ends, at_once, allowed}
 use Rattle.pe_stacks.specs.Holdings.{Holdings, stack_count, stack_at, items_at, len_at, lent, given_up, pushed, popped}
-
--- a move that may be made only where a test passes
-abbrev pub allowed : {X : Type 0} → Bool → Course X → Course X
-allowed true course = course
-allowed false course = ends stuck
 
 -- a count may rise
 abbrev pub may_rise : ℕ → Bool

@@ -7,11 +7,12 @@ use Rattle.pe_base.specs.Acts.Events.{sort_of}
 use Rattle.pe_base.specs.declared.stop.Stop.{Stop}
 use Rattle.pe_base.specs.declared.stop.Stop.TheVariants.{Overflow, Division, Sink, Memory}
 use Rattle.pe_base.specs.Acts.Effects.{Seen, Outcome}
-use Rattle.pe_io.specs.Counters.{Rises}
-use Rattle.pe_io.specs.Sink.{Appends, AppendsPrefix}
-use Rattle.pe_mapping.specs.Held.{Told, Held, IsLonger, Adds, AddsPart}
+use Rattle.pe_base.specs.Calls.Counters.{Rises}
+use Rattle.pe_base.specs.Calls.Told.{Appends, Told, Adds, AddsPart}
+use Rattle.pe_io.specs.Sink.{AppendsPrefix}
+use Rattle.pe_mapping.specs.Held.{Held}
 use Rattle.pe_mapping.specs.Answers.{IsSinkFault, Answers}
-use Rattle.pe_mapping.proofs.Texts.{adds-then, part-first, part-then, fails-then}
+use Rattle.pe_base.proofs.Calls.Texts.{adds-then, part-first, part-then, fails-then}
 use Rattle.pe_eval.specs.declared.view.View.{View}
 use Rattle.pe_check.specs.declared.checked.Stmt.{Stmt}
 use Rattle.pe_eval.specs.Meaning.{Setting, behind, meaning}
@@ -22,7 +23,7 @@ use Rattle.pe_scene.specs.Bodies.{body_at}
 use Rattle.pe_scene.specs.SaidView.{said_of}
 use Rattle.pe_interp.specs.Effect.{trace_line, limit_by, acted, effect_of}
 
-longer : (old : Option (List ℕ)) (bytes : List ℕ) (new : Option (List ℕ)) → Appends old bytes new → IsLonger old bytes new
+longer : (old : Option (List ℕ)) (bytes : List ℕ) (new : Option (List ℕ)) → Appends old bytes new → Appends old bytes new
 longer None bytes new is = is
 longer (Some text) bytes new is = is
 
@@ -37,13 +38,13 @@ part_of old new line appends faults = by old.text refl appends where
     part = [];
     rest = line;
     whole = refl;
-    added = record { text = subst (λ t. IsLonger t [] new.text) (sym is) none; faults = faults };
+    added = record { text = subst (λ t. Appends t [] new.text) (sym is) none; faults = faults };
   }
   by (Some text) is some = record {
     part = take some.0 line;
     rest = drop some.0 line;
     whole = sym (take-append-drop some.0 line);
-    added = record { text = subst (λ t. IsLonger t (take some.0 line) new.text) (sym is) some.1; faults = faults };
+    added = record { text = subst (λ t. Appends t (take some.0 line) new.text) (sym is) some.1; faults = faults };
   }
 
 -- the sink failed at the trace line

@@ -2,7 +2,7 @@
 use Rattle.std.specs.Prelude.{ℕ, List, [], ◌∷◌, Option, true}
 use Rattle.pe_base.specs.declared.fields.Fields.{Fields}
 use Rattle.pe_mapping.specs.Held.{Held}
-use Rattle.pe_mapping.specs.Sights.{Numbers}
+use Rattle.pe_stacks.specs.Sights.{Numbers}
 use Rattle.pe_scene.specs.declared.scenario.Scenario.{Scenario}
 use Rattle.pe_interp.specs.declared.interp.Interp.{Interp}
 

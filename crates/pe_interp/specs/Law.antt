@@ -12,10 +12,10 @@ use Rattle.pe_base.specs.declared.kind.Kind.{Kind}
 use Rattle.pe_base.specs.Life.States.{refined_state, is_stored}
 use Rattle.pe_base.specs.Acts.Events.{sort_of}
 use Rattle.pe_base.specs.Acts.Payloads.{zeros}
-use Rattle.pe_base.specs.Acts.Effects.{VertexRecord, Seen, MayBecome, IsTriggered, AreTriggered, IsTriggeredIfAny, MayLeave, AreLawful}
+use Rattle.pe_base.specs.Acts.Effects.{SeenVertex, Seen, MayBecome, IsTriggered, AreTriggered, IsTriggeredIfAny, MayLeave, AreLawful}
 use Rattle.pe_check.specs.declared.checked.Stmt.{Stmt}
 use Rattle.pe_eval.proofs.Meanings.{meaning_lawful}
-use Rattle.pe_mapping.proofs.Lawful.{leaves_same}
+use Rattle.pe_base.proofs.Lawful.{leaves_same}
 use Rattle.pe_scene.specs.Said.{Said}
 use Rattle.pe_scene.specs.SaidView.{said_of}
 use Rattle.pe_scene.specs.Bodies.{body_at}
@@ -37,16 +37,16 @@ module _ (greatest level : ℕ) where
   becomes-none kind before after (inr (inl is)) = inl (is ∙ refined_state-none level kind before)
   becomes-none kind before after (inr (inr is)) = inr (inr is)
 
-  triggered-none : (before after : VertexRecord) → IsTriggered 0 level before after → IsTriggered greatest level before after
+  triggered-none : (before after : SeenVertex) → IsTriggered 0 level before after → IsTriggered greatest level before after
   triggered-none before after it = record { kind = it.kind; state = becomes-none before.kind before.state after.state it.state }
 
-  any_triggered-none : (before after : Option VertexRecord) → IsTriggeredIfAny 0 level before after → IsTriggeredIfAny greatest level before after
+  any_triggered-none : (before after : Option SeenVertex) → IsTriggeredIfAny 0 level before after → IsTriggeredIfAny greatest level before after
   any_triggered-none None None it = tt
   any_triggered-none None (Some after) it = it
   any_triggered-none (Some before) None it = it
   any_triggered-none (Some before) (Some after) it = triggered-none before after it
 
-  all_triggered-none : (before after : List VertexRecord) → AreTriggered 0 level before after → AreTriggered greatest level before after
+  all_triggered-none : (before after : List SeenVertex) → AreTriggered 0 level before after → AreTriggered greatest level before after
   all_triggered-none [] [] them = tt
   all_triggered-none [] (after ∷ afters) them = them
   all_triggered-none (before ∷ befores) [] them = them

@@ -2,8 +2,9 @@
 ghost use Rattle.std.specs.Prelude.{◌≡◌, ◌≤◌, [], ◌∷◌, ◌++◌, OnOk, OnErr};
 ghost use Rattle.pe_base.specs.Acts.Events.{sort_of};
 ghost use Rattle.pe_base.specs.Lines.{line_by, place_line};
-ghost use Rattle.pe_io.specs.Counters.{Rises};
-ghost use Rattle.pe_io.specs.Sink.{Appends, AppendsPrefix};
+ghost use Rattle.pe_base.specs.Calls.Counters.{Rises};
+ghost use Rattle.pe_base.specs.Calls.Told.{Appends};
+ghost use Rattle.pe_io.specs.Sink.{AppendsPrefix};
 ghost use Rattle.pe_scene.specs.SaidView.{said_of};
 ghost use Rattle.pe_interp.specs.Effect.{trace_line};
 

@@ -6,7 +6,7 @@ pub mod Rising
 -- sets of numbers, read by the list of their keys
 pub mod NumberSets
 -- # Text
--- pieces that are appended one after another
-pub mod Appending
+-- a line that is given to a sink as one piece
+pub mod Endings
 -- what several writes have taken of one list of bytes
 pub mod PartialWrites

@@ -1,7 +1,7 @@
 -- What a shelf remembers of its calls.
 use Rattle.std.specs.Prelude.{ℕ, ◌+◌, List, Option, Some, None, min}
 use Rattle.pe_io.specs.declared.shelf.ShelfCall.{ShelfCall}
-use Rattle.pe_io.specs.Counters.{last_count}
+use Rattle.pe_base.specs.Calls.Counters.{last_count}
 use Rattle.pe_io.specs.Shelf.{FailedCall, failed_call}
 
 -- how many calls were made, how many of them failed, and the last that failed

@@ -1,7 +1,5 @@
 -- The definitions of shelves and sinks, in reading order.
 
--- counts of 64 bits that stay at their last value
-pub mod Counters
 -- numbers of calls that are to fail
 pub mod Numbers
 -- what a shelf holds, and what it may answer

@@ -3,7 +3,7 @@ use Rattle.std.specs.Prelude.{◌≡◌, ℕ, ◌<◌, ◌≤◌, List, length, 
 use Rattle.pe_io.specs.declared.shelf.Got.{Got}
 use Rattle.pe_io.specs.declared.shelf.Got.TheVariants.{Whole, Longer, Absent, Failed, Memory}
 use Rattle.pe_io.specs.declared.shelf.ShelfCall.{ShelfCall}
-use Rattle.pe_io.specs.Counters.{Rises}
+use Rattle.pe_base.specs.Calls.Counters.{Rises}
 
 -- the bytes under each name, or none
 abbrev pub Contents : Type 0

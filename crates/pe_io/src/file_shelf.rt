@@ -1,5 +1,5 @@
 ghost use Rattle.std.specs.Prelude.{◌≡◌, ◌≢◌, ◌≤◌, None, Err, IfOk};
-ghost use Rattle.pe_io.specs.Counters.{CountsOne};
+ghost use Rattle.pe_base.specs.Calls.Counters.{CountsOne};
 ghost use Rattle.pe_io.specs.CallLog.{no_calls, counted};
 ghost use Rattle.pe_io.specs.Shelf.{FailedAt, IsRead, IsWithinLimit};
 

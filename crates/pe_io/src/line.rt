@@ -1,13 +1,16 @@
-ghost use Rattle.std.specs.Prelude.{◌≡◌, ◌+◌, ◌≤◌, [], ◌∷◌, ◌++◌, map, length, decimal, OnOk, OnErr};
+ghost use Rattle.std.specs.Prelude.{◌≡◌, ◌+◌, ◌≤◌, [], ◌∷◌, ◌++◌, map, length, decimal};
+ghost use Rattle.std.specs.List.{flat_map};
 ghost use Rattle.std.specs.Fmt.{signed_decimal};
-ghost use Rattle.pe_base.specs.Lines.{shown_byte, shown_key};
-ghost use Rattle.pe_io.specs.Counters.{CountsOne, Rises};
-ghost use Rattle.pe_io.specs.Sink.{Appends, AppendsPrefix};
-ghost use Rattle.pe_io.specs.Line.{HasRoom};
+ghost use Rattle.pe_base.specs.Lines.{shown_byte, shown_key, place_parts};
+ghost use Rattle.pe_base.specs.Calls.Counters.{CountsOne};
+ghost use Rattle.pe_base.specs.Calls.Told.{Tells};
+ghost use Rattle.pe_io.specs.Sink.{told_by};
+ghost use Rattle.pe_io.specs.Line.{HasRoom, HasNoFeed};
 
 use crate::sink::{Sink, SinkFailed};
 use arrayvec::ArrayVec;
 use itoa::Buffer;
+use pe_base::{Dim, Place};
 use std::marker::Model;
 
 /// The bytes of the longest line, with its line feed.
@@ -16,7 +19,8 @@ const LINE_ROOM: usize = 320;
 /// How many bytes of a key are shown.
 const SHOWN_BYTES: usize = 64;
 
-/// A line that is being built, part by part, without its line feed. Takes no memory.
+/// A line that is being built, part by part, without its line feed. No part has one, so the line ends where it is
+/// ended. Takes no memory.
 #[derive(Drop)]
 pub struct Line {
     bytes: ArrayVec<u8, LINE_ROOM>,
@@ -24,18 +28,20 @@ pub struct Line {
 
 impl Model for Line {
     ghost use Rattle.std.specs.Prelude.{ℕ, ◌<◌, List, length};
+    ghost use Rattle.pe_io.specs.Line.{HasNoFeed};
 
     ghost Value = { List ℕ };
 
     ghost view = { λ line. line.bytes.items };
 
-    ghost invariant = { λ line. length line.bytes.items < 320 };
+    ghost invariant = { λ line. (length line.bytes.items < 320) × HasNoFeed line.bytes.items };
 }
 
 impl Line {
     /// A line of one word.
     pub fn of(word: &str) -> Line
-        requires { HasRoom [] (length word.now) }
+        requires room { HasRoom [] (length word.now) }
+        requires plain { HasNoFeed word.now }
         ensures { result ≡ word.now }
     {
         let mut bytes = ArrayVec::new();
@@ -45,7 +51,8 @@ impl Line {
 
     /// Adds a part behind one space.
     pub fn part(&mut self, part: &str)
-        requires { HasRoom self.old (1 + length part.now) }
+        requires room { HasRoom self.old (1 + length part.now) }
+        requires plain { HasNoFeed part.now }
         ensures part { self.new ≡ self.old ++ 32 ∷ part.now }
         ensures length { length self.new ≡ length self.old + 1 + length part.now }
     {
@@ -85,13 +92,24 @@ impl Line {
         add_shown(&mut self.bytes, &key.as_bytes()[..shown]);
     }
 
+    /// Adds the parts of a place: its level, and its position on each axis. They have at most 105 bytes.
+    pub fn place(&mut self, dim: Dim, place: &Place)
+        requires { HasRoom self.old 105 }
+        ensures place { self.new ≡ self.old ++ flat_map (λ part. 32 ∷ part) (place_parts dim place.now) }
+        ensures length { length self.new ≤ length self.old + 105 }
+    {
+        self.number(u64::from(place.level));
+        for axis in 0..dim.axes() as usize {
+            self.number(place.pos[axis]);
+        }
+    }
+
     /// Ends the line by a line feed, and gives it to a sink as one piece. After an `Err` the sink has taken
-    /// a prefix of it.
+    /// a part of it.
     pub fn end<K: Sink>(self, sink: &mut K) -> Result<(), SinkFailed>
-        ensures ok { OnOk result (Appends (K.text sink.old) (self ++ 10 ∷ []) (K.text sink.new)) }
-        ensures err { OnErr result (AppendsPrefix (K.text sink.old) (self ++ 10 ∷ []) (K.text sink.new)) }
-        ensures faults { K.faults sink.old ≤ K.faults sink.new }
-        ensures failed { OnErr result (Rises (K.faults sink.old) (K.faults sink.new)) }
+        ensures told { Tells (self ++ 10 ∷ []) (told_by K.text K.writes K.faults sink.old) (told_by K.text K.writes K.faults sink.new) result }
+
+        // A piece at which the sink failed is counted too.
         ensures piece { CountsOne (K.writes sink.old) (K.writes sink.new) }
     {
         let mut bytes = self.bytes;

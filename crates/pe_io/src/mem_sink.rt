@@ -1,5 +1,5 @@
 ghost use Rattle.std.specs.Prelude.{◌≡◌, ℕ, ◌+◌, ◌<◌, ◌≤◌, ◌↔◌, [], ◌++◌, length, Some, Contains, IsErr, IfOk, OnOk, OnErr};
-ghost use Rattle.pe_io.specs.Counters.{CountsOne};
+ghost use Rattle.pe_base.specs.Calls.Counters.{CountsOne};
 ghost use Rattle.pe_io.specs.MemSink.{FailsAt};
 
 use crate::numbers::{has_next, set_of};

@@ -1,5 +1,5 @@
 ghost use Rattle.std.specs.Prelude.{◌≡◌, ◌≢◌, ℕ, ◌≤◌, None, Err, Option};
-ghost use Rattle.pe_io.specs.Counters.{CountsOne};
+ghost use Rattle.pe_base.specs.Calls.Counters.{CountsOne};
 ghost use Rattle.pe_io.specs.Shelf.{Contents, FailedCall, FailedAt, IsGot, IsWithinLimit, WhereTold};
 ghost use Rattle.pe_io.specs.Puts.{ChangesTold};
 

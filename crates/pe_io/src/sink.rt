@@ -1,6 +1,7 @@
 ghost use Rattle.std.specs.Prelude.{◌≡◌, ℕ, ◌<◌, ◌≤◌, List, [], length, Option, OnOk, OnErr, IsOk};
-ghost use Rattle.pe_io.specs.Counters.{CountsOne, Rises};
-ghost use Rattle.pe_io.specs.Sink.{Appends, AppendsPrefix};
+ghost use Rattle.pe_base.specs.Calls.Counters.{CountsOne, Rises};
+ghost use Rattle.pe_base.specs.Calls.Told.{Appends};
+ghost use Rattle.pe_io.specs.Sink.{AppendsPrefix};
 
 /// A sink failed: it took only a part of what it was given, or nothing.
 #[derive(Clone, Copy, Debug, PartialEq, Eq)]

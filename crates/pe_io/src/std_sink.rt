@@ -1,6 +1,6 @@
 ghost use Rattle.std.specs.Prelude.{◌≡◌, ◌<◌, ◌≤◌, [], length, None, IsOk, OnOk, OnErr};
 ghost use Rattle.std.specs.Io.KnownBytes.{Appends};
-ghost use Rattle.pe_io.specs.Counters.{CountsOne};
+ghost use Rattle.pe_base.specs.Calls.Counters.{CountsOne};
 ghost use Rattle.pe_io.specs.StdSink.{AppendsPart};
 
 use crate::sink::{Sink, SinkFailed};

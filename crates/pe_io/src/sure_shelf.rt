@@ -1,6 +1,6 @@
 ghost use Rattle.std.specs.Prelude.{◌≡◌, ◌≢◌, ℕ, List, None, Some, Err, IfOk, OnOk, OnErr};
 ghost use Rattle.std.specs.Option.{option_copied};
-ghost use Rattle.pe_io.specs.Counters.{CountsOne};
+ghost use Rattle.pe_base.specs.Calls.Counters.{CountsOne};
 ghost use Rattle.pe_io.specs.Shelf.{IsGot, IsWithinLimit};
 ghost use Rattle.pe_io.specs.Puts.{Puts, SameContents};
 

@@ -1,5 +1,5 @@
 ghost use Rattle.std.specs.Prelude.{◌≡◌, ◌<◌, [], length, None, IsOk};
-ghost use Rattle.pe_io.specs.Counters.{CountsOne};
+ghost use Rattle.pe_base.specs.Calls.Counters.{CountsOne};
 
 use crate::sink::{Sink, SinkFailed};
 use std::marker::Model;

@@ -1,5 +1,5 @@
-ghost use Rattle.std.specs.Prelude.{◌≡◌, ◌∷◌, [], ◌<◌, ◌≤◌, ℕ, Some, true, false, length, slice_index, IsTrue, IfSome};
-ghost use Rattle.std.specs.List.{list_all, prefix_len};
+ghost use Rattle.std.specs.Prelude.{◌≡◌, ◌∷◌, [], ◌<◌, ◌≤◌, Some, true, false, length, slice_index, IfSome};
+ghost use Rattle.std.specs.List.{prefix_len};
 ghost use Rattle.pe_lex.specs.Forms.{is_white, is_letter, is_digit, is_word_byte, has_form, kind_of, AnyWord};
 ghost use Rattle.pe_lex.specs.Tokens.{longest};
 

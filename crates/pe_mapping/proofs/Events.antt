@@ -4,9 +4,10 @@ use Rattle.pe_base.specs.declared.event.Event.{Event}
 use Rattle.pe_base.specs.declared.stop.Stop.{Stop}
 use Rattle.pe_base.specs.declared.stop.Stop.TheVariants.{Overflow, Division, Sink, Memory}
 use Rattle.pe_base.specs.Acts.Effects.{Seen, Outcome, Rules}
-use Rattle.pe_mapping.specs.Held.{Held, Keeps, AddsPart, outcome_of}
+use Rattle.pe_mapping.specs.Held.{Held, Keeps, outcome_of}
+use Rattle.pe_base.specs.Calls.Told.{AddsPart}
 use Rattle.pe_mapping.specs.Answers.{Answers}
-use Rattle.pe_mapping.proofs.Texts.{part-all}
+use Rattle.pe_base.proofs.Calls.Texts.{part-all}
 
 -- whatever the answer of an event, a part of its text was added
 pub answer-part : {Plan : Type 0} (outcome : Outcome) (old new : Held Plan) (after : Seen) (result : Result (Unit {0}) Stop) → Answers outcome old new after result → AddsPart old.told outcome.text new.told

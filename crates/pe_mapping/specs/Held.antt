@@ -1,13 +1,10 @@
--- What a mapping holds, and how the text that it tells grows.
-use Rattle.std.specs.Prelude.{◌≡◌, ◌⊎◌, ℕ, ℤ, ◌-◌, ◌^◌, ◌<◌, ◌≤◌, Bool, List, ◌++◌, Option, Some, None}
+-- What a mapping holds.
+use Rattle.std.specs.Prelude.{◌≡◌, ℕ, ℤ, Bool, List}
 use Rattle.std.specs.Borrow.{GName}
 use Rattle.pe_base.specs.declared.event.Event.{Event}
 use Rattle.pe_base.specs.Acts.Effects.{Seen, Outcome, Fresh, Rules}
-
--- where a mapping writes: the text, if it is told, and how often the sink failed
-pub record Told : Type 0 where
-  pub text : Option (List ℕ)
-  pub faults : ℕ
+use Rattle.pe_base.specs.Calls.Told.{Told}
+use Rattle.pe_base.specs.Calls.Follows.{BeforeCall}
 
 -- a mapping: the plan that its effects are said of, its list, what it told, the dimension that it is for, whether it
 -- never wants memory, and what it holds by reference, as a sink, by the references' names
@@ -34,30 +31,13 @@ made_vertex rules held = rules.fresh_vertex held.plan held.list
 abbrev pub made_cell : {Plan : Type 0} → Rules Plan → Held Plan → Fresh
 made_cell rules held = rules.fresh_cell held.plan held.list
 
--- the text, where it is told, gets these bytes at its end
-abbrev pub IsLonger : Option (List ℕ) → List ℕ → Option (List ℕ) → Type 0
-IsLonger None bytes new = new ≡ None
-IsLonger (Some text) bytes new = new ≡ Some (text ++ bytes)
-
--- these bytes were written, and no fault was forgotten
-pub record Adds (old : Told) (bytes : List ℕ) (new : Told) : Type 0 where
-  pub text : IsLonger old.text bytes new.text
-  pub faults : old.faults ≤ new.faults
-
--- a part of these bytes was written
-pub record AddsPart (old : Told) (bytes : List ℕ) (new : Told) : Type 0 where
-  pub part : List ℕ
-  pub rest : List ℕ
-  pub whole : bytes ≡ part ++ rest
-  pub added : Adds old part new
-
--- the sink failed: the count of its faults rose, or stands at its last value
-abbrev pub SinkFailed : Told → Told → Type 0
-SinkFailed old new = (old.faults < new.faults) ⊎ (new.faults ≡ 2 ^ 64 - 1)
-
 -- what no call changes
 pub record Keeps {Plan : Type 0} (old new : Held Plan) : Type 0 where
   pub plan : new.plan ≡ old.plan
   pub dim : new.dim ≡ old.dim
   pub sure : new.sure ≡ old.sure
   pub lent : new.lent ≡ old.lent
+
+-- what a call finds of a mapping, and of the room on stacks
+abbrev pub found_of : {Plan : Type 0} → Held Plan → (ℕ → ℕ) → (ℕ → ℕ) → BeforeCall
+found_of held vertices cells = record { told = held.told; sure = held.sure; vertices = vertices; cells = cells }

@@ -1,11 +1,11 @@
 ghost use Rattle.std.specs.Prelude.{◌≡◌};
 ghost use Rattle.pe_base.specs.declared.event.Sort.TheVariants.{Plain, Vertex as OfVertex, Cell as OfCell};
 ghost use Rattle.pe_base.specs.Acts.Events.{sort_of};
-ghost use Rattle.pe_base.specs.Acts.Effects.{MayLeave};
+ghost use Rattle.pe_base.specs.Acts.Effects.{MayLeave, plain_sight};
 ghost use Rattle.pe_stacks.specs.Corners.{IsFull};
 ghost use Rattle.pe_mapping.specs.Held.{Held, Keeps, max_level, outcome_of, made_vertex, made_cell};
-ghost use Rattle.pe_mapping.specs.Sights.{Numbers, plain_sight, vertex_sight, cell_sight};
-ghost use Rattle.pe_mapping.specs.Moments.{IsTraversal, IsBelowRoot};
+ghost use Rattle.pe_stacks.specs.Sights.{Numbers, vertex_sight, cell_sight};
+ghost use Rattle.pe_base.specs.Acts.Moments.{IsTraversal, IsBelowRoot};
 ghost use Rattle.pe_mapping.specs.Answers.{Answers, Makes};
 
 use pe_base::{Effects, Event, Place, Stop};

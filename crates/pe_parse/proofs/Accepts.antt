@@ -16,7 +16,7 @@ use Rattle.pe_parse.specs.declared.tree.Name.{Name}
 use Rattle.pe_parse.specs.declared.tree.Expr.{Expr}
 use Rattle.pe_parse.specs.Lexemes.{Lexeme, kind_in}
 use Rattle.pe_parse.specs.Statements.{Statement, Statements}
-use Rattle.pe_parse.specs.Grammar.{Phrase, Chained, Operand, Linked, Listed, One, All, Names, plain, dotted, Spells, number, name, prefixed, group, extreme, absolute, single, chain, linked_none, linked, listed_none, listed, assigns, marks, prints, chooses, chooses_else, nothing, then_more, MayFollow, operand_of, rank_of, sign_of, prefix_kind, choice_kind, trigger_kind}
+use Rattle.pe_parse.specs.Grammar.{Phrase, Chained, Operand, Linked, Listed, One, All, Names, plain, dotted, Spells, number, name, prefixed, group, extreme, absolute, single, chain, linked_none, linked, listed_none, listed, assigns, triggers, prints, chooses, chooses_else, nothing, then_more, MayFollow, operand_of, rank_of, sign_of, prefix_kind, choice_kind, trigger_kind}
 use Rattle.pe_parse.specs.Frames.{Frame, Needs, Value, Links, Second, Ending, Pair, Single, Values, Block, Otherwise, Sequence, Move, Takes, move, moved, link_move, sign_if, same_rank, step, ends, operand_frames, chain_frames, more_links, expression}
 use Rattle.pe_parse.proofs.TokenMoves.{is_skip, skips, skip_is, needs_takes}
 
@@ -227,7 +227,7 @@ names_head n xs v (dotted x y z word dot other) = kind_otherwise x kind.Word wor
 one_head : (s : Statement) (w v : List Lexeme) → Spells (One s) w → skips Otherwise (head (w ++ v)) ≡ true
 one_head s w v (assigns y z {xs = xs} {ys = ys} {n = n} names sign_ value close) =
     subst (λ (u : List Lexeme). skips Otherwise (head u) ≡ true) (sym (append_assoc (xs ++ y ∷ ys) (z ∷ []) v ∙ append_assoc xs (y ∷ ys) (z ∷ v))) (names_head n xs (y ∷ ys ++ z ∷ v) names)
-one_head s w v (marks t x y z is word close) = kind_otherwise x (trigger_kind t) is (trigger_otherwise t)
+one_head s w v (triggers t x y z is word close) = kind_otherwise x (trigger_kind t) is (trigger_otherwise t)
 one_head s w v (prints x z is first rest close) = kind_otherwise x kind.Print is refl
 one_head s w v (chooses x o y is condition open_ body close) = kind_otherwise x kind.If is refl
 one_head s w v (chooses_else x o y e p z is condition open_ body close else_ open2 body2 close2) = kind_otherwise x kind.If is refl
@@ -308,7 +308,7 @@ taken p w (assigns y z {ys = ys} {e = e} (dotted x a b word dot other) sign_ d c
     ∙ needs_on kind.Assign (expression ++ Needs kind.Semicolon ∷ Sequence ∷ fs) y ((ys ++ z ∷ []) ++ v) sign_
     ∙ ap (accepts (expression ++ Needs kind.Semicolon ∷ Sequence ∷ fs)) (append_assoc ys (z ∷ []) v)
     ∙ closed_taken e ys z v kind.Semicolon (Sequence ∷ fs) (taken (Chained Disjunction e) ys d) close refl
-taken p w (marks t x y z is word close) = λ fs v otherwise.
+taken p w (triggers t x y z is word close) = λ fs v otherwise.
     takes_on Sequence (Needs kind.Word ∷ Needs kind.Semicolon ∷ Sequence ∷ []) fs x (y ∷ z ∷ v) (trigger_kind t) is (trigger_move t)
     ∙ needs_on kind.Word (Needs kind.Semicolon ∷ Sequence ∷ fs) y (z ∷ v) word ∙ needs_on kind.Semicolon (Sequence ∷ fs) z v close
 taken p w (prints x z {xs = xs} {ys = ys} {e = e} {es = es} is d f close) = λ fs v otherwise.

@@ -18,8 +18,8 @@ use Rattle.pe_parse.specs.declared.tree.Stmt.TheVariants as stmt
 use Rattle.pe_parse.specs.declared.tree.Stmt.TheOpen as open_
 use Rattle.pe_parse.specs.declared.tree.Stmt.TheFolds.{fold-roll-Stmt}
 use Rattle.pe_parse.specs.Lexemes.{Lexeme, kind_at, offset_at, offset_in}
-use Rattle.pe_parse.specs.Statements.{Statement, Assigns, Marks, Prints, Chooses, ChoosesElse, statement_step, statement_of, statements_of}
-use Rattle.pe_parse.specs.Grammar.{Spells, Chained, Listed, One, listed, listed_none, assigns, marks, prints, trigger_kind}
+use Rattle.pe_parse.specs.Statements.{Statement, Assigns, Triggers, Prints, Chooses, ChoosesElse, statement_step, statement_of, statements_of}
+use Rattle.pe_parse.specs.Grammar.{Spells, Chained, Listed, One, listed, listed_none, assigns, triggers, prints, trigger_kind}
 use Rattle.pe_parse.specs.Frames.{Needs, Second, Values, Sequence, Takes, move, expression, are_counted}
 use Rattle.pe_parse.specs.Faults.{is_too_large}
 use Rattle.pe_parse.specs.Reading.{piece, bytes_in, spelled_at, Went, Stopped, Needed, ReadsName, ReadsAs, ReadsClosed, ValuesAt, ReadsValues, ReadStatement}
@@ -30,8 +30,8 @@ use Rattle.pe_parse.proofs.Pieces.{piece_cons, piece_single, piece_snoc, piece_j
 of_assign : (n : Name) (e : Expr) → statement_of (stmt.Assign n e) ≡ Assigns n e
 of_assign n e = ap statement_of (sym (stmt.rolls-Assign n e)) ∙ fold-roll-Stmt Statement statement_step (open_.Assign n e)
 
-of_mark : (t : Trigger) (w : Word) → statement_of (stmt.Mark t w) ≡ Marks t w
-of_mark t w = ap statement_of (sym (stmt.rolls-Mark t w)) ∙ fold-roll-Stmt Statement statement_step (open_.Mark t w)
+of_trigger : (t : Trigger) (w : Word) → statement_of (stmt.Trigger t w) ≡ Triggers t w
+of_trigger t w = ap statement_of (sym (stmt.rolls-Trigger t w)) ∙ fold-roll-Stmt Statement statement_step (open_.Trigger t w)
 
 of_print : (v : values.Values) → statement_of (stmt.Print v) ≡ Prints v.items
 of_print v = ap statement_of (sym (stmt.rolls-Print v)) ∙ fold-roll-Stmt Statement statement_step (open_.Print v)
@@ -223,7 +223,7 @@ module _ (size : ℕ) (xs : List Lexeme) (depth at : ℕ) (limited : depth ≤ 6
             (subst (λ (ys : List Lexeme). Spells (One (Assigns n e)) ys) (sym whole) (assigns y.token z.token named.2 y.kind read.1.spelled z.kind)),
       )
 
-  -- a mark
+  -- a trigger
   trigger_takes : (t : Trigger) → move Sequence (trigger_kind t) ≡ Takes (Needs kind.Word ∷ Needs kind.Semicolon ∷ Sequence ∷ [])
   trigger_takes trigger.Refine = refl
   trigger_takes trigger.Erase = refl
@@ -232,25 +232,25 @@ module _ (size : ℕ) (xs : List Lexeme) (depth at : ℕ) (limited : depth ≤ 6
   trigger_small trigger.Refine bytes = refl
   trigger_small trigger.Erase bytes = refl
 
-  mark_stop_in : (t : Trigger) (fault : ParseFault) → kind_at xs at ≡ Some (trigger_kind t) → Stopped size xs (Needs kind.Word ∷ Needs kind.Semicolon ∷ Sequence ∷ []) depth (at + 1) fault → Stopped size xs (Sequence ∷ []) depth at fault
-  mark_stop_in t fault is stop =
+  triggers_stop_in : (t : Trigger) (fault : ParseFault) → kind_at xs at ≡ Some (trigger_kind t) → Stopped size xs (Needs kind.Word ∷ Needs kind.Semicolon ∷ Sequence ∷ []) depth (at + 1) fault → Stopped size xs (Sequence ∷ []) depth at fault
+  triggers_stop_in t fault is stop =
       let x = stands xs at (trigger_kind t) is in
       took_stop size xs Sequence (Needs kind.Word ∷ Needs kind.Semicolon ∷ Sequence ∷ []) (trigger_kind t) depth at fault x (trigger_takes t) (omega arith) refl (trigger_small t x.token.bytes) stop
 
-  pub mark_bare : (t : Trigger) (fault : ParseFault) → kind_at xs at ≡ Some (trigger_kind t) → Needed size xs kind.Word (at + 1) (Err fault) → Stopped size xs (Sequence ∷ []) depth at fault
-  mark_bare t fault is none_ = mark_stop_in t fault is (stop_beside size xs (Needs kind.Word ∷ []) (Needs kind.Semicolon ∷ Sequence ∷ []) depth (at + 1) fault refl limited refl (missing size xs kind.Word depth (at + 1) fault none_))
+  pub triggers_bare : (t : Trigger) (fault : ParseFault) → kind_at xs at ≡ Some (trigger_kind t) → Needed size xs kind.Word (at + 1) (Err fault) → Stopped size xs (Sequence ∷ []) depth at fault
+  triggers_bare t fault is none_ = triggers_stop_in t fault is (stop_beside size xs (Needs kind.Word ∷ []) (Needs kind.Semicolon ∷ Sequence ∷ []) depth (at + 1) fault refl limited refl (missing size xs kind.Word depth (at + 1) fault none_))
 
-  mark_word : (behind : ℕ) → Needed size xs kind.Word (at + 1) (Ok behind) → Went size xs (Needs kind.Word ∷ Needs kind.Semicolon ∷ Sequence ∷ []) (Needs kind.Semicolon ∷ Sequence ∷ []) depth (at + 1) behind
-  mark_word behind word = went_beside size xs (Needs kind.Word ∷ []) [] (Needs kind.Semicolon ∷ Sequence ∷ []) depth (at + 1) behind refl limited refl (needed size xs kind.Word depth (at + 1) behind (λ _. refl) limited word)
+  triggers_word : (behind : ℕ) → Needed size xs kind.Word (at + 1) (Ok behind) → Went size xs (Needs kind.Word ∷ Needs kind.Semicolon ∷ Sequence ∷ []) (Needs kind.Semicolon ∷ Sequence ∷ []) depth (at + 1) behind
+  triggers_word behind word = went_beside size xs (Needs kind.Word ∷ []) [] (Needs kind.Semicolon ∷ Sequence ∷ []) depth (at + 1) behind refl limited refl (needed size xs kind.Word depth (at + 1) behind (λ _. refl) limited word)
 
-  pub mark_open : (t : Trigger) (behind : ℕ) (fault : ParseFault) → kind_at xs at ≡ Some (trigger_kind t) → Needed size xs kind.Word (at + 1) (Ok behind) → Needed size xs kind.Semicolon behind (Err fault) → Stopped size xs (Sequence ∷ []) depth at fault
-  mark_open t behind fault is word none_ = mark_stop_in t fault is
-      (stop_after size xs (Needs kind.Word ∷ Needs kind.Semicolon ∷ Sequence ∷ []) (Needs kind.Semicolon ∷ Sequence ∷ []) depth (at + 1) behind fault (mark_word behind word)
+  pub triggers_open : (t : Trigger) (behind : ℕ) (fault : ParseFault) → kind_at xs at ≡ Some (trigger_kind t) → Needed size xs kind.Word (at + 1) (Ok behind) → Needed size xs kind.Semicolon behind (Err fault) → Stopped size xs (Sequence ∷ []) depth at fault
+  triggers_open t behind fault is word none_ = triggers_stop_in t fault is
+      (stop_after size xs (Needs kind.Word ∷ Needs kind.Semicolon ∷ Sequence ∷ []) (Needs kind.Semicolon ∷ Sequence ∷ []) depth (at + 1) behind fault (triggers_word behind word)
       (stop_beside size xs (Needs kind.Semicolon ∷ []) (Sequence ∷ []) depth behind fault refl limited refl (missing size xs kind.Semicolon depth behind fault none_)))
 
-  pub mark_read : (t : Trigger) (behind next : ℕ) (text : List ℕ) (start : ℕ) → kind_at xs at ≡ Some (trigger_kind t) → Needed size xs kind.Word (at + 1) (Ok behind) → Needed size xs kind.Semicolon behind (Ok next)
-      → text ≡ spelled_at xs (at + 1) → start ≡ offset_at size xs (at + 1) → ReadStatement size xs depth at (stmt.Mark t (record { text = text; at = start }), next)
-  mark_read t behind next text start is word close text_is start_is =
+  pub triggers_read : (t : Trigger) (behind next : ℕ) (text : List ℕ) (start : ℕ) → kind_at xs at ≡ Some (trigger_kind t) → Needed size xs kind.Word (at + 1) (Ok behind) → Needed size xs kind.Semicolon behind (Ok next)
+      → text ≡ spelled_at xs (at + 1) → start ≡ offset_at size xs (at + 1) → ReadStatement size xs depth at (stmt.Trigger t (record { text = text; at = start }), next)
+  triggers_read t behind next text start is word close text_is start_is =
       let x = stands xs at (trigger_kind t) is in
       let y = stands xs (at + 1) kind.Word word.1 in
       let z = stands xs behind kind.Semicolon close.1 in
@@ -262,9 +262,9 @@ module _ (size : ℕ) (xs : List Lexeme) (depth at : ℕ) (limited : depth ≤ 6
       ∙ ap (λ (ys : List Lexeme). x.token ∷ ys) (piece_cons xs (at + 1) next y.token y.is (omega arith)
       ∙ ap (λ (n : ℕ). y.token ∷ piece xs n next) (sym behind_is) ∙ ap (λ (n : ℕ). y.token ∷ piece xs behind n) next_is ∙ ap (λ (ys : List Lexeme). y.token ∷ ys) (piece_single xs behind z.token z.is)) in (
         took size xs Sequence (Needs kind.Word ∷ Needs kind.Semicolon ∷ Sequence ∷ []) (Sequence ∷ []) (trigger_kind t) depth at next x (trigger_takes t) (omega arith) refl (trigger_small t x.token.bytes)
-            (went_trans size xs (Needs kind.Word ∷ Needs kind.Semicolon ∷ Sequence ∷ []) (Needs kind.Semicolon ∷ Sequence ∷ []) (Sequence ∷ []) depth (at + 1) behind next (mark_word behind word)
+            (went_trans size xs (Needs kind.Word ∷ Needs kind.Semicolon ∷ Sequence ∷ []) (Needs kind.Semicolon ∷ Sequence ∷ []) (Sequence ∷ []) depth (at + 1) behind next (triggers_word behind word)
             (went_beside size xs (Needs kind.Semicolon ∷ []) [] (Sequence ∷ []) depth behind next refl limited refl (needed size xs kind.Semicolon depth behind next (λ _. refl) limited close))),
         omega arith,
-        subst (λ (s : Statement). Spells (One s) (piece xs at next)) (sym (of_mark t (record { text = text; at = start })))
-            (rw (whole, text_here, start_here) (marks t x.token y.token z.token x.kind y.kind z.kind)),
+        subst (λ (s : Statement). Spells (One s) (piece xs at next)) (sym (of_trigger t (record { text = text; at = start })))
+            (rw (whole, text_here, start_here) (triggers t x.token y.token z.token x.kind y.kind z.kind)),
       )

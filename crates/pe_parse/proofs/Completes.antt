@@ -17,7 +17,7 @@ use Rattle.pe_parse.specs.declared.tree.Expr.{Expr}
 use Rattle.pe_parse.specs.declared.tree.Expr.TheVariants as expr
 use Rattle.pe_parse.specs.Lexemes.{Lexeme, value_of}
 use Rattle.pe_parse.specs.Statements.{Statement, Statements, Nothing, Then}
-use Rattle.pe_parse.specs.Grammar.{Phrase, Chained, Operand, Linked, Listed, One, All, plain, dotted, Spells, number, name, prefixed, group, extreme, absolute, single, chain, linked_none, linked, listed_none, listed, assigns, marks, prints, chooses, chooses_else, nothing, then_more, MayFollow, operand_of, rank_of, sign_of, prefix_kind, choice_kind, trigger_kind}
+use Rattle.pe_parse.specs.Grammar.{Phrase, Chained, Operand, Linked, Listed, One, All, plain, dotted, Spells, number, name, prefixed, group, extreme, absolute, single, chain, linked_none, linked, listed_none, listed, assigns, triggers, prints, chooses, chooses_else, nothing, then_more, MayFollow, operand_of, rank_of, sign_of, prefix_kind, choice_kind, trigger_kind}
 use Rattle.pe_parse.specs.Frames.{Frame, Needs, Value, Links, Second, Ending, Pair, Single, Values, Block, Otherwise, Sequence, Move, Takes, Skips, Refuses, move, moved, link_move, sign_if, same_rank, step, kind_number, operand_frames, more_links, expression, can_end, ends}
 use Rattle.pe_parse.specs.Bodies.{Begins, open_next, open_after}
 use Rattle.pe_parse.proofs.TokenMoves.{kind_same}
@@ -294,10 +294,10 @@ assign_filled x is u v fs w whole (a_second y z dot other) c =
     (ap (λ (l : List Lexeme). x ∷ l) (whole ∙ ap (λ (l : List Lexeme). y ∷ z ∷ l) (t.whole ∙ ap (λ (l : List Lexeme). t.token ∷ l) (d.whole ∙ sym (append_assoc d.front (d.token ∷ []) d.back)))))
     (assigns t.token d.token (dotted x y z is dot other) t.is d.spelled d.is) d.rest
 
-mark_filled : (q : Trigger) (x : Lexeme) → x.kind ≡ trigger_kind q → (fs : List Frame) (w : List Lexeme) → Completes (Needs kind.Word ∷ Needs kind.Semicolon ∷ Sequence ∷ fs) w → Completes (Sequence ∷ fs) (x ∷ w)
-mark_filled q x is fs w c =
+triggers_filled : (q : Trigger) (x : Lexeme) → x.kind ≡ trigger_kind q → (fs : List Frame) (w : List Lexeme) → Completes (Needs kind.Word ∷ Needs kind.Semicolon ∷ Sequence ∷ fs) w → Completes (Sequence ∷ fs) (x ∷ w)
+triggers_filled q x is fs w c =
     let t = found_token kind.Word (Needs kind.Semicolon ∷ Sequence ∷ fs) w c in let z = found_token kind.Semicolon (Sequence ∷ fs) t.back t.rest in
-    before fs _ (x ∷ t.token ∷ z.token ∷ []) z.back (x ∷ w) (ap (λ (l : List Lexeme). x ∷ l) (t.whole ∙ ap (λ (l : List Lexeme). t.token ∷ l) z.whole)) (marks q x t.token z.token is t.is z.is) z.rest
+    before fs _ (x ∷ t.token ∷ z.token ∷ []) z.back (x ∷ w) (ap (λ (l : List Lexeme). x ∷ l) (t.whole ∙ ap (λ (l : List Lexeme). t.token ∷ l) z.whole)) (triggers q x t.token z.token is t.is z.is) z.rest
 
 print_filled : (x : Lexeme) → x.kind ≡ kind.Print → (fs : List Frame) (w : List Lexeme) → Completes (expression ++ Values 1 ∷ Needs kind.Semicolon ∷ Sequence ∷ fs) w → Completes (Sequence ∷ fs) (x ∷ w)
 print_filled x is fs w c =
@@ -327,8 +327,8 @@ choose_filled x is fs w c =
 
 sequence_refilled : (x : Lexeme) (k : TokenKind) → x.kind ≡ k → Refilled Sequence x (move Sequence k)
 sequence_refilled x kind.Word is = λ fs w c. let s = split Second (Needs kind.Assign ∷ expression ++ Needs kind.Semicolon ∷ Sequence ∷ fs) w c in assign_filled x is s.front s.back fs w s.whole s.filled s.rest
-sequence_refilled x kind.Refine is = λ fs w c. mark_filled trigger.Refine x is fs w c
-sequence_refilled x kind.Erase is = λ fs w c. mark_filled trigger.Erase x is fs w c
+sequence_refilled x kind.Refine is = λ fs w c. triggers_filled trigger.Refine x is fs w c
+sequence_refilled x kind.Erase is = λ fs w c. triggers_filled trigger.Erase x is fs w c
 sequence_refilled x kind.Print is = λ fs w c. print_filled x is fs w c
 sequence_refilled x kind.If is = λ fs w c. choose_filled x is fs w c
 sequence_refilled x _ is = λ fs w c. fill [] (Nothing, nothing) c

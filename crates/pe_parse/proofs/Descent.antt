@@ -16,7 +16,7 @@ use Rattle.pe_parse.specs.declared.tree.Name.{Name}
 use Rattle.pe_parse.specs.declared.tree.Expr.{Expr}
 use Rattle.pe_parse.specs.declared.tree.Expr.TheVariants as expr
 use Rattle.pe_parse.specs.Lexemes.{Lexeme, value_of}
-use Rattle.pe_parse.specs.Statements.{Statement, Statements, Assigns, Marks, Prints, Chooses, ChoosesElse, Nothing, Then}
+use Rattle.pe_parse.specs.Statements.{Statement, Statements, Assigns, Triggers, Prints, Chooses, ChoosesElse, Nothing, Then}
 use Rattle.pe_parse.specs.Grammar.{sign_of}
 use Rattle.pe_parse.specs.Frames.{kind_number, sign_if, Sequence}
 use Rattle.pe_parse.proofs.TokenMoves.{skips}
@@ -133,14 +133,14 @@ abbrev pub otherwise : Way → Expr → Statements → List Lexeme → Found Sta
 otherwise way e ss [] = Some (Chooses e ss, [])
 otherwise way e ss (x ∷ w) = else_by way e ss x.kind x w
 
-abbrev pub mark_behind : Trigger → List Lexeme → Found Statement
-mark_behind t w = and_then (token kind.Word w) (λ y w. and_then (token kind.Semicolon w) (λ _ w. Some (Marks t (record { text = y.bytes; at = y.at }), w)))
+abbrev pub triggers_behind : Trigger → List Lexeme → Found Statement
+triggers_behind t w = and_then (token kind.Word w) (λ y w. and_then (token kind.Semicolon w) (λ _ w. Some (Triggers t (record { text = y.bytes; at = y.at }), w)))
 
 -- a statement, by its first token
 abbrev pub statement_by : Way → TokenKind → Lexeme → List Lexeme → Found Statement
 statement_by way kind.Word x w = and_then (name_behind x w) (λ n w. and_then (token kind.Assign w) (λ _ w. and_then (closed way kind.Semicolon w) (λ e w. Some (Assigns n e, w))))
-statement_by way kind.Refine x w = mark_behind trigger.Refine w
-statement_by way kind.Erase x w = mark_behind trigger.Erase w
+statement_by way kind.Refine x w = triggers_behind trigger.Refine w
+statement_by way kind.Erase x w = triggers_behind trigger.Erase w
 statement_by way kind.Print x w = and_then (way (AChain Disjunction) w) (λ e w. and_then (way MoreValues w) (λ es w. and_then (token kind.Semicolon w) (λ _ w. Some (Prints (e ∷ es), w))))
 statement_by way kind.If x w = and_then (way (AChain Disjunction) w) (λ e w. and_then (block way w) (λ ss w. otherwise way e ss w))
 statement_by way _ x w = None

@@ -16,13 +16,13 @@ use Rattle.pe_parse.specs.declared.tree.Name.{Name}
 use Rattle.pe_parse.specs.declared.tree.Expr.{Expr}
 use Rattle.pe_parse.specs.declared.tree.Expr.TheVariants as expr
 use Rattle.pe_parse.specs.Lexemes.{Lexeme, lexemes_of}
-use Rattle.pe_parse.specs.Statements.{Statement, Statements, Assigns, Marks, Prints, Chooses, ChoosesElse, Nothing, Then}
-use Rattle.pe_parse.specs.Grammar.{Phrase, Chained, Operand, Linked, Listed, One, All, Names, plain, dotted, Spells, number, name, prefixed, group, extreme, absolute, single, chain, linked_none, linked, listed_none, listed, assigns, marks, prints, chooses, chooses_else, nothing, then_more, MayFollow, operand_of, rank_of, sign_of, prefix_kind, choice_kind, trigger_kind}
+use Rattle.pe_parse.specs.Statements.{Statement, Statements, Assigns, Triggers, Prints, Chooses, ChoosesElse, Nothing, Then}
+use Rattle.pe_parse.specs.Grammar.{Phrase, Chained, Operand, Linked, Listed, One, All, Names, plain, dotted, Spells, number, name, prefixed, group, extreme, absolute, single, chain, linked_none, linked, listed_none, listed, assigns, triggers, prints, chooses, chooses_else, nothing, then_more, MayFollow, operand_of, rank_of, sign_of, prefix_kind, choice_kind, trigger_kind}
 use Rattle.pe_parse.specs.Frames.{Second, Links, Values, Otherwise, Sequence, kind_number, sign_if, same_rank, link_move}
 use Rattle.pe_parse.specs.Laws.{IsTextOf}
 use Rattle.pe_parse.proofs.TokenMoves.{is_skip, skips, kind_self}
 use Rattle.pe_parse.proofs.Accepts.{head, AfterOperand, AfterDisjunction, After, Inside, inside_of, links_of, closing_head, linked_head, listed_head, all_head, none_left, rank_same}
-use Rattle.pe_parse.proofs.Descent.{AnOperand, AChain, SomeLinks, MoreValues, AStatement, ABody, Found, and_then, Way, token, name_by, name_behind, chain_of, closed, block, prefix_behind, pair_behind, operand_by, operand_in, more_in, link_by, links, value_by, values, else_by, otherwise, mark_behind, statement_by, body_by, deeper, reading}
+use Rattle.pe_parse.proofs.Descent.{AnOperand, AChain, SomeLinks, MoreValues, AStatement, ABody, Found, and_then, Way, token, name_by, name_behind, chain_of, closed, block, prefix_behind, pair_behind, operand_by, operand_in, more_in, link_by, links, value_by, values, else_by, otherwise, triggers_behind, statement_by, body_by, deeper, reading}
 
 -- the token that comes
 token_on : (k : TokenKind) (x : Lexeme) (w : List Lexeme) → x.kind ≡ k → token k (x ∷ w) ≡ Some (x, w)
@@ -80,7 +80,7 @@ choice_on : (way : Way) (c : Choice) (x : Lexeme) (w : List Lexeme) → operand_
 choice_on way choice.Min x w = refl
 choice_on way choice.Max x w = refl
 
-trigger_on : (way : Way) (t : Trigger) (x : Lexeme) (w : List Lexeme) → statement_by way (trigger_kind t) x w ≡ mark_behind t w
+trigger_on : (way : Way) (t : Trigger) (x : Lexeme) (w : List Lexeme) → statement_by way (trigger_kind t) x w ≡ triggers_behind t w
 trigger_on way trigger.Refine x w = refl
 trigger_on way trigger.Erase x w = refl
 
@@ -148,7 +148,7 @@ names_begin n xs v (dotted x y z word dot other) = kind_begins x kind.Word word 
 one_begins : (s : Statement) (w v : List Lexeme) → Spells (One s) w → skips Sequence (head (w ++ v)) ≡ false
 one_begins s w v (assigns y z {xs = xs} {ys = ys} {n = n} names sign_ value close) =
     subst (λ (u : List Lexeme). skips Sequence (head u) ≡ false) (sym (append_assoc (xs ++ y ∷ ys) (z ∷ []) v ∙ append_assoc xs (y ∷ ys) (z ∷ v))) (names_begin n xs (y ∷ ys ++ z ∷ v) names)
-one_begins s w v (marks t x y z is word close) = kind_begins x (trigger_kind t) is (trigger_begins t)
+one_begins s w v (triggers t x y z is word close) = kind_begins x (trigger_kind t) is (trigger_begins t)
 one_begins s w v (prints x z is first rest close) = kind_begins x kind.Print is refl
 one_begins s w v (chooses x o y is condition open_ body close) = kind_begins x kind.If is refl
 one_begins s w v (chooses_else x o y e p z is condition open_ body close else_ open2 body2 close2) = kind_begins x kind.If is refl
@@ -188,11 +188,11 @@ assign_on way n e x y w u v is named sign_ value =
     ∙ ap (λ (o : Found Lexeme). and_then o (λ _ w. and_then (closed way kind.Semicolon w) (λ e w. Some (Assigns n e, w)))) (token_on kind.Assign y u sign_)
     ∙ ap (λ (o : Found Expr). and_then o (λ e w. Some (Assigns n e, w))) value
 
-mark_on : (way : Way) (t : Trigger) (x y z : Lexeme) (v : List Lexeme) → x.kind ≡ trigger_kind t → y.kind ≡ kind.Word → z.kind ≡ kind.Semicolon → deeper way AStatement (x ∷ y ∷ z ∷ v) ≡ Some (Marks t (record { text = y.bytes; at = y.at }), v)
-mark_on way t x y z v is word close =
+triggers_on : (way : Way) (t : Trigger) (x y z : Lexeme) (v : List Lexeme) → x.kind ≡ trigger_kind t → y.kind ≡ kind.Word → z.kind ≡ kind.Semicolon → deeper way AStatement (x ∷ y ∷ z ∷ v) ≡ Some (Triggers t (record { text = y.bytes; at = y.at }), v)
+triggers_on way t x y z v is word close =
     ap (λ (k : TokenKind). statement_by way k x (y ∷ z ∷ v)) is ∙ trigger_on way t x (y ∷ z ∷ v)
-    ∙ ap (λ (o : Found Lexeme). and_then o (λ y w. and_then (token kind.Semicolon w) (λ _ w. Some (Marks t (record { text = y.bytes; at = y.at }), w)))) (token_on kind.Word y (z ∷ v) word)
-    ∙ ap (λ (o : Found Lexeme). and_then o (λ _ w. Some (Marks t (record { text = y.bytes; at = y.at }), w))) (token_on kind.Semicolon z v close)
+    ∙ ap (λ (o : Found Lexeme). and_then o (λ y w. and_then (token kind.Semicolon w) (λ _ w. Some (Triggers t (record { text = y.bytes; at = y.at }), w)))) (token_on kind.Word y (z ∷ v) word)
+    ∙ ap (λ (o : Found Lexeme). and_then o (λ _ w. Some (Triggers t (record { text = y.bytes; at = y.at }), w))) (token_on kind.Semicolon z v close)
 
 print_on : (way : Way) (e : Expr) (es : List Expr) (x z : Lexeme) (w u v : List Lexeme) → x.kind ≡ kind.Print → way (AChain Disjunction) w ≡ Some (e, u) → way MoreValues u ≡ Some (es, z ∷ v) → z.kind ≡ kind.Semicolon
     → deeper way AStatement (x ∷ w) ≡ Some (Prints (e ∷ es), v)
@@ -291,7 +291,7 @@ read p w (assigns y z {ys = ys} {n = m} {e = e} (dotted x a b word dot other) si
     ap (λ (w : List Lexeme). reading (suc n) AStatement (x ∷ a ∷ b ∷ y ∷ w)) (append_assoc ys (z ∷ []) v)
     ∙ assign_on (reading n) m e x y (a ∷ b ∷ y ∷ ys ++ z ∷ v) (ys ++ z ∷ v) v word (dotted_on x a b (y ∷ ys ++ z ∷ v) dot other) sign_
     (closed_on (reading n) e kind.Semicolon (ys ++ z ∷ v) z v (t.from n h (z ∷ v) (closing_head z v kind.Semicolon close refl)) close))
-read p w (marks t x y z is word close) = read_by p w 0 (λ n h v otherwise_. mark_on (reading n) t x y z v is word close)
+read p w (triggers t x y z is word close) = read_by p w 0 (λ n h v otherwise_. triggers_on (reading n) t x y z v is word close)
 read p w (prints x z {xs = xs} {ys = ys} {e = e} {es = es} is d f close) =
     let t = read (Chained Disjunction e) xs d in let s = read (Listed es) ys f in
     read_by p w (t.least + s.least) (λ n h v otherwise_.

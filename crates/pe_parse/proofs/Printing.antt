@@ -24,8 +24,8 @@ use Rattle.pe_parse.specs.declared.tree.Name.{Name}
 use Rattle.pe_parse.specs.declared.tree.Expr.{Expr}
 use Rattle.pe_parse.specs.declared.tree.Expr.TheVariants as expr
 use Rattle.pe_parse.specs.Lexemes.{Lexeme, value_from, value_of}
-use Rattle.pe_parse.specs.Statements.{Statement, Statements, Assigns, Marks, Chooses, ChoosesElse, Then}
-use Rattle.pe_parse.specs.Grammar.{Phrase, Chained, Operand, Linked, Listed, One, All, Names, plain, dotted, Spells, number, name, prefixed, group, extreme, absolute, single, chain, linked_none, linked, listed_none, listed, assigns, marks, prints, chooses, chooses_else, nothing, then_more, MayFollow, operand_of, rank_of, sign_of, prefix_kind, choice_kind, trigger_kind}
+use Rattle.pe_parse.specs.Statements.{Statement, Statements, Assigns, Triggers, Chooses, ChoosesElse, Then}
+use Rattle.pe_parse.specs.Grammar.{Phrase, Chained, Operand, Linked, Listed, One, All, Names, plain, dotted, Spells, number, name, prefixed, group, extreme, absolute, single, chain, linked_none, linked, listed_none, listed, assigns, triggers, prints, chooses, chooses_else, nothing, then_more, MayFollow, operand_of, rank_of, sign_of, prefix_kind, choice_kind, trigger_kind}
 use Rattle.pe_parse.specs.Printed.{Pieces, sign_text, prefix_text, choice_text, trigger_text, numeral, name_pieces, link_pieces, operand_step, operand_pieces, more_pieces, statement_pieces, body_pieces, unplaced_step, unplaced_expr, unplaced_statement, unplaced}
 use Rattle.pe_parse.proofs.Layers.{of_number, of_name, of_unary, of_chain, of_extreme, of_abs}
 use Rattle.pe_parse.proofs.Unplaced.{unplaced_links, may_follow}
@@ -330,9 +330,9 @@ assign_printed n e ps names d = record {
       (token_by (codes "=") kind.Assign equals, tokens-append ps (codes ";" ∷ []) d.tokens (token_by (codes ";") kind.Semicolon semicolon, tt));
 }
 
-mark_printed : (t : Trigger) (word : List ℕ) → kind_of word ≡ Some kind.Word → Prints (One (Marks t (record { text = word; at = 0 }))) (trigger_text t ∷ word ∷ codes ";" ∷ [])
-mark_printed t word is = record {
-  spelled = marks t (lexeme_for (trigger_text t)) (lexeme_for word) (lexeme_for (codes ";")) (kind_by (trigger_text t) (trigger_kind t) (trigger_is t)) (kind_by word kind.Word is) (kind_by (codes ";") kind.Semicolon semicolon);
+triggers_printed : (t : Trigger) (word : List ℕ) → kind_of word ≡ Some kind.Word → Prints (One (Triggers t (record { text = word; at = 0 }))) (trigger_text t ∷ word ∷ codes ";" ∷ [])
+triggers_printed t word is = record {
+  spelled = triggers t (lexeme_for (trigger_text t)) (lexeme_for word) (lexeme_for (codes ";")) (kind_by (trigger_text t) (trigger_kind t) (trigger_is t)) (kind_by word kind.Word is) (kind_by (codes ";") kind.Semicolon semicolon);
   tokens = (token_by (trigger_text t) (trigger_kind t) (trigger_is t), (token_by word kind.Word is, (token_by (codes ";") kind.Semicolon semicolon, tt)));
 }
 
@@ -415,7 +415,7 @@ printed p w (listed x {xs = xs} {ys = ys} {e = e} {es = es} is d f) are =
 printed p w (assigns y z {xs = xs} {ys = ys} {n = n} {e = e} names sign_ d close) are =
     let inside = front (xs ++ y ∷ ys) (z ∷ []) are in
     assign_printed n (unplaced_expr e) (operand_pieces e) (name_printed n xs names (front xs (y ∷ ys) inside)) (printed (Chained Disjunction e) ys d (back xs (y ∷ ys) inside).1)
-printed p w (marks t x y z is word close) are = mark_printed t y.bytes (are.1.0 ∙ ap (λ (k : TokenKind). Some k) word)
+printed p w (triggers t x y z is word close) are = triggers_printed t y.bytes (are.1.0 ∙ ap (λ (k : TokenKind). Some k) word)
 printed p w (prints x z {xs = xs} {ys = ys} {e = e} {es = es} is d f close) are =
     let inside = front (xs ++ ys) (z ∷ []) are.1 in
     print_printed (unplaced_expr e) (map unplaced_expr es) (operand_pieces e) (more_pieces es) (printed (Chained Disjunction e) xs d (front xs ys inside)) (printed (Listed es) ys f (back xs ys inside))

@@ -8,7 +8,7 @@ use Rattle.pe_parse.specs.declared.tree.Name.{Name}
 use Rattle.pe_parse.specs.declared.tree.Expr.{Expr}
 use Rattle.pe_parse.specs.declared.tree.Expr.TheVariants as expr
 use Rattle.pe_parse.specs.Lexemes.{Lexeme, value_of}
-use Rattle.pe_parse.specs.Grammar.{Phrase, Chained, Operand, Linked, Listed, One, All, Names, plain, dotted, Spells, number, name, prefixed, group, extreme, absolute, single, chain, linked_none, linked, listed_none, listed, assigns, marks, prints, chooses, chooses_else, nothing, then_more, MayFollow, operand_of}
+use Rattle.pe_parse.specs.Grammar.{Phrase, Chained, Operand, Linked, Listed, One, All, Names, plain, dotted, Spells, number, name, prefixed, group, extreme, absolute, single, chain, linked_none, linked, listed_none, listed, assigns, triggers, prints, chooses, chooses_else, nothing, then_more, MayFollow, operand_of}
 use Rattle.pe_parse.specs.Printed.{unplaced_step, unplaced_expr, unplaced_statement, unplaced}
 use Rattle.pe_parse.proofs.Layers.{of_number, of_name, of_unary, of_chain, of_extreme, of_abs}
 
@@ -79,7 +79,7 @@ bare_spelled p w (assigns y z {xs = xs} {ys = ys} {n = n} {e = e} names sign_ d 
     joined _ (xs ++ y ∷ ys) (z ∷ [])
     (subst (λ (w : List Lexeme). Spells (unplaced_phrase p) (w ++ bare z ∷ [])) (sym (map-append bare xs (y ∷ ys)))
     (assigns (bare y) (bare z) (bare_names n xs names) sign_ (bare_spelled (Chained Disjunction e) ys d) close))
-bare_spelled p w (marks t x y z is word close) = marks t (bare x) (bare y) (bare z) is word close
+bare_spelled p w (triggers t x y z is word close) = triggers t (bare x) (bare y) (bare z) is word close
 bare_spelled p w (prints x z {xs = xs} {ys = ys} {e = e} {es = es} is d f close) =
     joined _ (x ∷ xs ++ ys) (z ∷ [])
     (subst (λ (w : List Lexeme). Spells (unplaced_phrase p) (w ++ bare z ∷ [])) (sym (map-append bare (x ∷ xs) ys))

@@ -16,7 +16,7 @@ use Rattle.pe_parse.specs.declared.tree.Expr.{Expr}
 use Rattle.pe_parse.specs.declared.tree.Expr.TheVariants as expr
 use Rattle.pe_parse.specs.declared.tree.Name.{Name}
 use Rattle.pe_parse.specs.Lexemes.{Lexeme, value_of}
-use Rattle.pe_parse.specs.Statements.{Statement, Statements, Assigns, Marks, Prints, Chooses, ChoosesElse, Nothing, Then}
+use Rattle.pe_parse.specs.Statements.{Statement, Statements, Assigns, Triggers, Prints, Chooses, ChoosesElse, Nothing, Then}
 
 -- how tightly a sign binds
 abbrev pub rank_of : Sign → Rank
@@ -117,7 +117,7 @@ pub data Spells : Phrase → List Lexeme → Type 0 where
   listed : (x : Lexeme) {xs ys : List Lexeme} {e : Expr} {es : List Expr} → x.kind ≡ kind.Comma → Spells (Chained Disjunction e) xs → Spells (Listed es) ys → Spells (Listed (e ∷ es)) (x ∷ xs ++ ys)
   assigns : (y z : Lexeme) {xs ys : List Lexeme} {n : Name} {e : Expr} → Names xs n → y.kind ≡ kind.Assign → Spells (Chained Disjunction e) ys → z.kind ≡ kind.Semicolon
       → Spells (One (Assigns n e)) (xs ++ y ∷ ys ++ z ∷ [])
-  marks : (t : Trigger) (x y z : Lexeme) → x.kind ≡ trigger_kind t → y.kind ≡ kind.Word → z.kind ≡ kind.Semicolon → Spells (One (Marks t (record { text = y.bytes; at = y.at }))) (x ∷ y ∷ z ∷ [])
+  triggers : (t : Trigger) (x y z : Lexeme) → x.kind ≡ trigger_kind t → y.kind ≡ kind.Word → z.kind ≡ kind.Semicolon → Spells (One (Triggers t (record { text = y.bytes; at = y.at }))) (x ∷ y ∷ z ∷ [])
   prints : (x z : Lexeme) {xs ys : List Lexeme} {e : Expr} {es : List Expr} → x.kind ≡ kind.Print → Spells (Chained Disjunction e) xs → Spells (Listed es) ys → z.kind ≡ kind.Semicolon
       → Spells (One (Prints (e ∷ es))) (x ∷ xs ++ ys ++ z ∷ [])
   chooses : (x o y : Lexeme) {xs ys : List Lexeme} {e : Expr} {ss : Statements} → x.kind ≡ kind.If → Spells (Chained Disjunction e) xs → o.kind ≡ kind.OpenCurly → Spells (All ss) ys → y.kind ≡ kind.CloseCurly

@@ -15,7 +15,7 @@ use Rattle.pe_parse.specs.declared.tree.Expr.{Expr}
 use Rattle.pe_parse.specs.declared.tree.Expr.TheVariants as expr
 use Rattle.pe_parse.specs.declared.tree.Expr.TheOpen.{Expr-F}
 use Rattle.pe_parse.specs.declared.tree.Expr.TheFolds.{fold-Expr}
-use Rattle.pe_parse.specs.Statements.{Statement, Statements, Assigns, Marks, Prints, Chooses, ChoosesElse, Nothing, Then}
+use Rattle.pe_parse.specs.Statements.{Statement, Statements, Assigns, Triggers, Prints, Chooses, ChoosesElse, Nothing, Then}
 
 abbrev pub sign_text : Sign → List ℕ
 sign_text sign.Or = codes "||"
@@ -92,7 +92,7 @@ values_pieces (e ∷ es) = operand_pieces e ++ more_pieces es
 abbrev mutual
   pub statement_pieces : Statement → Pieces
   statement_pieces (Assigns name e) = name_pieces name ++ (codes "=" ∷ (operand_pieces e ++ codes ";" ∷ []))
-  statement_pieces (Marks t word) = trigger_text t ∷ word.text ∷ codes ";" ∷ []
+  statement_pieces (Triggers t word) = trigger_text t ∷ word.text ∷ codes ";" ∷ []
   statement_pieces (Prints es) = codes "print" ∷ (values_pieces es ++ codes ";" ∷ [])
   statement_pieces (Chooses e ss) = codes "if" ∷ (operand_pieces e ++ (codes "{" ∷ (body_pieces ss ++ codes "}" ∷ [])))
   statement_pieces (ChoosesElse e ss ts) =
@@ -125,7 +125,7 @@ unplaced_expr = fold-Expr Expr unplaced_step
 abbrev mutual
   pub unplaced_statement : Statement → Statement
   unplaced_statement (Assigns name e) = Assigns (record name { at = 0 }) (unplaced_expr e)
-  unplaced_statement (Marks t word) = Marks t (record word { at = 0 })
+  unplaced_statement (Triggers t word) = Triggers t (record word { at = 0 })
   unplaced_statement (Prints es) = Prints (map unplaced_expr es)
   unplaced_statement (Chooses e ss) = Chooses (unplaced_expr e) (unplaced ss)
   unplaced_statement (ChoosesElse e ss ts) = ChoosesElse (unplaced_expr e) (unplaced ss) (unplaced ts)

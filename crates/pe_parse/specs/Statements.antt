@@ -5,13 +5,13 @@ use Rattle.pe_parse.specs.declared.tree.Name.{Name}
 use Rattle.pe_parse.specs.declared.tree.Word.{Word}
 use Rattle.pe_parse.specs.declared.tree.Trigger.{Trigger}
 use Rattle.pe_parse.specs.declared.tree.Stmt.{Stmt}
-use Rattle.pe_parse.specs.declared.tree.Stmt.TheOpen.{Stmt-F, Assign, Mark, Print, If, IfElse}
+use Rattle.pe_parse.specs.declared.tree.Stmt.TheOpen.{Stmt-F, Assign, Trigger as Triggered, Print, If, IfElse}
 use Rattle.pe_parse.specs.declared.tree.Stmt.TheFolds.{fold-Stmt}
 
 mutual
   pub data Statement : Type 0 where
     Assigns : Name → Expr → Statement
-    Marks : Trigger → Word → Statement
+    Triggers : Trigger → Word → Statement
     Prints : List Expr → Statement
     Chooses : Expr → Statements → Statement
     ChoosesElse : Expr → Statements → Statements → Statement
@@ -26,7 +26,7 @@ gathered (s ∷ ss) = Then s (gathered ss)
 
 abbrev pub statement_step : Stmt-F Statement → Statement
 statement_step (Assign name value) = Assigns name value
-statement_step (Mark trigger word) = Marks trigger word
+statement_step (Triggered trigger word) = Triggers trigger word
 statement_step (Print values) = Prints values.items
 statement_step (If condition body) = Chooses condition (gathered body)
 statement_step (IfElse condition body other) = ChoosesElse condition (gathered body) (gathered other)

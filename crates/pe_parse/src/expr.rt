@@ -1,4 +1,4 @@
-ghost use Rattle.std.specs.Prelude.{◌≡◌, ◌≢◌, ◌+◌, ◌<◌, ◌≤◌, ℕ, Ok, Err, Some, None, [], ◌∷◌, length, List, true, false, MatchResult};
+ghost use Rattle.std.specs.Prelude.{◌≡◌, ◌≢◌, ◌≤◌, ℕ, Some, [], ◌∷◌, List, false, MatchResult};
 ghost use Rattle.pe_lex.specs.declared.token.TokenKind.TheVariants as kind;
 ghost use Rattle.pe_lex.specs.Spans.{AreTokensOf};
 ghost use Rattle.pe_parse.specs.declared.rank.Rank.TheVariants as ranks;
@@ -6,7 +6,7 @@ ghost use Rattle.pe_parse.specs.declared.fault.ParseFault.TheVariants.{Memory};
 ghost use Rattle.pe_parse.specs.declared.tree.Expr.TheVariants as expr;
 ghost use Rattle.pe_parse.specs.Lexemes.{kind_at};
 ghost use Rattle.pe_parse.specs.Grammar.{Chained, Operand, operand_of, prefix_kind, choice_kind};
-ghost use Rattle.pe_parse.specs.Frames.{Value, Second, operand_frames, chain_frames, expression};
+ghost use Rattle.pe_parse.specs.Frames.{Value, operand_frames, chain_frames};
 ghost use Rattle.pe_parse.specs.Faults.{is_too_large};
 ghost use Rattle.pe_parse.specs.Reading.{seen, size_of, ReadsAs, ReadsName, ReadsClosed};
 

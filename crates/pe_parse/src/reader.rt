@@ -1,7 +1,6 @@
-ghost use Rattle.std.specs.Prelude.{◌≡◌, ◌≢◌, ◌<◌, ◌≤◌, ℕ, pos, Some, None, length, MatchOption};
-ghost use Rattle.pe_parse.specs.Lexemes.{kind_at, offset_at, value_of, value_from};
-ghost use Rattle.pe_parse.specs.Grammar.{sign_of, rank_of};
-ghost use Rattle.pe_parse.specs.Frames.{sign_if};
+ghost use Rattle.std.specs.Prelude.{◌≡◌};
+ghost use Rattle.pe_parse.specs.Lexemes.{kind_at, offset_at};
+ghost use Rattle.pe_parse.specs.Grammar.{sign_of};
 ghost use Rattle.pe_parse.specs.Reading.{seen, size_of, Needed, sign_at};
 
 use crate::fault::ParseFault;

@@ -1,4 +1,4 @@
-ghost use Rattle.std.specs.Prelude.{◌≡◌, ◌≢◌, ◌+◌, ◌<◌, ◌≤◌, ℕ, Ok, Err, Some, None, [], ◌∷◌, length, List, true, false, MatchResult};
+ghost use Rattle.std.specs.Prelude.{◌≡◌, ◌≤◌, Some, [], ◌∷◌, length};
 ghost use Rattle.pe_lex.specs.declared.token.TokenKind.TheVariants as kind;
 ghost use Rattle.pe_lex.specs.Spans.{AreTokensOf};
 ghost use Rattle.pe_parse.specs.Lexemes.{kind_at};
@@ -92,7 +92,7 @@ impl<'a> Reader<'a> {
         }
     }
 
-    fn mark(&self, trigger: Trigger, at: usize, depth: usize) -> Found<Stmt>
+    fn trigger_statement(&self, trigger: Trigger, at: usize, depth: usize) -> Found<Stmt>
         requires tokens { AreTokensOf self.now.text.now self.now.tokens.now }
         requires shallow { depth ≤ 64 }
         requires kind { kind_at (seen self.now) at ≡ Some (trigger_kind trigger) }
@@ -109,7 +109,7 @@ impl<'a> Reader<'a> {
         };
         let start = self.offset(word);
         match self.word(word) {
-            Ok(text) => Ok((Stmt::Mark(trigger, Word { text, at: start }), next)),
+            Ok(text) => Ok((Stmt::Trigger(trigger, Word { text, at: start }), next)),
             Err(fault) => Err(fault),
         }
     }
@@ -177,8 +177,8 @@ impl<'a> Reader<'a> {
         };
         let found = match kind {
             TokenKind::Word => self.assign(at, depth),
-            TokenKind::Refine => self.mark(Trigger::Refine, at, depth),
-            TokenKind::Erase => self.mark(Trigger::Erase, at, depth),
+            TokenKind::Refine => self.trigger_statement(Trigger::Refine, at, depth),
+            TokenKind::Erase => self.trigger_statement(Trigger::Erase, at, depth),
             TokenKind::Print => self.print(at, depth),
             TokenKind::If => self.choose(at, depth),
             _ => return Ok(None),

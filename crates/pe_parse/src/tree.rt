@@ -94,7 +94,7 @@ pub struct Values {
     ghost few: { length items ≤ 8 },
 }
 
-/// Whether a vertex is marked for refinement or for erasing.
+/// Whether a vertex is triggered for refinement or for erasing.
 #[derive(Clone, Copy, Debug, PartialEq, Eq)]
 pub enum Trigger {
     /// `refine`
@@ -109,7 +109,7 @@ pub enum Stmt {
     /// `name = expr;`
     Assign(Name, Expr),
     /// `refine word;` or `erase word;`
-    Mark(Trigger, Word),
+    Trigger(Trigger, Word),
     /// `print expr, ..;`
     Print(Values),
     /// `if expr { .. }`

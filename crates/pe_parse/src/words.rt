@@ -1,4 +1,4 @@
-ghost use Rattle.std.specs.Prelude.{◌≡◌, ◌<◌, ◌≤◌, ℕ, pos, Some, None, length, MatchOption, MatchResult, string_bytes, IfOk};
+ghost use Rattle.std.specs.Prelude.{◌≡◌, ◌<◌, ◌≤◌, pos, Some, length, MatchOption, MatchResult};
 ghost use Rattle.pe_lex.specs.declared.token.TokenKind.TheVariants as kind;
 ghost use Rattle.pe_lex.specs.Spans.{AreTokensOf};
 ghost use Rattle.pe_parse.specs.Lexemes.{kind_at, value_of};

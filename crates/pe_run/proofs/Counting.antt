@@ -9,9 +9,9 @@ use Rattle.pe_base.specs.Tree.Dim.{IsDim}
 use Rattle.pe_base.specs.Walk.Traversals.{Traversal}
 use Rattle.pe_stacks.specs.Grid.{input_stack, output_stack, cell_input_stack, cell_output_stack}
 use Rattle.pe_stacks.specs.Holdings.{Holdings, stack_count, stack_at, new_stack}
-use Rattle.pe_walk.specs.Outlooks.{outlook}
-use Rattle.pe_walk.specs.Tallies.{ExactTraffic}
-use Rattle.pe_walk.specs.Traffic.{entered_cells}
+use Rattle.pe_order.specs.Outlooks.{outlook}
+use Rattle.pe_order.specs.Tallies.{ExactTraffic}
+use Rattle.pe_order.specs.Traffic.{entered_cells}
 use Rattle.pe_run.specs.Traffic.{is_swapped, outlook_of, crossed, vertex_pushes, vertex_pops, cells_read, cells_written, cell_pushes, cell_pops, vertex_lends, cell_lends, deepest, HasTraffic}
 
 -- the streams are exchanged once more

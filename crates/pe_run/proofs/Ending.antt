@@ -1,32 +1,29 @@
 -- The last line behind the traversals of a scenario.
-use Rattle.std.proofs.Common.{◌≡◌, ◌≤◌, ℕ, ◌+◌, List, ◌++◌, length, Result, Ok, Err, sym, subst}
+use Rattle.std.proofs.Common.{◌≡◌, ℕ, ◌+◌, List, ◌++◌, length, Result, Ok, Err, sym, subst}
 use Rattle.std.specs.Result.{IsErrAnd}
 use Rattle.pe_base.specs.declared.fields.Fields.{Fields}
 use Rattle.pe_base.specs.Lines.{done_line}
 use Rattle.pe_base.specs.Walk.Course.{Cause, halts}
-use Rattle.pe_io.specs.Counters.{Rises}
-use Rattle.pe_io.specs.Sink.{AppendsPrefix}
 use Rattle.pe_stacks.specs.declared.record.Vertex.{Vertex}
 use Rattle.pe_stacks.specs.declared.record.CellRec.{CellRec}
 use Rattle.pe_stacks.specs.Holdings.{Holdings}
-use Rattle.pe_mapping.specs.Held.{Told, Adds, AddsPart}
-use Rattle.pe_mapping.proofs.Texts.{adds-then, part-first, part-then, fails-then}
-use Rattle.pe_hang.specs.Follows.{Failure, halted, unwritten, wanting, unheard_of}
+use Rattle.pe_base.specs.Calls.Told.{Told, Adds, AddsPart, FailsToTell}
+use Rattle.pe_base.proofs.Calls.Texts.{adds-then, part-first, part-then, fails-then}
+use Rattle.pe_base.specs.Calls.Follows.{Failure, halted, unwritten, wanting, unheard_of}
 use Rattle.pe_adapt.specs.Stops.{failure_of}
 use Rattle.pe_scene.specs.Said.{Said}
 use Rattle.pe_run.specs.declared.status.Status.{Status}
-use Rattle.pe_run.specs.declared.status.Stop.{Stop}
-use Rattle.pe_run.specs.declared.status.Stop.TheVariants.{Sink, Memory}
+use Rattle.pe_run.specs.declared.status.Interrupted.{Interrupted}
+use Rattle.pe_run.specs.declared.status.Interrupted.TheVariants.{Sink, Memory}
 use Rattle.pe_run.specs.declared.traversals.Halt.{Halt}
 use Rattle.pe_run.specs.declared.traversals.Halt.TheVariants.{Walk, Line}
 use Rattle.pe_run.specs.Endings.{halt_line, last_line}
 use Rattle.pe_run.specs.Run.{Ran, run_asked, said_traversals, ran_traversals}
-use Rattle.pe_run.specs.Between.{FailsToTell}
 use Rattle.pe_run.specs.Stages.{AllDone, OneStops, TraversalsAnswer, EndsWith, EndsFor, RunsTo}
 use Rattle.pe_run.proofs.Stopping.{line_stops}
 
 -- what comes behind a text
-behind : (first : List ℕ) (ran : Ran) (old mid new : Told) (result : Result Status Stop) → Adds old first mid → RunsTo ran mid new result
+behind : (first : List ℕ) (ran : Ran) (old mid new : Told) (result : Result Status Interrupted) → Adds old first mid → RunsTo ran mid new result
     → RunsTo (record { text = first ++ ran.text; status = ran.status }) old new result
 behind first ran old mid new (Ok status) written ran_to = record { status_is = ran_to.status_is; told = adds-then old mid new first ran.text written ran_to.told }
 behind first ran old mid new (Err Sink) written ran_to = record {
@@ -35,7 +32,7 @@ behind first ran old mid new (Err Sink) written ran_to = record {
 }
 behind first ran old mid new (Err Memory) written ran_to = part-then old mid new first ran.text written ran_to
 
-module _ (said : Said) (old mid new : Told) (result : Result Status Stop) where
+module _ (said : Said) (old mid new : Told) (result : Result Status Interrupted) where
   abbrev all_text : List ℕ
   all_text = (said_traversals said).text
 
@@ -46,11 +43,11 @@ module _ (said : Said) (old mid new : Told) (result : Result Status Stop) where
   last = last_line said.settings.dim (length (said_traversals said).made + 1) (said_traversals said).ending
 
   -- the sink failed at the last line, when all was done
-  pub done_stops : (vertices : Holdings (Vertex Fields)) (cells : Holdings (CellRec Fields)) → AllDone said old mid vertices cells → IsErrAnd result (λ stop. stop ≡ Sink)
-      → AppendsPrefix mid.text done_line new.text → mid.faults ≤ new.faults → Rises mid.faults new.faults → RunsTo ran old new result
-  done_stops vertices cells all is text faults failed =
+  pub done_stops : (vertices : Holdings (Vertex Fields)) (cells : Holdings (CellRec Fields)) → AllDone said old mid vertices cells → IsErrAnd result (λ interrupted. interrupted ≡ Sink)
+      → FailsToTell done_line mid new → RunsTo ran old new result
+  done_stops vertices cells all is fails =
       let done_ran : Ran = record { text = done_line; status = 0 } in
-      let line = behind all_text done_ran old mid new result all.told (line_stops done_ran mid new result is text faults failed) in
+      let line = behind all_text done_ran old mid new result all.told (line_stops done_ran mid new result is fails) in
       subst (λ ending. RunsTo (ran_traversals said.settings.dim (record (said_traversals said) { ending = ending })) old new result) (sym all.ends) line
 
   -- a traversal halted

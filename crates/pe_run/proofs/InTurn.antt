@@ -12,9 +12,9 @@ use Rattle.pe_base.specs.Walk.Walk.{traverse}
 use Rattle.pe_stacks.specs.declared.record.Vertex.{Vertex}
 use Rattle.pe_stacks.specs.declared.record.CellRec.{CellRec}
 use Rattle.pe_stacks.specs.Holdings.{Holdings}
-use Rattle.pe_mapping.specs.Held.{Told, Adds, AddsPart}
-use Rattle.pe_mapping.proofs.Texts.{adds-nothing, adds-then, part-first, part-then, fails-then}
-use Rattle.pe_hang.specs.Follows.{Failure, halted, unwritten, wanting, unheard_of}
+use Rattle.pe_base.specs.Calls.Told.{Told, Adds, AddsPart, FailsToTell}
+use Rattle.pe_base.proofs.Calls.Texts.{adds-nothing, adds-then, part-first, part-then, fails-then}
+use Rattle.pe_base.specs.Calls.Follows.{Failure, halted, unwritten, wanting, unheard_of}
 use Rattle.pe_adapt.specs.Stops.{failure_of}
 use Rattle.pe_scene.specs.Said.{Said}
 use Rattle.pe_run.specs.declared.traversals.Between.{Between}
@@ -22,7 +22,7 @@ use Rattle.pe_run.specs.declared.traversals.Halt.{Halt}
 use Rattle.pe_run.specs.declared.traversals.Halt.TheVariants.{Walk, Line}
 use Rattle.pe_run.specs.Run.{said_setting, first_grid, said_traversals}
 use Rattle.pe_run.specs.Traffic.{HasTraffic}
-use Rattle.pe_run.specs.Between.{Stands, IsTraversed, Halts, FailsToTell, FailsAtLine, StopsFor, TraversalAnswer}
+use Rattle.pe_run.specs.Between.{Stands, IsTraversed, Halts, FailsAtLine, StopsFor, TraversalAnswer}
 use Rattle.pe_run.specs.Stages.{behind_traversals, Reaches, AllDone, OneHalts, OneStops, TraversalsAnswer}
 
 -- before the first nothing is made

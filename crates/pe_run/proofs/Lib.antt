@@ -1,8 +1,6 @@
 -- What the run of the program rests on.
 
 -- # What is written
--- what a sink tells, as the run says it and as its traversals do
-pub mod Telling
 -- the words of a tally's line, one after another
 pub mod TallyLines
 -- # Traversals

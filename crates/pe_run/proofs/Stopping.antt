@@ -1,11 +1,9 @@
 -- How a stage of the run ends at its last line.
-use Rattle.std.proofs.Common.{◌≡◌, ◌≢◌, ◌≤◌, ℕ, Result, Ok, Err, refl, sym, subst}
+use Rattle.std.proofs.Common.{◌≡◌, ◌≢◌, ℕ, Result, Ok, Err, refl, sym, subst}
 use Rattle.std.specs.Result.{IsErrAnd}
 use Rattle.pe_base.specs.Walk.Course.{Cause}
-use Rattle.pe_io.specs.Counters.{Rises}
-use Rattle.pe_io.specs.Sink.{Appends, AppendsPrefix}
-use Rattle.pe_mapping.specs.Held.{Told}
-use Rattle.pe_hang.specs.Follows.{halted}
+use Rattle.pe_base.specs.Calls.Told.{Told, Adds, FailsToTell}
+use Rattle.pe_base.specs.Calls.Follows.{halted}
 use Rattle.pe_adapt.specs.declared.stop.WalkStop.{WalkStop}
 use Rattle.pe_adapt.specs.Stops.{failure_of}
 use Rattle.pe_scene.specs.declared.fault.SceneFault.{SceneFault}
@@ -16,28 +14,25 @@ use Rattle.pe_scene.specs.SaidView.{said_of}
 use Rattle.pe_run.specs.declared.refusal.Refusal.{Refusal}
 use Rattle.pe_run.specs.declared.refusal.Refusal.TheVariants.{Unreadable}
 use Rattle.pe_run.specs.declared.status.Status.{Status}
-use Rattle.pe_run.specs.declared.status.Stop.{Stop}
-use Rattle.pe_run.specs.declared.status.Stop.TheVariants.{Sink}
+use Rattle.pe_run.specs.declared.status.Interrupted.{Interrupted}
+use Rattle.pe_run.specs.declared.status.Interrupted.TheVariants.{Sink}
 use Rattle.pe_run.specs.declared.traversals.Halt.{Halt}
 use Rattle.pe_run.specs.declared.traversals.Halt.TheVariants.{Walk}
 use Rattle.pe_run.specs.Endings.{code_of, scene_line, refusal_line, refusal_status, halt_line}
 use Rattle.pe_run.specs.Run.{Ran, run_asked}
 use Rattle.pe_run.specs.Stages.{IsAsked, EndsWith, EndsFor, RunsTo}
-use Rattle.pe_run.proofs.Telling.{adds_told, part_told}
 
 -- a stage that has written its text
-pub line_ends : (ran : Ran) (status : Status) (old new : Told) → code_of status ≡ ran.status → Appends old.text ran.text new.text → old.faults ≤ new.faults → RunsTo ran old new (Ok status)
-line_ends ran status old new is text faults = record { status_is = is; told = adds_told old new ran.text text faults }
+pub line_ends : (ran : Ran) (status : Status) (old new : Told) → code_of status ≡ ran.status → Adds old ran.text new → RunsTo ran old new (Ok status)
+line_ends ran status old new is told = record { status_is = is; told = told }
 
 -- and one at whose text the sink failed
-pub line_stops : (ran : Ran) (old new : Told) (result : Result Status Stop) → IsErrAnd result (λ stop. stop ≡ Sink) → AppendsPrefix old.text ran.text new.text → old.faults ≤ new.faults → Rises old.faults new.faults
-    → RunsTo ran old new result
-line_stops ran old new (Ok status) is text faults failed = absurd is
-line_stops ran old new (Err stop) is text faults failed =
-    subst (λ s. RunsTo ran old new (Err s)) (sym is) (record { failed = failed; told = part_told old new ran.text text faults })
+pub line_stops : (ran : Ran) (old new : Told) (result : Result Status Interrupted) → IsErrAnd result (λ interrupted. interrupted ≡ Sink) → FailsToTell ran.text old new → RunsTo ran old new result
+line_stops ran old new (Ok status) is fails = absurd is
+line_stops ran old new (Err interrupted) is fails = subst (λ s. RunsTo ran old new (Err s)) (sym is) fails
 
 -- the last line behind a halt
-pub EndsFor-halted : (axes : ℕ) (halt : Halt) (traversal : ℕ) (stop : WalkStop) (cause : Cause) (old new : Told) (result : Result Status Stop) → halt ≡ Walk traversal stop → failure_of stop ≡ halted cause
+pub EndsFor-halted : (axes : ℕ) (halt : Halt) (traversal : ℕ) (stop : WalkStop) (cause : Cause) (old new : Told) (result : Result Status Interrupted) → halt ≡ Walk traversal stop → failure_of stop ≡ halted cause
     → RunsTo (record { text = halt_line axes traversal cause; status = 4 }) old new result → EndsFor axes halt old new result
 EndsFor-halted axes halt traversal stop cause old new result is fails runs =
     subst (λ h. EndsFor axes h old new result) (sym is) (subst (λ f. EndsWith axes traversal f old new result) (sym fails) runs)
@@ -55,10 +50,10 @@ said_is (scene.Body event at cause) said other is = is
 said_is scene.Memory said other is = absurd (other refl)
 
 -- so the run of what was asked for is that of the refusal
-pub RunsTo-refused : (refusal : Refusal) (said : Result Said Refusal) (old new : Told) (result : Result Status Stop) → said ≡ Err refusal
+pub RunsTo-refused : (refusal : Refusal) (said : Result Said Refusal) (old new : Told) (result : Result Status Interrupted) → said ≡ Err refusal
     → RunsTo (record { text = refusal_line refusal; status = refusal_status refusal }) old new result → RunsTo (run_asked said) old new result
 RunsTo-refused refusal said old new result is runs = subst (λ s. RunsTo (run_asked s) old new result) (sym is) runs
 
-pub RunsTo-unreadable : (fault : SceneFault) (said : Result Said Refusal) (old new : Told) (result : Result Status Stop) → fault ≢ scene.Memory → IsAsked {S = Scenario} said_of (Err (Unreadable fault)) said
+pub RunsTo-unreadable : (fault : SceneFault) (said : Result Said Refusal) (old new : Told) (result : Result Status Interrupted) → fault ≢ scene.Memory → IsAsked {S = Scenario} said_of (Err (Unreadable fault)) said
     → RunsTo (record { text = scene_line fault; status = 3 }) old new result → RunsTo (run_asked said) old new result
 RunsTo-unreadable fault said old new result other is runs = RunsTo-refused (Unreadable fault) said old new result (said_is fault said other is) runs

@@ -10,8 +10,8 @@ use Rattle.pe_base.specs.Walk.Walk.{traverse}
 use Rattle.pe_stacks.specs.declared.record.Vertex.{Vertex}
 use Rattle.pe_stacks.specs.declared.record.CellRec.{CellRec}
 use Rattle.pe_stacks.specs.Holdings.{Holdings}
-use Rattle.pe_mapping.specs.Held.{Told, Adds, AddsPart, SinkFailed}
-use Rattle.pe_mapping.proofs.Texts.{adds-then, part-then, fails-then}
+use Rattle.pe_base.specs.Calls.Told.{Told, Adds, FailsToTell}
+use Rattle.pe_base.proofs.Calls.Texts.{adds-then, part-then, fails-then}
 use Rattle.pe_scene.specs.Said.{Said}
 use Rattle.pe_run.specs.declared.traversals.Between.{Between}
 use Rattle.pe_run.specs.Run.{said_setting}
@@ -30,10 +30,10 @@ module _ (said : Said) (grid : Grid) (made : List Traversal) (old mid new : Told
   with_line line = (tally, record { next = it.next; ends = it.ends; told = adds-then old mid new text (tally_line tally) written line; stands = it.stands })
 
   -- the sink failed at it
-  pub fails_at_line : AddsPart mid (tally_line tally) new → SinkFailed mid new → FailsAtLine said grid old new
-  fails_at_line part failed = record {
+  pub fails_at_line : FailsToTell (tally_line tally) mid new → FailsAtLine said grid old new
+  fails_at_line line = record {
     next = it.next;
     tally = tally;
     ends = it.ends;
-    fails = record { failed = fails-then old mid new text written failed; told = part-then old mid new text (tally_line tally) written part };
+    fails = record { failed = fails-then old mid new text written line.failed; told = part-then old mid new text (tally_line tally) written line.told };
   }

@@ -15,10 +15,11 @@ use Rattle.pe_stacks.specs.declared.record.Vertex.{Vertex}
 use Rattle.pe_stacks.specs.declared.record.CellRec.{CellRec}
 use Rattle.pe_stacks.specs.declared.grid.Grid.{Grid as Handle}
 use Rattle.pe_stacks.specs.Holdings.{Holdings, stack_count, CountsWithin, RaisesCounts}
-use Rattle.pe_stacks.proofs.Raising.{within_more}
-use Rattle.pe_mapping.specs.Held.{Held, Told, Adds, AddsPart, SinkFailed}
+use Rattle.pe_stacks.proofs.Raising.{within_more, raises_within}
+use Rattle.pe_mapping.specs.Held.{Held}
+use Rattle.pe_base.specs.Calls.Told.{Told, Adds, AddsPart, SinkFailed}
 use Rattle.pe_hang.specs.InHand.{map_stack, map_holdings}
-use Rattle.pe_hang.specs.Follows.{Found, Failure, halted, unwritten, wanting, unheard_of, read_by}
+use Rattle.pe_base.specs.Calls.Follows.{BeforeCall, Failure, halted, unwritten, wanting, unheard_of, read_by}
 use Rattle.pe_adapt.specs.declared.stop.WalkStop.{WalkStop}
 use Rattle.pe_adapt.specs.Stops.{failure_of}
 use Rattle.pe_scene.specs.declared.scenario.Scenario.{Scenario}
@@ -27,8 +28,8 @@ use Rattle.pe_interp.specs.Effect.{said_rules, scenario_rules}
 use Rattle.pe_interp.specs.Held.{fields_numbers}
 use Rattle.pe_walk.specs.Gridded.{HoldsGrid}
 use Rattle.pe_walk.specs.InHand.{machine_between}
-use Rattle.pe_walk.specs.Outlooks.{IsNew, outlook}
-use Rattle.pe_walk.specs.Tallies.{ExactTraffic}
+use Rattle.pe_order.specs.Outlooks.{IsNew, outlook}
+use Rattle.pe_order.specs.Tallies.{ExactTraffic}
 use Rattle.pe_walk.specs.Traversing.{most_rise, IsAdvanced, MayTraverse, Traverses, Answers}
 use Rattle.pe_run.specs.declared.traversals.Between.{Between}
 use Rattle.pe_run.specs.Run.{said_setting}
@@ -41,9 +42,9 @@ count_of : {X Y : Type 0} (f : X → Y) (held : Holdings X) (n : ℕ) → stack_
 count_of f held n is = sym (length-map held.stacks (map_stack f)) ∙ is
 
 -- counts after one traversal more, of so many cells
-rises_once : {X : Type 0} (held held' : Holdings X) (traversals cells : ℕ) → cells ≤ 4194304 → CountsWithin held (most_rise * traversals) → RaisesCounts held held' (64 * (cells + 1)) → CountsWithin held' (most_rise * (traversals + 1))
+rises_once : {X : Type 0} (held held' : Holdings X) (traversals cells : ℕ) → cells ≤ most_cells → CountsWithin held (most_rise * traversals) → RaisesCounts held held' (64 * (cells + 1)) → CountsWithin held' (most_rise * (traversals + 1))
 rises_once held held' traversals cells few counts rises =
-    within_more held' (most_rise * traversals + 64 * (cells + 1)) (most_rise * (traversals + 1)) (omega (arith, few)) (rises.within (most_rise * traversals) counts)
+    within_more held' (most_rise * traversals + 64 * (cells + 1)) (most_rise * (traversals + 1)) (omega (arith, few)) (raises_within held held' (most_rise * traversals) (64 * (cells + 1)) rises counts)
 
 axes_of : (grid : Grid) → IsNew grid ⊎ IsWellFormed grid → IsDim grid.axes
 axes_of grid (inl new) = new.axes
@@ -108,7 +109,7 @@ module _ (scenario : Scenario) (between : Between) (made : List Traversal) (grid
       cell_counts = subst (λ n. CountsWithin cells' (most_rise * n)) (sym one_more) (rises_once cells cells' (length made) tally.cells limited stands.cell_counts it.cells_rise);
     }
       where
-        limited : tally.cells ≤ 4194304
+        limited : tally.cells ≤ most_cells
         limited = omega (arith, few, scenario.setup.limit.few)
 
     traversed : IsTraversed (said_of scenario) grid made (λ t. []) old new vertices' cells' (record { grid = handle; globals = globals }) tally
@@ -133,7 +134,7 @@ module _ (scenario : Scenario) (between : Between) (made : List Traversal) (grid
   }
 
   -- it stopped
-  stopped : (old new : Told) (found : Found) (after : Held Scenario) (failure : Failure) → found.told ≡ old → after.told ≡ new
+  stopped : (old new : Told) (found : BeforeCall) (after : Held Scenario) (failure : Failure) → found.told ≡ old → after.told ≡ new
       → Answers fields_numbers set grid between.grid.swapped (traverse set grid) (Err failure) found (record { vertices = vertices; cells = cells }) after (record { vertices = vertices'; cells = cells' })
       → StopsFor (said_of scenario) grid old new failure
   stopped old new found after (halted cause) was is does = record {
@@ -164,7 +165,7 @@ module _ (scenario : Scenario) (between : Between) (made : List Traversal) (grid
   with_globals globals (Ok answer) = Ok (record { grid = answer.0; globals = globals }, answer.1)
   with_globals globals (Err stop) = Err stop
 
-  answered_by : (old new : Told) (found : Found) (after : Held Scenario) (globals : Fields) (result : Result (Handle Fields × Tally) WalkStop) → found.told ≡ old → after.told ≡ new → after.list ≡ globals.a
+  answered_by : (old new : Told) (found : BeforeCall) (after : Held Scenario) (globals : Fields) (result : Result (Handle Fields × Tally) WalkStop) → found.told ≡ old → after.told ≡ new → after.list ≡ globals.a
       → IfOk result (λ answer. answer.1.cells ≤ scenario.setup.max_cells) → IfOk result (λ answer. IsAdvanced between.grid answer.0)
       → Answers fields_numbers set grid between.grid.swapped (traverse set grid) (read_by failure_of result) found (record { vertices = vertices; cells = cells }) after (record { vertices = vertices'; cells = cells' })
       → WalkAnswer (said_of scenario) grid made old new vertices' cells' (read_by failure_of (with_globals globals result))
@@ -174,7 +175,7 @@ module _ (scenario : Scenario) (between : Between) (made : List Traversal) (grid
   answered_by old new found after globals (Err stop) was is list few advanced it = stopped old new found after (failure_of stop) was is it
 
   -- what a traversal answers, by the plan of its mapping
-  pub answered : (plan : Scenario) → plan ≡ scenario → (old new : Told) (found : Found) (after : Held Scenario) (globals : Fields) (result : Result (Handle Fields × Tally) WalkStop)
+  pub answered : (plan : Scenario) → plan ≡ scenario → (old new : Told) (found : BeforeCall) (after : Held Scenario) (globals : Fields) (result : Result (Handle Fields × Tally) WalkStop)
       → found.told ≡ old → after.told ≡ new → after.list ≡ globals.a
       → IfOk result (λ answer. answer.1.cells ≤ scenario.setup.max_cells) → IfOk result (λ answer. IsAdvanced between.grid answer.0)
       → Answers fields_numbers (set_by plan) grid between.grid.swapped (traverse (set_by plan) grid) (read_by failure_of result) found (record { vertices = vertices; cells = cells }) after (record { vertices = vertices'; cells = cells' })

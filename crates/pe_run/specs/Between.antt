@@ -11,13 +11,13 @@ use Rattle.pe_base.specs.Walk.Working.{no_tally}
 use Rattle.pe_stacks.specs.declared.record.Vertex.{Vertex}
 use Rattle.pe_stacks.specs.declared.record.CellRec.{CellRec}
 use Rattle.pe_stacks.specs.Holdings.{Holdings, CountsWithin}
-use Rattle.pe_mapping.specs.Held.{Told, Adds, AddsPart, SinkFailed}
-use Rattle.pe_hang.specs.Follows.{Failure, halted, unwritten, wanting, unheard_of}
+use Rattle.pe_base.specs.Calls.Told.{Told, Adds, AddsPart, FailsToTell}
+use Rattle.pe_base.specs.Calls.Follows.{Failure, halted, unwritten, wanting, unheard_of}
 use Rattle.pe_scene.specs.Said.{Said}
 use Rattle.pe_interp.specs.Held.{fields_numbers}
 use Rattle.pe_walk.specs.Gridded.{HoldsGrid}
 use Rattle.pe_walk.specs.InHand.{machine_between}
-use Rattle.pe_walk.specs.Outlooks.{IsNew}
+use Rattle.pe_order.specs.Outlooks.{IsNew}
 use Rattle.pe_walk.specs.Traversing.{most_rise}
 use Rattle.pe_adapt.specs.Stops.{failure_of}
 use Rattle.pe_run.specs.declared.traversals.Between.{Between}
@@ -51,10 +51,6 @@ pub record IsTraversed (said : Said) (grid : Grid) (made : List Traversal) (line
 pub record Halts (said : Said) (grid : Grid) (cause : Cause) (old new : Told) : Type 0 where
   pub ends : (traverse (said_setting said) grid).ending ≡ halts cause
   pub told : Adds old (traverse (said_setting said) grid).text new
-
-pub record FailsToTell (text : List ℕ) (old new : Told) : Type 0 where
-  pub failed : SinkFailed old new
-  pub told : AddsPart old text new
 
 abbrev pub StopsFor : Said → Grid → Told → Told → Failure → Type 0
 StopsFor said grid old new (halted cause) = Halts said grid cause old new

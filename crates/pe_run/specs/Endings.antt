@@ -12,8 +12,8 @@ use Rattle.pe_run.specs.declared.refusal.Refusal.{Refusal}
 use Rattle.pe_run.specs.declared.refusal.Refusal.TheVariants as refused
 use Rattle.pe_run.specs.declared.status.Status.{Status}
 use Rattle.pe_run.specs.declared.status.Status.TheVariants.{Done, NoJob, Refused, Halted, NoShelf}
-use Rattle.pe_run.specs.declared.status.Stop.{Stop}
-use Rattle.pe_run.specs.declared.status.Stop.TheVariants.{Sink, Memory}
+use Rattle.pe_run.specs.declared.status.Interrupted.{Interrupted}
+use Rattle.pe_run.specs.declared.status.Interrupted.TheVariants.{Sink, Memory}
 
 -- the number of a status
 abbrev pub code_of : Status → ℕ
@@ -24,7 +24,7 @@ code_of Halted = 4
 code_of NoShelf = 6
 
 -- the number with which a run ends, or is interrupted
-abbrev pub ending_of : Result Status Stop → ℕ
+abbrev pub ending_of : Result Status Interrupted → ℕ
 ending_of (Ok status) = code_of status
 ending_of (Err Sink) = 7
 ending_of (Err Memory) = 9

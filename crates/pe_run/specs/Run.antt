@@ -8,8 +8,8 @@ use Rattle.pe_base.specs.Walk.Core.{Setting}
 use Rattle.pe_base.specs.Walk.Grids.{Grid, new_grid}
 use Rattle.pe_base.specs.Walk.Traversals.{Traversals, traversals}
 use Rattle.pe_io.specs.declared.shelf.ShelfCall.TheVariants.{Get}
-use Rattle.pe_io.specs.Counters.{Rises}
-use Rattle.pe_io.specs.Sink.{Appends, AppendsPrefix}
+use Rattle.pe_base.specs.Calls.Counters.{Rises}
+use Rattle.pe_base.specs.Calls.Told.{Told, Adds, AddsPart}
 use Rattle.pe_io.specs.Shelf.{Contents, FailedCall, failed_call}
 use Rattle.pe_scene.specs.declared.fault.SceneFault.{SceneFault}
 use Rattle.pe_scene.specs.Said.{Said, scenario_of}
@@ -89,7 +89,7 @@ call_of None stage = None
 call_of (Some name) scenario_stage = Some (failed_call Get name)
 
 -- The clauses of the top call. `told` is what the shelf tells of its contents; `before` and `after` are its
--- counts of faults; `last` is its last failed call; `old` and `new` are the sink's text, where it is told.
+-- counts of faults; `last` is its last failed call; `old` and `new` are what the sink tells.
 
 -- the shelf holds this: what it tells, or something under every name where it tells nothing
 abbrev pub Holds : Option Contents → Contents → Type 0
@@ -105,9 +105,9 @@ MayFail job before after last status (Some stage) = Rises before after × (last 
 abbrev pub is_interruption : ℕ → Bool
 is_interruption status = status == 7 || status == 9
 
--- the text gets the whole run's, or a part of it where the run was interrupted
-abbrev pub Writes : ℕ → Option (List ℕ) → List ℕ → Option (List ℕ) → Type 0
-Writes status old text new = MatchBool (is_interruption status) (AppendsPrefix old text new) (Appends old text new)
+-- the whole text of the run is written, or a part of it where the run was interrupted, each line as one piece
+abbrev pub Writes : ℕ → Told → List ℕ → Told → Type 0
+Writes status old text new = MatchBool (is_interruption status) (AddsPart old text new) (Adds old text new)
 
 -- the status is the run's, or an interruption
 abbrev pub Answers : ℕ → ℕ → Type 0
@@ -120,7 +120,7 @@ CountsTraversals (Ok said) vertices cells = HasTraffic said.settings.dim said.se
 
 -- Text and status are those of the run of the job, over what the shelf holds, with the stage that failed, if one did.
 -- On status 0 so is what the depots have counted.
-pub record IsRun {V C : Type 0} (job : Option (List ℕ)) (told : Option Contents) (before after : ℕ) (last : Option FailedCall) (old new : Option (List ℕ)) (vertices : Holdings V) (cells : Holdings C) (status : ℕ) : Type 0 where
+pub record IsRun {V C : Type 0} (job : Option (List ℕ)) (told : Option Contents) (before after : ℕ) (last : Option FailedCall) (old new : Told) (vertices : Holdings V) (cells : Holdings C) (status : ℕ) : Type 0 where
   pub held : Contents
   pub failed : Option Stage
   pub contents : Holds told held
@@ -136,6 +136,6 @@ IsShelfCause job told before after last =
     ⊎ ((name : List ℕ) × (held : Contents) × (job ≡ Some name) × (told ≡ Some held) × (held name ≡ None))
 
 -- where nothing failed, only want of memory keeps the run from its end
-abbrev pub IsComplete : Option (List ℕ) → Option Contents → Option (List ℕ) → Option (List ℕ) → ℕ → Type 0
+abbrev pub IsComplete : Option (List ℕ) → Option Contents → Told → Told → ℕ → Type 0
 IsComplete job told old new status = (held : Contents) → told ≡ Some held
-    → (status ≡ 9) ⊎ ((status ≡ (run_job job held None).status) × Appends old (run_job job held None).text new)
+    → (status ≡ 9) ⊎ ((status ≡ (run_job job held None).status) × Adds old (run_job job held None).text new)

@@ -5,30 +5,25 @@ use Rattle.pe_base.specs.Walk.Course.{Cause, done, halts}
 use Rattle.pe_base.specs.Walk.Grids.{Grid}
 use Rattle.pe_base.specs.Walk.Traversals.{Traversal, Traversals}
 use Rattle.pe_io.specs.Shelf.{Contents, FailedCall}
-use Rattle.pe_io.specs.Counters.{Rises}
+use Rattle.pe_base.specs.Calls.Counters.{Rises}
 use Rattle.pe_stacks.specs.declared.record.Vertex.{Vertex}
 use Rattle.pe_stacks.specs.declared.record.CellRec.{CellRec}
 use Rattle.pe_stacks.specs.Holdings.{Holdings}
-use Rattle.pe_mapping.specs.Held.{Told, Adds, AddsPart}
-use Rattle.pe_hang.specs.Follows.{Failure, halted, unwritten, wanting, unheard_of}
+use Rattle.pe_base.specs.Calls.Told.{Told, Adds, AddsPart, FailsToTell}
+use Rattle.pe_base.specs.Calls.Follows.{Failure, halted, unwritten, wanting, unheard_of}
 use Rattle.pe_adapt.specs.Stops.{failure_of}
 use Rattle.pe_scene.specs.declared.fault.SceneFault.TheVariants.{Memory as NoMemory}
 use Rattle.pe_scene.specs.Said.{Said}
 use Rattle.pe_run.specs.declared.refusal.Refusal.{Refusal}
 use Rattle.pe_run.specs.declared.refusal.Refusal.TheVariants.{NoJob, NoShelf, Unreadable}
 use Rattle.pe_run.specs.declared.status.Status.{Status}
-use Rattle.pe_run.specs.declared.status.Stop.{Stop}
-use Rattle.pe_run.specs.declared.status.Stop.TheVariants.{Sink, Memory}
+use Rattle.pe_run.specs.declared.status.Interrupted.{Interrupted}
+use Rattle.pe_run.specs.declared.status.Interrupted.TheVariants.{Sink, Memory}
 use Rattle.pe_run.specs.declared.traversals.Halt.{Halt}
 use Rattle.pe_run.specs.declared.traversals.Halt.TheVariants.{Walk, Line}
 use Rattle.pe_run.specs.Endings.{code_of, halt_line}
 use Rattle.pe_run.specs.Traffic.{HasTraffic}
 use Rattle.pe_run.specs.Run.{Ran, Stage, Holds, call_of, asked, said_traversals}
-use Rattle.pe_run.specs.Between.{FailsToTell}
-
--- what a sink tells
-abbrev pub told_by : {K : Type 0} → (K → Option (List ℕ)) → (K → ℕ) → K → Told
-told_by text faults sink = record { text = text sink; faults = faults sink }
 
 -- The traversals of a scenario: all are done, and the depots have counted them; or one halts, or was interrupted.
 pub record AllDone (said : Said) (old new : Told) (vertices : Holdings (Vertex Fields)) (cells : Holdings (CellRec Fields)) : Type 0 where
@@ -68,19 +63,19 @@ pub record Ends (ran : Ran) (status : Status) (old new : Told) : Type 0 where
   pub status_is : code_of status ≡ ran.status
   pub told : Adds old ran.text new
 
-abbrev pub RunsTo : Ran → Told → Told → Result Status Stop → Type 0
+abbrev pub RunsTo : Ran → Told → Told → Result Status Interrupted → Type 0
 RunsTo ran old new (Ok status) = Ends ran status old new
 RunsTo ran old new (Err Sink) = FailsToTell ran.text old new
 RunsTo ran old new (Err Memory) = AddsPart old ran.text new
 
 -- The last line behind a halt: that of the cause, or none where the run was interrupted.
-abbrev pub EndsWith : ℕ → ℕ → Failure → Told → Told → Result Status Stop → Type 0
+abbrev pub EndsWith : ℕ → ℕ → Failure → Told → Told → Result Status Interrupted → Type 0
 EndsWith dim traversal (halted cause) old new result = RunsTo (record { text = halt_line dim traversal cause; status = 4 }) old new result
 EndsWith dim traversal unwritten old new result = (result ≡ Err Sink) × (new ≡ old)
 EndsWith dim traversal wanting old new result = (result ≡ Err Memory) × (new ≡ old)
 EndsWith dim traversal unheard_of old new result = Unit {0}
 
-abbrev pub EndsFor : ℕ → Halt → Told → Told → Result Status Stop → Type 0
+abbrev pub EndsFor : ℕ → Halt → Told → Told → Result Status Interrupted → Type 0
 EndsFor dim (Walk traversal stop) old new result = EndsWith dim traversal (failure_of stop) old new result
 EndsFor dim Line old new result = (result ≡ Err Sink) × (new ≡ old)
 

@@ -9,9 +9,9 @@ use Rattle.std.specs.Prelude.{◌≡◌, ℕ, ◌+◌, ◌-◌, ◌*◌, ◌/◌
 use Rattle.pe_base.specs.Walk.Traversals.{Traversal}
 use Rattle.pe_stacks.specs.Grid.{input_stack, output_stack, cell_input_stack, cell_output_stack}
 use Rattle.pe_stacks.specs.Holdings.{Holdings, stack_at, items_at}
-use Rattle.pe_walk.specs.Outlooks.{outlook}
-use Rattle.pe_walk.specs.Tokens.{Outlook}
-use Rattle.pe_walk.specs.Traffic.{entered_cells, first_vertices, crosses_on}
+use Rattle.pe_order.specs.Outlooks.{outlook}
+use Rattle.pe_order.specs.Tokens.{Outlook}
+use Rattle.pe_order.specs.Traffic.{entered_cells, first_vertices, crosses_on}
 
 -- the streams are exchanged after an odd number of traversals
 abbrev pub is_swapped : ℕ → Bool

@@ -7,8 +7,9 @@ ghost use Rattle.pe_run.specs.Stages.{Asks};
 
 use crate::refusal::Refusal;
 use crate::words::scenario_name;
+use pe_base::limits::SCENARIO_BYTES;
 use pe_io::{Got, Shelf};
-use pe_scene::{SCENARIO_LIMIT, Scenario, SceneFault, read_scenario};
+use pe_scene::{Scenario, SceneFault, read_scenario};
 use std::alloc::Global;
 
 /// The scenario that the words name, as the shelf holds it, or why there is none. The shelf is asked at most once for each
@@ -36,7 +37,7 @@ fn ask_for<H: Shelf>(alloc: Global, name: &str, shelf: &mut H) -> Result<Scenari
     ensures calls { H.calls shelf.new ≤ H.calls shelf.old + 1 }
     ensures few { IfOk result (λ scenario. scenario.traversals ≤ 1000) }
 {
-    match shelf.get(name, SCENARIO_LIMIT) {
+    match shelf.get(name, SCENARIO_BYTES) {
         Got::Whole(bytes) => match read_scenario(alloc, &bytes) {
             Ok(scenario) => Ok(scenario),
             Err(fault) => Err(Refusal::Unreadable(fault)),

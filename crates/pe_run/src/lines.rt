@@ -1,22 +1,27 @@
 //! The lines that a run writes of itself: tallies, refusals, and what halts a traversal.
-ghost use Rattle.std.specs.Prelude.{◌≡◌, ◌+◌, ◌≤◌, [], ◌∷◌, ◌++◌, length, decimal, codes, OnOk, OnErr};
-ghost use Rattle.std.specs.List.{flat_map};
-ghost use Rattle.pe_base.specs.Lines.{tally_line, way_name, place_parts, fault_at_key, fault_in_body, fault_at_event, fault_cells};
-ghost use Rattle.pe_io.specs.Counters.{Rises};
-ghost use Rattle.pe_io.specs.Sink.{Appends, AppendsPrefix};
-ghost use Rattle.pe_io.specs.Line.{HasRoom};
+ghost use Rattle.std.specs.Prelude.{◌≡◌, ◌+◌, ◌≤◌, [], ◌∷◌, ◌++◌, length, decimal, codes};
+ghost use Rattle.pe_base.specs.Lines.{tally_line, way_name, fault_at_key, fault_in_body, fault_at_event, fault_cells};
+ghost use Rattle.pe_base.specs.Calls.Told.{Tells};
+ghost use Rattle.pe_io.specs.Sink.{told_by};
+ghost use Rattle.pe_io.specs.Line.{HasRoom, HasNoFeed};
 ghost use Rattle.pe_run.specs.Endings.{cause_name};
 
 use pe_base::{Dim, Event, Place, Sort, Tally, Way};
 use pe_io::{Line, Sink, SinkFailed};
 use pe_scene::BodyCause;
 
+/// Writes a line that is always the same.
+pub fn write_line<K: Sink>(line: &str, sink: &mut K) -> Result<(), SinkFailed>
+    requires short { length line.now ≤ 32 }
+    requires plain { HasNoFeed line.now }
+    ensures told { Tells (line.now ++ 10 ∷ []) (told_by K.text K.writes K.faults sink.old) (told_by K.text K.writes K.faults sink.new) result }
+{
+    Line::of(line).end(sink)
+}
+
 /// Writes the line of a tally.
 pub fn write_tally<K: Sink>(tally: &Tally, sink: &mut K) -> Result<(), SinkFailed>
-    ensures ok { OnOk result (Appends (K.text sink.old) (tally_line tally.now) (K.text sink.new)) }
-    ensures err { OnErr result (AppendsPrefix (K.text sink.old) (tally_line tally.now) (K.text sink.new)) }
-    ensures faults { K.faults sink.old ≤ K.faults sink.new }
-    ensures failed { OnErr result (Rises (K.faults sink.old) (K.faults sink.new)) }
+    ensures told { Tells (tally_line tally.now) (told_by K.text K.writes K.faults sink.old) (told_by K.text K.writes K.faults sink.new) result }
 {
     tally_words(tally).end(sink)
 }
@@ -39,7 +44,8 @@ fn tally_words(tally: &Tally) -> Line
 
 // A word and a number.
 fn add_count(line: &mut Line, word: &str, n: u64)
-    requires { HasRoom line.old (22 + length word.now) }
+    requires room { HasRoom line.old (22 + length word.now) }
+    requires plain { HasNoFeed word.now }
     ensures text { line.new ≡ line.old ++ 32 ∷ word.now ++ 32 ∷ decimal n }
     ensures length { length line.new ≤ length line.old + 22 + length word.now }
 {
@@ -50,6 +56,7 @@ fn add_count(line: &mut Line, word: &str, n: u64)
 fn way_name(way: Way) -> &'static str
     ensures name { result.now ≡ way_name way }
     ensures short { length result.now ≤ 8 }
+    ensures plain { HasNoFeed result.now }
 {
     match way {
         Way::Forward => "forward",
@@ -59,11 +66,9 @@ fn way_name(way: Way) -> &'static str
 
 /// Writes the line of a scenario that is refused for what stands at a key.
 pub fn write_key_fault<K: Sink>(cause: &str, key: &str, sink: &mut K) -> Result<(), SinkFailed>
-    requires { length cause.now ≤ 16 }
-    ensures ok { OnOk result (Appends (K.text sink.old) (fault_at_key cause.now key.now) (K.text sink.new)) }
-    ensures err { OnErr result (AppendsPrefix (K.text sink.old) (fault_at_key cause.now key.now) (K.text sink.new)) }
-    ensures faults { K.faults sink.old ≤ K.faults sink.new }
-    ensures failed { OnErr result (Rises (K.faults sink.old) (K.faults sink.new)) }
+    requires short { length cause.now ≤ 16 }
+    requires plain { HasNoFeed cause.now }
+    ensures told { Tells (fault_at_key cause.now key.now) (told_by K.text K.writes K.faults sink.old) (told_by K.text K.writes K.faults sink.new) result }
 {
     let mut line = Line::of("fault");
     line.part("scenario");
@@ -79,10 +84,7 @@ pub fn write_body_fault<K: Sink>(
     cause: BodyCause,
     sink: &mut K,
 ) -> Result<(), SinkFailed>
-    ensures ok { OnOk result (Appends (K.text sink.old) (fault_in_body event offset (cause_name cause)) (K.text sink.new)) }
-    ensures err { OnErr result (AppendsPrefix (K.text sink.old) (fault_in_body event offset (cause_name cause)) (K.text sink.new)) }
-    ensures faults { K.faults sink.old ≤ K.faults sink.new }
-    ensures failed { OnErr result (Rises (K.faults sink.old) (K.faults sink.new)) }
+    ensures told { Tells (fault_in_body event offset (cause_name cause)) (told_by K.text K.writes K.faults sink.old) (told_by K.text K.writes K.faults sink.new) result }
 {
     let mut line = Line::of("fault");
     line.part("scenario");
@@ -97,6 +99,7 @@ pub fn write_body_fault<K: Sink>(
 fn cause_name(cause: BodyCause) -> &'static str
     ensures name { result.now ≡ cause_name cause }
     ensures short { length result.now ≤ 12 }
+    ensures plain { HasNoFeed result.now }
 {
     match cause {
         BodyCause::Character => "character",
@@ -120,17 +123,15 @@ pub fn write_event_fault<K: Sink>(
     at: &Place,
     sink: &mut K,
 ) -> Result<(), SinkFailed>
-    requires { length cause.now ≤ 16 }
-    ensures ok { OnOk result (Appends (K.text sink.old) (fault_at_event cause.now dim traversal event at.now) (K.text sink.new)) }
-    ensures err { OnErr result (AppendsPrefix (K.text sink.old) (fault_at_event cause.now dim traversal event at.now) (K.text sink.new)) }
-    ensures faults { K.faults sink.old ≤ K.faults sink.new }
-    ensures failed { OnErr result (Rises (K.faults sink.old) (K.faults sink.new)) }
+    requires short { length cause.now ≤ 16 }
+    requires plain { HasNoFeed cause.now }
+    ensures told { Tells (fault_at_event cause.now dim traversal event at.now) (told_by K.text K.writes K.faults sink.old) (told_by K.text K.writes K.faults sink.new) result }
 {
     let mut line = halted(cause, traversal);
     line.part(event.name());
     match event.sort() {
         Sort::Plain => {}
-        Sort::Vertex | Sort::Cell => add_place(&mut line, dim, at),
+        Sort::Vertex | Sort::Cell => line.place(dim, at),
     }
     line.end(sink)
 }
@@ -142,19 +143,17 @@ pub fn write_cell_fault<K: Sink>(
     at: &Place,
     sink: &mut K,
 ) -> Result<(), SinkFailed>
-    ensures ok { OnOk result (Appends (K.text sink.old) (fault_cells dim traversal at.now) (K.text sink.new)) }
-    ensures err { OnErr result (AppendsPrefix (K.text sink.old) (fault_cells dim traversal at.now) (K.text sink.new)) }
-    ensures faults { K.faults sink.old ≤ K.faults sink.new }
-    ensures failed { OnErr result (Rises (K.faults sink.old) (K.faults sink.new)) }
+    ensures told { Tells (fault_cells dim traversal at.now) (told_by K.text K.writes K.faults sink.old) (told_by K.text K.writes K.faults sink.new) result }
 {
     let mut line = halted("cells", traversal);
-    add_place(&mut line, dim, at);
+    line.place(dim, at);
     line.end(sink)
 }
 
 // The first parts of the line of a traversal that is halted.
 fn halted(cause: &str, traversal: u64) -> Line
-    requires { length cause.now ≤ 16 }
+    requires short { length cause.now ≤ 16 }
+    requires plain { HasNoFeed cause.now }
     ensures text { result ≡ codes "fault" ++ 32 ∷ cause.now ++ 32 ∷ codes "traversal" ++ 32 ∷ decimal traversal }
     ensures length { length result ≤ 53 }
 {
@@ -163,16 +162,4 @@ fn halted(cause: &str, traversal: u64) -> Line
     line.part("traversal");
     line.number(traversal);
     line
-}
-
-// A place: its level, and its position on each axis.
-fn add_place(line: &mut Line, dim: Dim, place: &Place)
-    requires { HasRoom line.old 105 }
-    ensures text { line.new ≡ line.old ++ flat_map (λ part. 32 ∷ part) (place_parts dim place.now) }
-    ensures length { length line.new ≤ length line.old + 105 }
-{
-    line.number(place.level as u64);
-    for axis in 0..dim.axes() as usize {
-        line.number(place.pos[axis]);
-    }
 }

@@ -1,7 +1,8 @@
 // The run of the program, stage by stage.
-ghost use Rattle.std.specs.Prelude.{◌≡◌, ◌≢◌, ◌≤◌, ◌+◌, Result as Outcome, Err, Ok, OnOk, OnErr, map, length, string_bytes};
-ghost use Rattle.pe_io.specs.Counters.{Rises};
-ghost use Rattle.pe_io.specs.Sink.{Appends, AppendsPrefix};
+ghost use Rattle.std.specs.Prelude.{◌≡◌, ◌≢◌, ◌≤◌, ◌+◌, Result as Outcome, Err, Ok, OnOk, map, length, string_bytes};
+ghost use Rattle.pe_base.specs.Calls.Counters.{Rises};
+ghost use Rattle.pe_base.specs.Calls.Told.{Tells};
+ghost use Rattle.pe_io.specs.Sink.{told_by};
 ghost use Rattle.pe_stacks.specs.Holdings.{new_holdings, cleared};
 ghost use Rattle.pe_scene.specs.Said.{Said};
 ghost use Rattle.pe_scene.specs.SaidView.{said_of};
@@ -12,15 +13,17 @@ ghost use Rattle.pe_run.specs.Words.{job_of};
 ghost use Rattle.pe_run.specs.Endings.{ending_of, scene_line};
 ghost use Rattle.pe_run.specs.Traffic.{IsSettled};
 ghost use Rattle.pe_run.specs.Run.{run_asked, names_of, CountsTraversals, IsRun, IsShelfCause, IsComplete};
-ghost use Rattle.pe_run.specs.Stages.{told_by, IsAsked, EndsFor, RunsTo};
+ghost use Rattle.pe_run.specs.Stages.{IsAsked, EndsFor, RunsTo};
 
 use crate::ask::ask;
-use crate::lines::{write_body_fault, write_cell_fault, write_event_fault, write_key_fault};
+use crate::lines::{
+    write_body_fault, write_cell_fault, write_event_fault, write_key_fault, write_line,
+};
 use crate::refusal::Refusal;
-use crate::status::{Status, Stop, exit_status};
+use crate::status::{Interrupted, Status, exit_status};
 use crate::traversals::{Halt, traverse_all};
 use pe_adapt::WalkStop;
-use pe_base::{Dim, Fields, Stop as EventStop};
+use pe_base::{Dim, Fields, Stop};
 use pe_io::{Shelf, Sink, SinkFailed};
 use pe_scene::{Scenario, SceneFault};
 use pe_stacks::{CellRec, Depot, Shown, Vertex};
@@ -28,14 +31,11 @@ use std::alloc::Global;
 
 // Writes the line of a refused scenario; want of memory has none.
 fn write_scene_fault<K: Sink>(fault: &SceneFault, sink: &mut K) -> Result<(), SinkFailed>
-    ensures ok { OnOk result (Appends (K.text sink.old) (scene_line fault.now) (K.text sink.new)) }
-    ensures err { OnErr result (AppendsPrefix (K.text sink.old) (scene_line fault.now) (K.text sink.new)) }
-    ensures faults { K.faults sink.old ≤ K.faults sink.new }
-    ensures failed { OnErr result (Rises (K.faults sink.old) (K.faults sink.new)) }
+    ensures told { Tells (scene_line fault.now) (told_by K.text K.writes K.faults sink.old) (told_by K.text K.writes K.faults sink.new) result }
 {
     match fault {
-        SceneFault::TooLong => sink.write(b"fault scenario too-long\n"),
-        SceneFault::NotToml => sink.write(b"fault scenario not-toml\n"),
+        SceneFault::TooLong => write_line("fault scenario too-long", sink),
+        SceneFault::NotToml => write_line("fault scenario not-toml", sink),
         SceneFault::UnknownKey { key } => write_key_fault("unknown-key", key.as_str(), sink),
         SceneFault::Missing { key } => write_key_fault("missing", key.as_str(), sink),
         SceneFault::Shape { key } => write_key_fault("shape", key.as_str(), sink),
@@ -47,13 +47,13 @@ fn write_scene_fault<K: Sink>(fault: &SceneFault, sink: &mut K) -> Result<(), Si
 }
 
 // Ends a run whose scenario is refused, or for which there was no memory.
-fn refuse_scenario<K: Sink>(fault: &SceneFault, sink: &mut K) -> Result<Status, Stop>
+fn refuse_scenario<K: Sink>(fault: &SceneFault, sink: &mut K) -> Result<Status, Interrupted>
     ensures run { (said : Outcome Said ARefusal) → IsAsked {S = AScenario} said_of (Err (Refusal.Unreadable fault.now)) said
-        → RunsTo (run_asked said) (told_by K.text K.faults sink.old) (told_by K.text K.faults sink.new) result }
+        → RunsTo (run_asked said) (told_by K.text K.writes K.faults sink.old) (told_by K.text K.writes K.faults sink.new) result }
     ensures status { OnOk result (result ≢ Ok Status.Done) }
 {
     match fault {
-        SceneFault::Memory => Err(Stop::Memory),
+        SceneFault::Memory => Err(Interrupted::Memory),
         _ => {
             write_scene_fault(fault, sink)?;
             Ok(Status::Refused)
@@ -62,19 +62,19 @@ fn refuse_scenario<K: Sink>(fault: &SceneFault, sink: &mut K) -> Result<Status, 
 }
 
 // Ends a run for which there is no scenario.
-fn refuse<K: Sink>(refusal: &Refusal, sink: &mut K) -> Result<Status, Stop>
+fn refuse<K: Sink>(refusal: &Refusal, sink: &mut K) -> Result<Status, Interrupted>
     ensures run { (said : Outcome Said ARefusal) → IsAsked {S = AScenario} said_of (Err refusal.now) said
-        → RunsTo (run_asked said) (told_by K.text K.faults sink.old) (told_by K.text K.faults sink.new) result }
-    ensures no_memory { refusal.now ≡ Refusal.NoShelf → result ≢ Err Stop.Memory }
+        → RunsTo (run_asked said) (told_by K.text K.writes K.faults sink.old) (told_by K.text K.writes K.faults sink.new) result }
+    ensures no_memory { refusal.now ≡ Refusal.NoShelf → result ≢ Err Interrupted.Memory }
     ensures status { OnOk result (result ≢ Ok Status.Done) }
 {
     match refusal {
         Refusal::NoJob => {
-            sink.write(b"fault words\n")?;
+            write_line("fault words", sink)?;
             Ok(Status::NoJob)
         }
         Refusal::NoShelf => {
-            sink.write(b"fault shelf scenario\n")?;
+            write_line("fault shelf scenario", sink)?;
             Ok(Status::NoShelf)
         }
         Refusal::Unreadable(fault) => refuse_scenario(fault, sink),
@@ -82,25 +82,25 @@ fn refuse<K: Sink>(refusal: &Refusal, sink: &mut K) -> Result<Status, Stop>
 }
 
 // The last line of a run that ends before all of its traversals are done.
-fn end_halted<K: Sink>(dim: Dim, halt: &Halt, sink: &mut K) -> Result<Status, Stop>
-    ensures ended { EndsFor dim halt.now (told_by K.text K.faults sink.old) (told_by K.text K.faults sink.new) result }
+fn end_halted<K: Sink>(dim: Dim, halt: &Halt, sink: &mut K) -> Result<Status, Interrupted>
+    ensures ended { EndsFor dim halt.now (told_by K.text K.writes K.faults sink.old) (told_by K.text K.writes K.faults sink.new) result }
 {
     let Halt::Walk { traversal, stop } = halt else {
-        return Err(Stop::Sink);
+        return Err(Interrupted::Sink);
     };
     match stop {
         WalkStop::Event { stop, event, at } => match stop {
-            EventStop::Overflow => {
+            Stop::Overflow => {
                 write_event_fault("overflow", dim, *traversal, *event, at, sink)?;
             }
-            EventStop::Division => {
+            Stop::Division => {
                 write_event_fault("division", dim, *traversal, *event, at, sink)?;
             }
-            EventStop::Sink => return Err(Stop::Sink),
-            EventStop::Memory => return Err(Stop::Memory),
+            Stop::Sink => return Err(Interrupted::Sink),
+            Stop::Memory => return Err(Interrupted::Memory),
         },
         WalkStop::CellLimit { at } => write_cell_fault(dim, *traversal, at, sink)?,
-        WalkStop::Memory => return Err(Stop::Memory),
+        WalkStop::Memory => return Err(Interrupted::Memory),
     }
     Ok(Status::Halted)
 }
@@ -111,18 +111,18 @@ fn run_scenario<K: Sink, DV: Depot<Vertex<Fields>>, DC: Depot<CellRec<Fields>>>(
     sink: &mut K,
     vertices: &mut DV,
     cells: &mut DC,
-) -> Result<Status, Stop>
+) -> Result<Status, Interrupted>
     requires few { scenario.now.traversals ≤ 1000 }
     requires vertices { DV.holds vertices.old ≡ new_holdings 10 }
     requires cells { DC.holds cells.old ≡ new_holdings 2 }
-    ensures run { RunsTo (run_asked (Ok (said_of scenario.now))) (told_by K.text K.faults sink.old) (told_by K.text K.faults sink.new) result }
+    ensures run { RunsTo (run_asked (Ok (said_of scenario.now))) (told_by K.text K.writes K.faults sink.old) (told_by K.text K.writes K.faults sink.new) result }
     ensures traffic { result ≡ Ok Status.Done → CountsTraversals (Ok (said_of scenario.now)) (DV.holds vertices.new) (DC.holds cells.new) }
     ensures idle { (DV.holds vertices.new).out ≡ 0 }
     ensures idle_cells { (DC.holds cells.new).out ≡ 0 }
 {
     match traverse_all(scenario, sink, vertices, cells) {
         Ok(()) => {
-            sink.write(b"done\n")?;
+            write_line("done", sink)?;
             Ok(Status::Done)
         }
         Err(halt) => end_halted(scenario.setup.dim, &halt, sink),
@@ -137,13 +137,13 @@ fn run_words<H: Shelf, K: Sink, DV: Depot<Vertex<Fields>>, DC: Depot<CellRec<Fie
     sink: &mut K,
     vertices: &mut DV,
     cells: &mut DC,
-) -> Result<Status, Stop>
+) -> Result<Status, Interrupted>
     requires vertices { DV.holds vertices.old ≡ new_holdings 10 }
     requires cells { DC.holds cells.old ≡ new_holdings 2 }
     ensures run { IsRun (job_of (map string_bytes words.now)) (H.contents shelf.old) (H.faults shelf.old) (H.faults shelf.new) (H.last_failed shelf.new)
-        (K.text sink.old) (K.text sink.new) (DV.holds vertices.new) (DC.holds cells.new) (ending_of result) }
+        (told_by K.text K.writes K.faults sink.old) (told_by K.text K.writes K.faults sink.new) (DV.holds vertices.new) (DC.holds cells.new) (ending_of result) }
     ensures contents { H.contents shelf.new ≡ H.contents shelf.old }
-    ensures failed { result ≡ Err Stop.Sink → Rises (K.faults sink.old) (K.faults sink.new) }
+    ensures failed { result ≡ Err Interrupted.Sink → Rises (K.faults sink.old) (K.faults sink.new) }
     ensures calls { H.calls shelf.new ≤ H.calls shelf.old + length (names_of (job_of (map string_bytes words.now))) }
     ensures idle { (DV.holds vertices.new).out ≡ 0 }
     ensures idle_cells { (DC.holds cells.new).out ≡ 0 }
@@ -191,7 +191,7 @@ pub fn peano<H: Shelf, K: Sink, DV: Shown<Vertex<Fields>>, DC: Shown<CellRec<Fie
 
     // Text, status and traffic are those of the run of the words, over what the shelf holds.
     ensures run { IsRun (job_of (map string_bytes words.now)) (H.contents shelf.old) (H.faults shelf.old) (H.faults shelf.new) (H.last_failed shelf.new)
-        (K.text sink.old) (K.text sink.new) (DV.holds vertices.new) (DC.holds cells.new) result }
+        (told_by K.text K.writes K.faults sink.old) (told_by K.text K.writes K.faults sink.new) (DV.holds vertices.new) (DC.holds cells.new) result }
     ensures contents { H.contents shelf.new ≡ H.contents shelf.old }
 
     // An interruption has its cause outside, and the shelf is asked at most once for each name of the job.
@@ -202,7 +202,7 @@ pub fn peano<H: Shelf, K: Sink, DV: Shown<Vertex<Fields>>, DC: Shown<CellRec<Fie
 
     // Where nothing failed, only want of memory keeps the run from its end.
     ensures completeness { ¬ Rises (H.faults shelf.old) (H.faults shelf.new) → ¬ Rises (K.faults sink.old) (K.faults sink.new)
-        → IsComplete (job_of (map string_bytes words.now)) (H.contents shelf.old) (K.text sink.old) (K.text sink.new) result }
+        → IsComplete (job_of (map string_bytes words.now)) (H.contents shelf.old) (told_by K.text K.writes K.faults sink.old) (told_by K.text K.writes K.faults sink.new) result }
 
     // Whatever the status, no record stays anywhere.
     ensures depots { IsSettled (DV.holds vertices.new) × IsSettled (DC.holds cells.new) }

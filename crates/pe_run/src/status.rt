@@ -1,6 +1,6 @@
 // How a run ends.
 ghost use Rattle.std.specs.Prelude.{◌≡◌};
-ghost use Rattle.pe_run.specs.declared.status.Stop.TheVariants.{Sink as StopSink};
+ghost use Rattle.pe_run.specs.declared.status.Interrupted.TheVariants.{Sink as SinkInterrupts};
 ghost use Rattle.pe_run.specs.Endings.{ending_of};
 
 use pe_io::SinkFailed;
@@ -22,23 +22,23 @@ pub enum Status {
 
 /// What interrupts a run.
 #[derive(Clone, Copy, Debug, PartialEq, Eq)]
-pub enum Stop {
+pub enum Interrupted {
     /// The sink failed.
     Sink,
     /// Want of memory.
     Memory,
 }
 
-impl From<SinkFailed> for Stop {
-    ghost from_gives = { λ _ stop. stop ≡ StopSink };
+impl From<SinkFailed> for Interrupted {
+    ghost from_gives = { λ _ interrupted. interrupted ≡ SinkInterrupts };
 
-    fn from(_: SinkFailed) -> Stop {
-        Stop::Sink
+    fn from(_: SinkFailed) -> Interrupted {
+        Interrupted::Sink
     }
 }
 
 /// The number with which the program ends.
-pub fn exit_status(ending: Result<Status, Stop>) -> u8
+pub fn exit_status(ending: Result<Status, Interrupted>) -> u8
     ensures { result ≡ ending_of ending }
 {
     match ending {
@@ -47,7 +47,7 @@ pub fn exit_status(ending: Result<Status, Stop>) -> u8
         Ok(Status::Refused) => 3,
         Ok(Status::Halted) => 4,
         Ok(Status::NoShelf) => 6,
-        Err(Stop::Sink) => 7,
-        Err(Stop::Memory) => 9,
+        Err(Interrupted::Sink) => 7,
+        Err(Interrupted::Memory) => 9,
     }
 }

@@ -5,12 +5,13 @@ ghost use Rattle.pe_base.specs.Tree.Dim.{IsDim};
 ghost use Rattle.pe_base.specs.Walk.Grids.{Grid as AGrid};
 ghost use Rattle.pe_base.specs.Walk.Traversals.{Traversal};
 ghost use Rattle.pe_stacks.specs.Holdings.{new_holdings};
-ghost use Rattle.pe_hang.specs.Follows.{read_by};
+ghost use Rattle.pe_base.specs.Calls.Follows.{read_by};
+ghost use Rattle.pe_io.specs.Sink.{told_by};
 ghost use Rattle.pe_adapt.specs.Stops.{failure_of};
 ghost use Rattle.pe_scene.specs.SaidView.{said_of};
 ghost use Rattle.pe_run.specs.declared.traversals.Halt.TheVariants.{Line as HaltLine};
 ghost use Rattle.pe_run.specs.Between.{Stands, WalkAnswer, TraversalAnswer};
-ghost use Rattle.pe_run.specs.Stages.{told_by, TraversalsAnswer};
+ghost use Rattle.pe_run.specs.Stages.{TraversalsAnswer};
 
 use crate::lines::write_tally;
 use pe_adapt::WalkStop;
@@ -89,7 +90,7 @@ fn walk_once<K: Sink, DV: Depot<Vertex<Fields>>, DC: Depot<CellRec<Fields>>>(
     requires stands { (made : List Traversal) × (grid : AGrid) × (length made < 1000)
         × Stands (said_of scenario.now) between (DV.holds vertices.old) (DC.holds cells.old) made grid }
     ensures answer { (made : List Traversal) (grid : AGrid) → Stands (said_of scenario.now) between (DV.holds vertices.old) (DC.holds cells.old) made grid
-        → WalkAnswer (said_of scenario.now) grid made (told_by K.text K.faults sink.old) (told_by K.text K.faults sink.new)
+        → WalkAnswer (said_of scenario.now) grid made (told_by K.text K.writes K.faults sink.old) (told_by K.text K.writes K.faults sink.new)
         (DV.holds vertices.new) (DC.holds cells.new) (read_by failure_of result) }
     ensures idle { (DV.holds vertices.new).out ≡ 0 }
     ensures idle_cells { (DC.holds cells.new).out ≡ 0 }
@@ -115,7 +116,7 @@ fn traverse_more<K: Sink, DV: Depot<Vertex<Fields>>, DC: Depot<CellRec<Fields>>>
     requires stands { (made : List Traversal) × (grid : AGrid) × (length made < 1000)
         × Stands (said_of scenario.now) between (DV.holds vertices.old) (DC.holds cells.old) made grid }
     ensures answer { (made : List Traversal) (grid : AGrid) → Stands (said_of scenario.now) between (DV.holds vertices.old) (DC.holds cells.old) made grid
-        → TraversalAnswer (said_of scenario.now) grid made (told_by K.text K.faults sink.old) (told_by K.text K.faults sink.new)
+        → TraversalAnswer (said_of scenario.now) grid made (told_by K.text K.writes K.faults sink.old) (told_by K.text K.writes K.faults sink.new)
         (DV.holds vertices.new) (DC.holds cells.new) result }
     ensures idle { (DV.holds vertices.new).out ≡ 0 }
     ensures idle_cells { (DC.holds cells.new).out ≡ 0 }
@@ -144,7 +145,7 @@ pub fn traverse_all<K: Sink, DV: Depot<Vertex<Fields>>, DC: Depot<CellRec<Fields
     requires few { scenario.now.traversals ≤ 1000 }
     requires vertices { DV.holds vertices.old ≡ new_holdings 10 }
     requires cells { DC.holds cells.old ≡ new_holdings 2 }
-    ensures answer { TraversalsAnswer (said_of scenario.now) (told_by K.text K.faults sink.old) (told_by K.text K.faults sink.new)
+    ensures answer { TraversalsAnswer (said_of scenario.now) (told_by K.text K.writes K.faults sink.old) (told_by K.text K.writes K.faults sink.new)
         (DV.holds vertices.new) (DC.holds cells.new) result }
     ensures idle { (DV.holds vertices.new).out ≡ 0 }
     ensures idle_cells { (DC.holds cells.new).out ≡ 0 }

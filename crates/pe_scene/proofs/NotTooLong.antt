@@ -16,8 +16,7 @@ use Rattle.pe_check.specs.FieldNames.{FieldNames}
 use Rattle.pe_check.specs.Resolving.{Context, context_at}
 use Rattle.pe_check.specs.Checking.{body_of}
 use Rattle.pe_scene.specs.declared.fault.SceneFault.{SceneFault}
-use Rattle.pe_scene.specs.declared.fault.SceneFault.TheVariants.{TooLong, Name}
-use Rattle.pe_scene.specs.declared.fault.SceneFault.TheVariants.{Range as OutOfRange}
+use Rattle.pe_scene.specs.declared.fault.SceneFault.TheVariants.{TooLong, Name, Range as OutOfRange}
 use Rattle.pe_scene.specs.declared.section.Section.{Section}
 use Rattle.pe_scene.specs.declared.section.Section.TheVariants as section
 use Rattle.pe_scene.specs.declared.settings.Range.{Range}

@@ -2,8 +2,7 @@
 use Rattle.std.specs.Prelude.{ℕ, ℤ, pos, negsuc, ◌&&◌, nat_le, List, codes, Option, Some, None, Result, Ok, Err, if◌then◌else◌}
 use Rattle.toml.specs.Data.{Data, Members, get_member, as_integer}
 use Rattle.pe_scene.specs.declared.fault.SceneFault.{SceneFault}
-use Rattle.pe_scene.specs.declared.fault.SceneFault.TheVariants.{Missing, Shape}
-use Rattle.pe_scene.specs.declared.fault.SceneFault.TheVariants.{Range as OutOfRange}
+use Rattle.pe_scene.specs.declared.fault.SceneFault.TheVariants.{Missing, Shape, Range as OutOfRange}
 use Rattle.pe_scene.specs.declared.settings.Range.{Range}
 use Rattle.pe_scene.specs.Faults.{on_ok}
 

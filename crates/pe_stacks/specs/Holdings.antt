@@ -95,6 +95,11 @@ module _ {X : Type 0} where
     pub pushes : (s : ℕ) → (stack_at held s).pushes ≤ n
     pub pops : (s : ℕ) → (stack_at held s).pops ≤ n
 
-  -- no count rises by more than k over the greatest one
+  -- No count rises by more than k: that of the records out at most over itself, or over what is out.
   pub record RaisesCounts (held held' : Holdings X) (k : ℕ) : Type 0 where
-    pub within : (n : ℕ) → CountsWithin held n → CountsWithin held' (n + k)
+    pub fresh : held'.fresh ≤ held.fresh + k
+    pub spent : held'.spent ≤ held.spent + k
+    pub out : held'.out ≤ held.out + k
+    pub most : held'.most ≤ max held.most held.out + k
+    pub pushes : (s : ℕ) → (stack_at held' s).pushes ≤ (stack_at held s).pushes + k
+    pub pops : (s : ℕ) → (stack_at held' s).pops ≤ (stack_at held s).pops + k

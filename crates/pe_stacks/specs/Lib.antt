@@ -21,3 +21,9 @@ pub mod CornersView
 pub mod VecStack
 -- such stacks and counts as a depot
 pub mod VecDepot
+-- how many records a call leaves out
+pub mod RecordsOut
+-- records as events see them
+pub mod Sights
+-- what depots hold between two traversals
+pub mod StreamsHeld

@@ -14,8 +14,8 @@ use Rattle.pe_base.proofs.Tree.PlaceLaws.{length-bits}
 use Rattle.pe_base.proofs.Tree.Corners.{IsBits}
 use Rattle.pe_base.proofs.Walk.CarrierLaws.{bits-number_of, number_of-below}
 use Rattle.pe_states.specs.Carriers.{carrier_numbers, place_in_parent}
-use Rattle.pe_states.specs.Marks.{some_carrier}
-use Rattle.pe_states.proofs.Tests.{any_same, any_map, any_flat_map}
+use Rattle.pe_states.specs.Ages.{some_carrier}
+use Rattle.pe_base.proofs.Tests.{any_same, any_map, any_flat_map}
 use Rattle.pe_states.proofs.Numbers.{IsBits-bits}
 
 -- a position on both levels, and one between

@@ -1,11 +1,9 @@
--- Laws of marks and carriers.
+-- Laws of ages and carriers.
 
 -- single bits of a number, and numbers of corners by their bits
 pub mod Bits
 pub mod Numbers
--- tests of some item of a list
-pub mod Tests
--- marks along one axis, and along all axes in turn
+-- ages along one axis, and along all axes in turn
 pub mod SideLaws
 pub mod AxisLaws
 -- the carriers of a child's corners among the parent's corners

@@ -1,4 +1,4 @@
--- Marks along one axis: a child's sides by its parent's.
+-- Ages along one axis: a child's sides by its parent's.
 use Rattle.std.proofs.Common.{◌≡◌, ℕ, zero, suc, ◌+◌, ◌-◌, ◌*◌, ◌/◌, ◌%◌, ◌^◌, ◌<◌, ◌≤◌, Bool, true, false, ◌||◌, refl, sym, ap, ap₂, ◌∙◌, inl, inr, arith, IsTrue}
 use Rattle.std.specs.Prelude.{◌==◌, bit_or, bit_and, nat_lt, nat_le, if◌then◌else◌}
 use Rattle.std.specs.Int.{bit_at}
@@ -10,9 +10,9 @@ use Rattle.std.proofs.lemmas.Nat.Bits.{bit_at_cat_low}
 use Rattle.std.proofs.Math.Bool.{or-false}
 use Rattle.pe_base.specs.Life.Carriers.{thirds}
 use Rattle.pe_base.proofs.Lists.{Each-all, list_any_none}
-use Rattle.pe_states.specs.Marks.{is_marked}
+use Rattle.pe_states.specs.Ages.{has_bit}
 use Rattle.pe_states.specs.Sides.{is_near_at, are_near, on_side, IsSpread}
-use Rattle.pe_states.proofs.Bits.{marked_or, marked_and, not_marked, marked_shr, marked_shl_low, marked_shl_high, and_true, passed}
+use Rattle.pe_states.proofs.Bits.{has_bit_or, has_bit_and, lacks_bit, has_bit_shr, has_bit_shl_low, has_bit_shl_high, and_true, passed}
 
 -- a number of the near side's bits, with the width of its runs
 pub record IsNearSide (width near : ℕ) : Type 0 where
@@ -41,13 +41,13 @@ side_of width low high side h k =
     omega (arith, quotient)
 
 pub record OnNear (width near n : ℕ) : Type 0 where
-  pub here : is_marked near n ≡ true
-  pub before : width ≤ n → is_marked near (n - width) ≡ false
+  pub here : has_bit near n ≡ true
+  pub before : width ≤ n → has_bit near (n - width) ≡ false
 
 pub record OnFar (width near n : ℕ) : Type 0 where
-  pub here : is_marked near n ≡ false
+  pub here : has_bit near n ≡ false
   pub inside : width ≤ n
-  pub before : is_marked near (n - width) ≡ true
+  pub before : has_bit near (n - width) ≡ true
 
 taken : (b : Bool) (x y : Bool) → (if b then x else y) ≡ true → b ≡ true → x ≡ true
 taken true x y h e = h
@@ -57,7 +57,7 @@ left : (b : Bool) (x y : Bool) → (if b then x else y) ≡ true → b ≡ false
 left true x y h e = absurd (true≢false e)
 left false x y h e = h
 
-unset : (near n : ℕ) → (bit_at near n == 0) ≡ true → is_marked near n ≡ false
+unset : (near n : ℕ) → (bit_at near n == 0) ≡ true → has_bit near n ≡ false
 unset near n h = ap (λ (x : ℕ). x == 1) (eqb-true (bit_at near n) 0 h)
 
 pub on_near : (width near n : ℕ) → IsNearSide width near → n < 32 → n / width % 2 ≡ 0 → OnNear width near n
@@ -82,7 +82,7 @@ on_far width near n h below side =
 abbrev pub blend : Bool → ℕ → ℕ → ℕ
 blend alone one other = if alone then one else other
 
-blend_at : (alone : Bool) (one both n : ℕ) (a b : Bool) → is_marked one n ≡ a → is_marked both n ≡ b → is_marked (blend alone one both) n ≡ (if alone then a else b)
+blend_at : (alone : Bool) (one both n : ℕ) (a b : Bool) → has_bit one n ≡ a → has_bit both n ≡ b → has_bit (blend alone one both) n ≡ (if alone then a else b)
 blend_at true one both n a b e f = e
 blend_at false one both n a b e f = f
 
@@ -91,9 +91,9 @@ same_if true a = refl
 same_if false a = refl
 
 -- the bits of a number that stay in 32 bits
-kept : (x n : ℕ) → n < 32 → is_marked (x % 2 ^ 32) n ≡ is_marked x n
+kept : (x n : ℕ) → n < 32 → has_bit (x % 2 ^ 32) n ≡ has_bit x n
 kept x n h =
-    ap (λ (b : ℕ). b == 1) (sym (bit_at_cat_low (x / 2 ^ 32) 32 (x % 2 ^ 32) n h)) ∙ ap (λ (y : ℕ). is_marked y n) (shr_split x 32)
+    ap (λ (b : ℕ). b == 1) (sym (bit_at_cat_low (x / 2 ^ 32) 32 (x % 2 ^ 32) n h)) ∙ ap (λ (y : ℕ). has_bit y n) (shr_split x 32)
 
 -- beyond 32 bits a corner and its neighbour along the axis lie together
 beyond : (width low high side s : ℕ) → 32 % (2 * width) ≡ 0 → low < width → side < 2 → 32 ≤ on_side width low high side → 32 ≤ on_side width low high s
@@ -109,81 +109,81 @@ beyond width low high side s aligned h k past =
     ]
 
 module _ (width near digit m : ℕ) where
-  abbrev pub near_marks : ℕ
-  near_marks = bit_and m near
+  abbrev pub near_ages : ℕ
+  near_ages = bit_and m near
 
-  abbrev pub far_marks : ℕ
-  far_marks = bit_and (m / 2 ^ width) near
+  abbrev pub far_ages : ℕ
+  far_ages = bit_and (m / 2 ^ width) near
 
-  abbrev pub low_marks : ℕ
-  low_marks = blend (digit == 0) near_marks (bit_or near_marks far_marks)
+  abbrev pub low_ages : ℕ
+  low_ages = blend (digit == 0) near_ages (bit_or near_ages far_ages)
 
-  abbrev pub high_marks : ℕ
-  high_marks = blend (digit == 2) far_marks (bit_or near_marks far_marks)
+  abbrev pub high_ages : ℕ
+  high_ages = blend (digit == 2) far_ages (bit_or near_ages far_ages)
 
-  abbrev pub spread_marks : ℕ
-  spread_marks = bit_or low_marks (high_marks * 2 ^ width % 2 ^ 32)
+  abbrev pub spread_ages : ℕ
+  spread_ages = bit_or low_ages (high_ages * 2 ^ width % 2 ^ 32)
 
   -- they fit 32 bits
-  pub spread_fits : near < 2 ^ 32 → spread_marks < 2 ^ 32
+  pub spread_fits : near < 2 ^ 32 → spread_ages < 2 ^ 32
   spread_fits h =
-      let near_fits : near_marks < 2 ^ 32 = omega (arith, and_le_r m near) in
-      let far_fits : far_marks < 2 ^ 32 = omega (arith, and_le_r (m / 2 ^ width) near) in
-      let low_fits : low_marks < 2 ^ 32 = cond_both (digit == 0) near_marks (bit_or near_marks far_marks) (λ (x : ℕ). x < 2 ^ 32) (λ e. near_fits) (λ e. or_lt 32 near_marks far_marks near_fits far_fits) in
-      or_lt 32 low_marks (high_marks * 2 ^ width % 2 ^ 32) low_fits (omega arith)
+      let near_fits : near_ages < 2 ^ 32 = omega (arith, and_le_r m near) in
+      let far_fits : far_ages < 2 ^ 32 = omega (arith, and_le_r (m / 2 ^ width) near) in
+      let low_fits : low_ages < 2 ^ 32 = cond_both (digit == 0) near_ages (bit_or near_ages far_ages) (λ (x : ℕ). x < 2 ^ 32) (λ e. near_fits) (λ e. or_lt 32 near_ages far_ages near_fits far_fits) in
+      or_lt 32 low_ages (high_ages * 2 ^ width % 2 ^ 32) low_fits (omega arith)
 
-  near_on : (n : ℕ) → is_marked near n ≡ true → is_marked near_marks n ≡ is_marked m n
-  near_on n h = marked_and m near n ∙ and_true (is_marked m n) (is_marked near n) h
+  near_on : (n : ℕ) → has_bit near n ≡ true → has_bit near_ages n ≡ has_bit m n
+  near_on n h = has_bit_and m near n ∙ and_true (has_bit m n) (has_bit near n) h
 
-  far_on : (n : ℕ) → is_marked near n ≡ true → is_marked far_marks n ≡ is_marked m (n + width)
-  far_on n h = marked_and (m / 2 ^ width) near n ∙ and_true (is_marked (m / 2 ^ width) n) (is_marked near n) h ∙ marked_shr m width n
+  far_on : (n : ℕ) → has_bit near n ≡ true → has_bit far_ages n ≡ has_bit m (n + width)
+  far_on n h = has_bit_and (m / 2 ^ width) near n ∙ and_true (has_bit (m / 2 ^ width) n) (has_bit near n) h ∙ has_bit_shr m width n
 
-  both_on : (n : ℕ) → is_marked near n ≡ true → is_marked (bit_or near_marks far_marks) n ≡ (is_marked m n || is_marked m (n + width))
-  both_on n h = marked_or near_marks far_marks n ∙ ap₂ (λ a b. a || b) (near_on n h) (far_on n h)
+  both_on : (n : ℕ) → has_bit near n ≡ true → has_bit (bit_or near_ages far_ages) n ≡ (has_bit m n || has_bit m (n + width))
+  both_on n h = has_bit_or near_ages far_ages n ∙ ap₂ (λ a b. a || b) (near_on n h) (far_on n h)
 
-  near_off : (n : ℕ) → is_marked near n ≡ false → is_marked near_marks n ≡ false
-  near_off n h = marked_and m near n ∙ and_right (is_marked m n) (is_marked near n) h
+  near_off : (n : ℕ) → has_bit near n ≡ false → has_bit near_ages n ≡ false
+  near_off n h = has_bit_and m near n ∙ and_right (has_bit m n) (has_bit near n) h
 
-  far_off : (n : ℕ) → is_marked near n ≡ false → is_marked far_marks n ≡ false
-  far_off n h = marked_and (m / 2 ^ width) near n ∙ and_right (is_marked (m / 2 ^ width) n) (is_marked near n) h
+  far_off : (n : ℕ) → has_bit near n ≡ false → has_bit far_ages n ≡ false
+  far_off n h = has_bit_and (m / 2 ^ width) near n ∙ and_right (has_bit (m / 2 ^ width) n) (has_bit near n) h
 
-  both_off : (n : ℕ) → is_marked near n ≡ false → is_marked (bit_or near_marks far_marks) n ≡ false
-  both_off n h = marked_or near_marks far_marks n ∙ ap₂ (λ a b. a || b) (near_off n h) (far_off n h)
+  both_off : (n : ℕ) → has_bit near n ≡ false → has_bit (bit_or near_ages far_ages) n ≡ false
+  both_off n h = has_bit_or near_ages far_ages n ∙ ap₂ (λ a b. a || b) (near_off n h) (far_off n h)
 
-  low_off : (n : ℕ) → is_marked near n ≡ false → is_marked low_marks n ≡ false
-  low_off n h = blend_at (digit == 0) near_marks (bit_or near_marks far_marks) n false false (near_off n h) (both_off n h) ∙ same_if (digit == 0) false
+  low_off : (n : ℕ) → has_bit near n ≡ false → has_bit low_ages n ≡ false
+  low_off n h = blend_at (digit == 0) near_ages (bit_or near_ages far_ages) n false false (near_off n h) (both_off n h) ∙ same_if (digit == 0) false
 
-  high_off : (n : ℕ) → is_marked near n ≡ false → is_marked high_marks n ≡ false
-  high_off n h = blend_at (digit == 2) far_marks (bit_or near_marks far_marks) n false false (far_off n h) (both_off n h) ∙ same_if (digit == 2) false
+  high_off : (n : ℕ) → has_bit near n ≡ false → has_bit high_ages n ≡ false
+  high_off n h = blend_at (digit == 2) far_ages (bit_or near_ages far_ages) n false false (far_off n h) (both_off n h) ∙ same_if (digit == 2) false
 
-  low_on : (n : ℕ) → is_marked near n ≡ true → is_marked low_marks n ≡ (if digit == 0 then is_marked m n else (is_marked m n || is_marked m (n + width)))
-  low_on n h = blend_at (digit == 0) near_marks (bit_or near_marks far_marks) n _ _ (near_on n h) (both_on n h)
+  low_on : (n : ℕ) → has_bit near n ≡ true → has_bit low_ages n ≡ (if digit == 0 then has_bit m n else (has_bit m n || has_bit m (n + width)))
+  low_on n h = blend_at (digit == 0) near_ages (bit_or near_ages far_ages) n _ _ (near_on n h) (both_on n h)
 
-  high_on : (n : ℕ) → is_marked near n ≡ true → is_marked high_marks n ≡ (if digit == 2 then is_marked m (n + width) else (is_marked m n || is_marked m (n + width)))
-  high_on n h = blend_at (digit == 2) far_marks (bit_or near_marks far_marks) n _ _ (far_on n h) (both_on n h)
+  high_on : (n : ℕ) → has_bit near n ≡ true → has_bit high_ages n ≡ (if digit == 2 then has_bit m (n + width) else (has_bit m n || has_bit m (n + width)))
+  high_on n h = blend_at (digit == 2) far_ages (bit_or near_ages far_ages) n _ _ (far_on n h) (both_on n h)
 
-  shifted_low : (n : ℕ) → n < 32 → n < width → is_marked (high_marks * 2 ^ width % 2 ^ 32) n ≡ false
-  shifted_low n below h = kept (high_marks * 2 ^ width) n below ∙ marked_shl_low high_marks width n h
+  shifted_low : (n : ℕ) → n < 32 → n < width → has_bit (high_ages * 2 ^ width % 2 ^ 32) n ≡ false
+  shifted_low n below h = kept (high_ages * 2 ^ width) n below ∙ has_bit_shl_low high_ages width n h
 
-  shifted_high : (n : ℕ) → n < 32 → width ≤ n → is_marked (high_marks * 2 ^ width % 2 ^ 32) n ≡ is_marked high_marks (n - width)
-  shifted_high n below h = kept (high_marks * 2 ^ width) n below ∙ marked_shl_high high_marks width n h (pow_pos width)
+  shifted_high : (n : ℕ) → n < 32 → width ≤ n → has_bit (high_ages * 2 ^ width % 2 ^ 32) n ≡ has_bit high_ages (n - width)
+  shifted_high n below h = kept (high_ages * 2 ^ width) n below ∙ has_bit_shl_high high_ages width n h (pow_pos width)
 
   -- a near corner of the child
-  at_near : (n : ℕ) → n < 32 → OnNear width near n → is_marked spread_marks n ≡ (if digit == 0 then is_marked m n else (is_marked m n || is_marked m (n + width)))
+  at_near : (n : ℕ) → n < 32 → OnNear width near n → has_bit spread_ages n ≡ (if digit == 0 then has_bit m n else (has_bit m n || has_bit m (n + width)))
   at_near n below h =
-      let shifted : is_marked (high_marks * 2 ^ width % 2 ^ 32) n ≡ false = elim (cases_lt n width) [
+      let shifted : has_bit (high_ages * 2 ^ width % 2 ^ 32) n ≡ false = elim (cases_lt n width) [
         | inl less ↦ shifted_low n below less
         | inr more ↦ shifted_high n below more ∙ high_off (n - width) (h.before more)
       ] in
-      marked_or low_marks (high_marks * 2 ^ width % 2 ^ 32) n ∙ ap₂ (λ a b. a || b) (low_on n h.here) shifted ∙ or-false _
+      has_bit_or low_ages (high_ages * 2 ^ width % 2 ^ 32) n ∙ ap₂ (λ a b. a || b) (low_on n h.here) shifted ∙ or-false _
 
   -- a far corner of the child
-  at_far : (n : ℕ) → n < 32 → OnFar width near n → is_marked spread_marks n ≡ (if digit == 2 then is_marked m n else (is_marked m (n - width) || is_marked m n))
+  at_far : (n : ℕ) → n < 32 → OnFar width near n → has_bit spread_ages n ≡ (if digit == 2 then has_bit m n else (has_bit m (n - width) || has_bit m n))
   at_far n below h =
       let back : n - width + width ≡ n = (let inside = h.inside in omega arith) in
-      marked_or low_marks (high_marks * 2 ^ width % 2 ^ 32) n
+      has_bit_or low_ages (high_ages * 2 ^ width % 2 ^ 32) n
       ∙ ap₂ (λ a b. a || b) (low_off n h.here) (shifted_high n below h.inside ∙ high_on (n - width) h.before)
-      ∙ ap (λ (i : ℕ). if digit == 2 then is_marked m i else (is_marked m (n - width) || is_marked m i)) back
+      ∙ ap (λ (i : ℕ). if digit == 2 then has_bit m i else (has_bit m (n - width) || has_bit m i)) back
 
 -- the carriers' sides, by the digit
 near_thirds : (p : ℕ → Bool) (digit : ℕ) → digit < 3 → (if digit == 0 then p 0 else (p 0 || p 1)) ≡ list_any p (thirds (digit + 0))
@@ -198,30 +198,30 @@ far_thirds p (suc zero) h = ap (λ b. p 0 || b) (sym (or-false (p 1)))
 far_thirds p (suc (suc zero)) h = sym (or-false (p 1))
 far_thirds p (suc (suc (suc digit))) h = absurd (omega arith)
 
--- each corner of the child has the marks of its carriers along the axis
-pub spread_is : (width near digit m : ℕ) → IsTrue (are_near width near) → digit < 3 → m < 2 ^ 32 → near < 2 ^ 32 → IsSpread width digit m (spread_marks width near digit m)
+-- each corner of the child has the ages of its carriers along the axis
+pub spread_is : (width near digit m : ℕ) → IsTrue (are_near width near) → digit < 3 → m < 2 ^ 32 → near < 2 ^ 32 → IsSpread width digit m (spread_ages width near digit m)
 spread_is width near digit m are small fits fits' low high side h k =
     let sides = near_side width near are in
     let n = on_side width low high side in
-    let p : ℕ → Bool = λ s. is_marked m (on_side width low high s) in
+    let p : ℕ → Bool = λ s. has_bit m (on_side width low high s) in
     elim (cases_lt n 32) [
       | inr past ↦
-          not_marked (spread_marks width near digit m) 32 n (spread_fits width near digit m fits') past
-          ∙ sym (list_any_none p (thirds (digit + side)) (Each-all (λ s. p s ≡ false) (λ s. not_marked m 32 (on_side width low high s) fits (beyond width low high side s sides.aligned h k past)) (thirds (digit + side))))
+          lacks_bit (spread_ages width near digit m) 32 n (spread_fits width near digit m fits') past
+          ∙ sym (list_any_none p (thirds (digit + side)) (Each-all (λ s. p s ≡ false) (λ s. lacks_bit m 32 (on_side width low high s) fits (beyond width low high side s sides.aligned h k past)) (thirds (digit + side))))
       | inl below ↦ inside side h k below
     ]
   where
-    inside : (side : ℕ) → low < width → side < 2 → on_side width low high side < 32 → is_marked (spread_marks width near digit m) (on_side width low high side) ≡ list_any (λ s. is_marked m (on_side width low high s)) (thirds (digit + side))
+    inside : (side : ℕ) → low < width → side < 2 → on_side width low high side < 32 → has_bit (spread_ages width near digit m) (on_side width low high side) ≡ list_any (λ s. has_bit m (on_side width low high s)) (thirds (digit + side))
     inside zero h k below =
         let n = on_side width low high 0 in
         let next : n + width ≡ on_side width low high 1 = omega arith in
         at_near width near digit m n below (on_near width near n (near_side width near are) below (side_of width low high 0 h k))
-        ∙ ap (λ (i : ℕ). if digit == 0 then is_marked m n else (is_marked m n || is_marked m i)) next
-        ∙ near_thirds (λ s. is_marked m (on_side width low high s)) digit small
+        ∙ ap (λ (i : ℕ). if digit == 0 then has_bit m n else (has_bit m n || has_bit m i)) next
+        ∙ near_thirds (λ s. has_bit m (on_side width low high s)) digit small
     inside (suc zero) h k below =
         let n = on_side width low high 1 in
         let before : n - width ≡ on_side width low high 0 = omega arith in
         at_far width near digit m n below (on_far width near n (near_side width near are) below (side_of width low high 1 h k))
-        ∙ ap (λ (i : ℕ). if digit == 2 then is_marked m n else (is_marked m i || is_marked m n)) before
-        ∙ far_thirds (λ s. is_marked m (on_side width low high s)) digit small
+        ∙ ap (λ (i : ℕ). if digit == 2 then has_bit m n else (has_bit m i || has_bit m n)) before
+        ∙ far_thirds (λ s. has_bit m (on_side width low high s)) digit small
     inside (suc (suc side)) h k below = absurd (omega arith)

@@ -1,8 +1,8 @@
--- The definitions of marks.
+-- The definitions of ages.
 
 -- the carriers of a cell's corners among the corners of its parent
 pub mod Carriers
--- the marks of all corners of a cell in one number
-pub mod Marks
--- marks along one axis
+-- the ages of all corners of a cell in one number
+pub mod Ages
+-- ages along one axis
 pub mod Sides

@@ -1,10 +1,10 @@
--- Marks along one axis, along which corners stand in runs of a width, near side and far side in turn.
+-- Ages along one axis, along which corners stand in runs of a width, near side and far side in turn.
 use Rattle.std.specs.Prelude.{◌≡◌, ℕ, ◌+◌, ◌-◌, ◌*◌, ◌/◌, ◌%◌, ◌<◌, Bool, ◌&&◌, ◌||◌, ◌==◌, nat_lt, nat_le, List, [], ◌∷◌, take, if◌then◌else◌}
 use Rattle.std.specs.Int.{bit_at}
 use Rattle.std.specs.List.{list_any, list_all, range_with_len}
 use Rattle.pe_base.specs.declared.place.Digits.{Digits}
 use Rattle.pe_base.specs.Life.Carriers.{thirds}
-use Rattle.pe_states.specs.Marks.{is_marked}
+use Rattle.pe_states.specs.Ages.{has_bit}
 
 -- bit n of a number that has the bits of the near side only, and its bit a width before
 abbrev pub is_near_at : ℕ → ℕ → ℕ → Bool
@@ -21,27 +21,27 @@ are_near width near = nat_lt 0 width && nat_lt width 16 && 32 % (2 * width) == 0
 abbrev pub on_side : ℕ → ℕ → ℕ → ℕ → ℕ
 on_side width low high side = low + width * side + 2 * width * high
 
--- marks of a child's corners along an axis, by those of its parent's
+-- ages of a child's corners along an axis, by those of its parent's
 abbrev pub IsSpread : ℕ → ℕ → ℕ → ℕ → Type 0
-IsSpread width digit marks marks' =
+IsSpread width digit ages ages' =
     (low high side : ℕ) → low < width → side < 2
-    → is_marked marks' (on_side width low high side) ≡ list_any (λ s. is_marked marks (on_side width low high s)) (thirds (digit + side))
+    → has_bit ages' (on_side width low high side) ≡ list_any (λ s. has_bit ages (on_side width low high s)) (thirds (digit + side))
 
--- marks along several axes in turn, the first of which has runs of this width
+-- ages along several axes in turn, the first of which has runs of this width
 abbrev pub AreSpread : ℕ → List ℕ → ℕ → ℕ → Type 0
-AreSpread width [] marks marks' = marks' ≡ marks
-AreSpread width (k ∷ ks) marks marks' = (between : ℕ) × IsSpread width k marks between × AreSpread (2 * width) ks between marks'
+AreSpread width [] ages ages' = ages' ≡ ages
+AreSpread width (k ∷ ks) ages ages' = (between : ℕ) × IsSpread width k ages between × AreSpread (2 * width) ks between ages'
 
--- the marks of a row of three children, along all axes but the last
+-- the ages of a row of three children, along all axes but the last
 abbrev pub IsRow : ℕ → Digits → ℕ → ℕ → Type 0
-IsRow axes digits marks row = AreSpread 1 (take (axes - 1) digits.k) marks row
+IsRow axes digits ages row = AreSpread 1 (take (axes - 1) digits.k) ages row
 
 -- strictly between the parent's sides
 abbrev pub is_between : ℕ → Bool
 is_between x = nat_lt 0 x && nat_lt x 3
 
--- marks that stay where a corner is strictly between the parent's sides
+-- ages that stay where a corner is strictly between the parent's sides
 abbrev pub IsTrimmed : ℕ → ℕ → ℕ → ℕ → Type 0
-IsTrimmed width digit marks marks' =
+IsTrimmed width digit ages ages' =
     (low high side : ℕ) → low < width → side < 2 → on_side width low high side < 32
-    → is_marked marks' (on_side width low high side) ≡ (is_marked marks (on_side width low high side) && is_between (digit + side))
+    → has_bit ages' (on_side width low high side) ≡ (has_bit ages (on_side width low high side) && is_between (digit + side))

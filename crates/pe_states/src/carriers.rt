@@ -1,8 +1,8 @@
 ghost use Rattle.std.specs.Prelude.{◌≡◌, ◌<◌, ◌^◌};
 ghost use Rattle.pe_base.specs.Tree.Places.{IsDigits};
-ghost use Rattle.pe_states.specs.Marks.{is_marked, some_carrier, is_first_old, is_first_new};
+ghost use Rattle.pe_states.specs.Ages.{has_bit, some_carrier, is_first_old, is_first_new};
 
-use crate::Marks;
+use crate::Ages;
 use pe_base::{Digits, Dim};
 
 /// Whether some carrier of a corner is old, and whether some is new.
@@ -12,11 +12,11 @@ use pe_base::{Digits, Dim};
 pub fn carrier(dim: Dim, digits: Digits, corner: u8, olds: u16, news: u16) -> (bool, bool)
     requires corner { corner < 2 ^ dim }
     requires digits { IsDigits dim digits }
-    ensures { result ≡ (some_carrier dim digits corner (is_marked olds), some_carrier dim digits corner (is_marked news)) }
+    ensures { result ≡ (some_carrier dim digits corner (has_bit olds), some_carrier dim digits corner (has_bit news)) }
 {
     // From the call it is known that a cell has no more than 16 corners.
     let _axes = dim.axes();
-    Marks::new(olds, news).carried(dim, digits).at(corner)
+    Ages::new(olds, news).carried(dim, digits).at(corner)
 }
 
 /// Whether a corner of the cell of level 1 at these digits is stored before this traversal, and whether it is stored after.
@@ -27,5 +27,5 @@ pub fn level_one(dim: Dim, digits: Digits, corner: u8, traversal: u64) -> (bool,
 {
     // From the call it is known that a cell has no more than 16 corners.
     let _axes = dim.axes();
-    Marks::level_one(dim, digits, traversal).at(corner)
+    Ages::level_one(dim, digits, traversal).at(corner)
 }

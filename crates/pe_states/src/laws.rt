@@ -5,7 +5,7 @@ ghost use Rattle.pe_base.specs.declared.place.Digits.{Digits as SomeDigits};
 ghost use Rattle.pe_base.specs.Tree.Places.{IsCellPlace, IsDigits, child_at, corner};
 ghost use Rattle.pe_base.specs.Life.Carriers.{carriers};
 ghost use Rattle.pe_states.specs.Carriers.{carrier_numbers};
-ghost use Rattle.pe_states.specs.Marks.{some_carrier};
+ghost use Rattle.pe_states.specs.Ages.{some_carrier};
 
 /// The carriers of a corner of a child are corners of its parent: those of these numbers.
 pub fn carriers_are_corners()
@@ -16,7 +16,7 @@ pub fn carriers_are_corners()
 {}
 
 /// Where all of the parent's corners pass a test, some carrier of each of the child's does.
-pub fn full_marks_stay()
+pub fn full_ages_stay()
     ensures { (axes : ℕ) (digits : SomeDigits) (k : ℕ) (test : ℕ → Bool) → axes ≤ 4 → IsDigits axes digits
         → ((n : ℕ) → n < 2 ^ axes → test n ≡ true) → some_carrier axes digits k test ≡ true }
 {}

@@ -1,36 +1,36 @@
-//! Marks of all corners, along one axis at a time.
+//! Ages of all corners, along one axis at a time.
 //!
 //! Along an axis the corners stand in runs of a width, near side and far side in turn: a run of 1 along axis 0, of 2 along
 //! axis 1, of 4 and of 8. The bits of `near` are those of the near side.
 ghost use Rattle.std.specs.Prelude.{◌<◌, IsTrue};
 ghost use Rattle.pe_states.specs.Sides.{IsSpread, IsTrimmed, are_near};
 
-/// Marks at the two sides of a child along one axis: at the parent's near or far side those of that side, else those of
+/// Ages at the two sides of a child along one axis: at the parent's near or far side those of that side, else those of
 /// both together.
-pub(crate) fn spread(marks: u32, width: u8, near: u32, digit: u8) -> u32
+pub(crate) fn spread(ages: u32, width: u8, near: u32, digit: u8) -> u32
     requires sides { IsTrue (are_near width near) }
     requires digit { digit < 3 }
-    ensures { IsSpread width digit marks result }
+    ensures { IsSpread width digit ages result }
 {
-    let near_marks = marks & near;
-    let far_marks = marks >> width & near;
-    let both = near_marks | far_marks;
-    let low = if digit == 0 { near_marks } else { both };
-    let high = if digit == 2 { far_marks } else { both };
+    let near_ages = ages & near;
+    let far_ages = ages >> width & near;
+    let both = near_ages | far_ages;
+    let low = if digit == 0 { near_ages } else { both };
+    let high = if digit == 2 { far_ages } else { both };
     low | high << width
 }
 
-/// Marks without those on the root's boundary along one axis: the near side of the first cells, the far side of the last.
-pub(crate) fn trim(marks: u32, width: u8, near: u32, digit: u8) -> u32
+/// Ages without those on the root's boundary along one axis: the near side of the first cells, the far side of the last.
+pub(crate) fn trim(ages: u32, width: u8, near: u32, digit: u8) -> u32
     requires sides { IsTrue (are_near width near) }
     requires digit { digit < 3 }
-    ensures { IsTrimmed width digit marks result }
+    ensures { IsTrimmed width digit ages result }
 {
     if digit == 0 {
-        marks & !near
+        ages & !near
     } else if digit == 2 {
-        marks & near
+        ages & near
     } else {
-        marks
+        ages
     }
 }

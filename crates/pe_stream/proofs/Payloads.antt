@@ -6,6 +6,7 @@ use Rattle.std.proofs.lemmas.Grind.{flat_map-append}
 use Rattle.std.proofs.lemmas.List.{append-nil, length-set, take_more, take_more_set, take_rest, drop-drop, drop-set-lt}
 use Rattle.std.proofs.lemmas.List.Elements.{All-set, All-drop}
 use Rattle.std.proofs.Math.Seq.{take-add}
+use Rattle.pe_base.specs.Limits.{most_fields}
 use Rattle.pe_stream.specs.Layout.{signed_bytes}
 
 -- the bytes of one thing more
@@ -14,13 +15,13 @@ flat_map-push f xs x = flat_map-append f xs (x ∷ []) ∙ ap (λ end. flat_map 
 
 -- the first numbers have the bytes that were read, and the others are 0
 pub record IsReadSoFar (numbers : List ℤ) (i : ℕ) (bytes : List ℕ) : Type 0 where
-  pub eight : length numbers ≡ 8
+  pub eight : length numbers ≡ most_fields
   pub read : flat_map signed_bytes (take i numbers) ≡ take (8 * i) bytes
   pub rest : All (λ z. z ≡ pos 0) (drop i numbers)
   pub fit : All (FitsSigned w64) numbers
 
 -- one number more is read and put in its place
-pub read_more : (numbers after : List ℤ) (i : ℕ) (z : ℤ) (bytes : List ℕ) → i < 8 → after ≡ set numbers i z → FitsSigned w64 z
+pub read_more : (numbers after : List ℤ) (i : ℕ) (z : ℤ) (bytes : List ℕ) → i < most_fields → after ≡ set numbers i z → FitsSigned w64 z
     → signed_bytes z ≡ take 8 (take (length bytes - 8 * i) (drop (8 * i) bytes)) → IsReadSoFar numbers i bytes → IsReadSoFar after (i + 1) bytes
 read_more numbers after i z bytes below is fits next before =
     let inside : i < length numbers = omega (arith, before.eight) in

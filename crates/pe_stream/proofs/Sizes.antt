@@ -9,6 +9,7 @@ use Rattle.pe_base.specs.declared.fields.Fields.{Fields}
 use Rattle.pe_base.specs.declared.state.State.{State}
 use Rattle.pe_base.specs.declared.state.State.TheVariants.{Unrefined, RefinementTriggered, Refining, Refined, EraseTriggered, Erasing}
 use Rattle.pe_base.specs.Life.Numbers.{state_number}
+use Rattle.pe_base.specs.Limits.{most_fields}
 use Rattle.pe_stream.specs.declared.saved.SavedVertex.{SavedVertex}
 use Rattle.pe_stream.specs.Layout.{signed_bytes, fields_bytes, fields_size, vertex_bytes, vertex_size}
 use Rattle.pe_stream.specs.Saved.{is_at_rest, IsPayload}
@@ -28,12 +29,12 @@ length_list spelled size (x ∷ xs) all =
 pub length_all : {X : Type 0} (spelled : X → List ℕ) (size : ℕ) (xs : List X) → All (λ x. length (spelled x) ≡ size) xs → length (flat_map spelled xs) ≡ length xs * size
 length_all spelled size xs all = length_list spelled size xs (recursion_from_All (λ x. length (spelled x) ≡ size) xs all)
 
-pub length_fields : (count : ℕ) (fields : Fields) → count ≤ 8 → IsPayload fields → length (fields_bytes count fields) ≡ fields_size count
+pub length_fields : (count : ℕ) (fields : Fields) → count ≤ most_fields → IsPayload fields → length (fields_bytes count fields) ≡ fields_size count
 length_fields count fields few payload =
     let all = length_all signed_bytes 8 (take count fields.a) (λ k d below. refl) in
     omega (arith, all, length-take count fields.a, payload.eight)
 
-pub length_vertex : (count : ℕ) (vertex : SavedVertex) → count ≤ 8 → IsPayload vertex.fields → length (vertex_bytes count vertex) ≡ vertex_size count
+pub length_vertex : (count : ℕ) (vertex : SavedVertex) → count ≤ most_fields → IsPayload vertex.fields → length (vertex_bytes count vertex) ≡ vertex_size count
 length_vertex count vertex few payload = omega (arith, length_fields count vertex.fields few payload)
 
 -- the byte of a state between two traversals
@@ -45,7 +46,7 @@ saved_state Refined rest = refl
 saved_state EraseTriggered rest = refl
 saved_state Erasing rest = absurd cc
 
-states_list : (count : ℕ) (vertices : List SavedVertex) (tail : List ℕ) (k : ℕ) → count ≤ 8 → AllByRecursion (IsReadVertex count) vertices → k < length vertices
+states_list : (count : ℕ) (vertices : List SavedVertex) (tail : List ℕ) (k : ℕ) → count ≤ most_fields → AllByRecursion (IsReadVertex count) vertices → k < length vertices
     → is_saved_state (state_at (vertex_size count) (flat_map (vertex_bytes count) vertices ++ tail) k) ≡ true
 states_list count [] tail k few all below = absurd (omega arith)
 states_list count (v ∷ vs) tail zero few all below =
@@ -66,6 +67,6 @@ states_list count (v ∷ vs) tail (suc k) few all below =
     ap is_saved_state moved ∙ states_list count vs tail k few all.1 (omega arith)
 
 -- the states of vertices are found where they lie
-pub saved_states : (count : ℕ) (vertices : List SavedVertex) (tail : List ℕ) (k : ℕ) → count ≤ 8 → All (IsReadVertex count) vertices → k < length vertices
+pub saved_states : (count : ℕ) (vertices : List SavedVertex) (tail : List ℕ) (k : ℕ) → count ≤ most_fields → All (IsReadVertex count) vertices → k < length vertices
     → is_saved_state (state_at (vertex_size count) (flat_map (vertex_bytes count) vertices ++ tail) k) ≡ true
 saved_states count vertices tail k few all below = states_list count vertices tail k few (recursion_from_All (IsReadVertex count) vertices all) below

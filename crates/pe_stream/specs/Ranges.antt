@@ -1,11 +1,11 @@
 -- In which range each field of a header must be.
 use Rattle.std.specs.Prelude.{ℕ, ◌-◌, ◌≤◌, Bool, ◌&&◌, nat_le, Option, Some, None}
+use Rattle.pe_base.specs.Limits.{most_levels, most_fields, most_traversals}
 use Rattle.pe_stream.specs.declared.expect.Expect.{Expect}
 use Rattle.pe_stream.specs.declared.fault.HeaderField.{HeaderField}
 use Rattle.pe_stream.specs.declared.fault.HeaderField.TheVariants.{Dim, MaxLevel, VertexFields, CellFields, GlobalFields, Zero, Traversals}
 use Rattle.pe_stream.specs.declared.range.Range.{Range}
 use Rattle.pe_stream.specs.declared.saved.Saved.{Saved}
-use Rattle.pe_stream.specs.Limits.{most_traversals}
 
 abbrev pub within : ℕ → ℕ → Range
 within least greatest = record { least = least; greatest = greatest }
@@ -27,10 +27,10 @@ pub record IsNarrower (range wide : Range) : Type 0 where
 -- the limits of every stream
 abbrev pub limits : HeaderField → Range
 limits Dim = within 2 4
-limits MaxLevel = within 1 20
-limits VertexFields = within 0 8
-limits CellFields = within 0 8
-limits GlobalFields = within 0 8
+limits MaxLevel = within 1 most_levels
+limits VertexFields = within 0 most_fields
+limits CellFields = within 0 most_fields
+limits GlobalFields = within 0 most_fields
 limits Zero = only 0
 limits Traversals = within 1 most_traversals
 

@@ -4,6 +4,7 @@ use Rattle.std.specs.Int.{w64}
 use Rattle.pe_base.specs.declared.fields.Fields.{Fields}
 use Rattle.pe_base.specs.declared.state.State.{State}
 use Rattle.pe_base.specs.declared.state.State.TheVariants.{Unrefined, RefinementTriggered, Refining, Refined, EraseTriggered, Erasing}
+use Rattle.pe_base.specs.Limits.{most_fields}
 use Rattle.pe_stream.specs.declared.expect.Expect.{Expect}
 use Rattle.pe_stream.specs.declared.saved.SavedVertex.{SavedVertex}
 use Rattle.pe_stream.specs.declared.saved.Saved.{Saved}
@@ -37,9 +38,9 @@ pub record IsSaved (s : Saved) : Type 0 where
   pub cells : All (IsPadded s.cell_fields) s.cells
   pub cell_count : length s.cells ≡ (if s.cell_fields == 0 then 0 else s.cell_count)
 
--- what holds of every payload: eight numbers of 64 bits
+-- what holds of every payload: as many numbers as there may be, of 64 bits
 pub record IsPayload (fields : Fields) : Type 0 where
-  pub eight : length fields.a ≡ 8
+  pub eight : length fields.a ≡ most_fields
   pub fit : All (FitsSigned w64) fields.a
 
 -- what holds of every saved grid in memory

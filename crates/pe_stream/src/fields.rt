@@ -1,6 +1,7 @@
 //! Numbers as bytes, the lowest byte first.
-ghost use Rattle.std.specs.Prelude.{◌≡◌, ◌*◌, ◌≤◌, ◌++◌, length, take, OnOk};
+ghost use Rattle.std.specs.Prelude.{◌≡◌, ◌≤◌, ◌++◌, length, take, OnOk};
 ghost use Rattle.byteorder.specs.Endian.{little_number};
+ghost use Rattle.pe_base.specs.Limits.{most_fields};
 ghost use Rattle.pe_stream.specs.Layout.{number_bytes, signed_bytes, fields_bytes, fields_size};
 ghost use Rattle.pe_stream.specs.Saved.{IsPadded, IsPayload};
 
@@ -30,7 +31,7 @@ pub(crate) fn signed_at(bytes: &[u8]) -> i64
 
 /// A payload that has these numbers, and 0 behind them.
 pub(crate) fn read_fields(bytes: &[u8], count: u8) -> Fields
-    requires few { count ≤ 8 }
+    requires few { count ≤ most_fields }
     requires size { length bytes.now ≡ fields_size count }
     ensures bytes { fields_bytes count result ≡ bytes.now }
     ensures padded { IsPadded count result }
@@ -64,7 +65,7 @@ fn write_signed(out: &mut Vec<u8>, n: i64) -> Result<(), AllocError>
 
 /// Appends the bytes of the first numbers of a payload.
 pub(crate) fn write_fields(out: &mut Vec<u8>, fields: &Fields, count: u8) -> Result<(), AllocError>
-    requires { count ≤ 8 }
+    requires { count ≤ most_fields }
     ensures { OnOk result (out.new.items ≡ out.old.items ++ fields_bytes count fields.now) }
 {
     for number in &fields.a[..count as usize] {

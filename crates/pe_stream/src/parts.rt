@@ -1,5 +1,6 @@
 //! The vertices and the cells of a stream.
 ghost use Rattle.std.specs.Prelude.{◌≡◌, ◌*◌, ◌≤◌, length, slice_index, IsTrue, IfSome, IfOk, is_some};
+ghost use Rattle.pe_base.specs.Limits.{most_fields};
 ghost use Rattle.pe_base.specs.Life.Numbers.{state_number};
 ghost use Rattle.pe_stream.specs.Layout.{vertex_bytes, vertex_size as size_of_vertex, fields_size as size_of_fields};
 ghost use Rattle.pe_stream.specs.Saved.{is_at_rest};
@@ -30,7 +31,7 @@ fn state_of(byte: u8) -> Option<State>
 
 /// The vertex of these bytes, if its state is one that is saved.
 fn read_vertex(bytes: &[u8], count: u8) -> Option<SavedVertex>
-    requires few { count ≤ 8 }
+    requires few { count ≤ most_fields }
     requires size { length bytes.now ≡ size_of_vertex count }
     ensures bytes { IfSome result (λ vertex. vertex_bytes count vertex ≡ bytes.now) }
     ensures vertex { IfSome result (IsReadVertex count) }
@@ -48,7 +49,7 @@ pub(crate) fn read_vertices(
     count: u64,
     fields: u8,
 ) -> Result<Vec<SavedVertex>, StreamFault>
-    requires few { fields ≤ 8 }
+    requires few { fields ≤ most_fields }
     requires long { count * size_of_vertex fields ≤ length bytes.now }
     ensures test { TestsUnlessMemory (first_unsaved_of (size_of_vertex fields) count bytes.now) result }
     ensures ok { IfOk result (λ vertices. AreVertices fields count bytes.now vertices.items) }
@@ -77,7 +78,7 @@ pub(crate) fn read_cells(
     count: u64,
     fields: u8,
 ) -> Result<Vec<Fields>, AllocError>
-    requires few { fields ≤ 8 }
+    requires few { fields ≤ most_fields }
     requires long { count * size_of_fields fields ≤ length bytes.now }
     ensures ok { IfOk result (λ cells. AreCells fields count bytes.now cells.items) }
 {

@@ -1,12 +1,10 @@
 //! In which range each field of a header must be.
-ghost use Rattle.std.specs.Prelude.{◌≡◌, IsTrue, ◌≤◌};
+ghost use Rattle.std.specs.Prelude.{◌≡◌};
 ghost use Rattle.std.specs.Option.{option_copied};
 
 use crate::expect::Expect;
 use crate::fault::HeaderField;
-
-/// How many traversals a grid may see, over all runs that go on with it.
-const MOST_TRAVERSALS: u64 = 1_000_000_000;
+use pe_base::limits::{MOST_FIELDS, MOST_LEVELS, MOST_TRAVERSALS};
 
 /// The numbers from the least to the greatest.
 #[derive(Clone, Copy)]
@@ -57,9 +55,9 @@ impl HeaderField {
     {
         match self {
             HeaderField::Dim => Range::within(2, 4),
-            HeaderField::MaxLevel => Range::within(1, 20),
+            HeaderField::MaxLevel => Range::within(1, u64::from(MOST_LEVELS)),
             HeaderField::VertexFields | HeaderField::CellFields | HeaderField::GlobalFields => {
-                Range::within(0, 8)
+                Range::within(0, MOST_FIELDS as u64)
             }
             HeaderField::Zero => Range::only(0),
             HeaderField::Traversals => Range::within(1, MOST_TRAVERSALS),

@@ -1,5 +1,5 @@
 //! Reading a stream.
-ghost use Rattle.std.specs.Prelude.{◌≡◌, ◌≤◌, length, Ok, Err, ◌⊎◌, IfOk};
+ghost use Rattle.std.specs.Prelude.{◌≡◌, length, Ok, Err, ◌⊎◌, IfOk};
 ghost use Rattle.std.specs.Option.{option_copied};
 ghost use Rattle.pe_stream.specs.declared.saved.Saved.{Saved as ASaved};
 ghost use Rattle.pe_stream.specs.Saved.{Spells, IsFew};

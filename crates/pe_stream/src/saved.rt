@@ -17,15 +17,15 @@ pub struct SavedVertex {
 pub struct Saved {
     /// The number of axes.
     pub dim: Dim,
-    /// The greatest level that a cell may have: 1 to 20.
+    /// The greatest level that a cell may have: 1 to `limits::MOST_LEVELS`.
     pub max_level: u8,
-    /// How many numbers a vertex has: 0 to 8.
+    /// How many numbers a vertex has: 0 to `limits::MOST_FIELDS`.
     pub vertex_fields: u8,
-    /// How many numbers a cell has: 0 to 8.
+    /// How many numbers a cell has: 0 to `limits::MOST_FIELDS`.
     pub cell_fields: u8,
-    /// How many numbers the whole grid has: 0 to 8.
+    /// How many numbers the whole grid has: 0 to `limits::MOST_FIELDS`.
     pub global_fields: u8,
-    /// How many traversals are finished: 1 to 1,000,000,000.
+    /// How many traversals are finished: 1 to `limits::MOST_TRAVERSALS`.
     pub finished: u64,
     /// The numbers of the whole grid.
     pub globals: Fields,

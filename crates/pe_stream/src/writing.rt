@@ -1,6 +1,7 @@
 //! Writing a stream.
 ghost use Rattle.std.specs.Prelude.{◌≡◌, ◌≤◌, ◌++◌, IfOk, OnOk};
 ghost use Rattle.std.specs.List.{flat_map};
+ghost use Rattle.pe_base.specs.Limits.{most_fields};
 ghost use Rattle.pe_stream.specs.Layout.{header_bytes, vertex_bytes, fields_bytes, stream_bytes};
 ghost use Rattle.pe_stream.specs.Saved.{IsSaved};
 
@@ -31,7 +32,7 @@ fn write_header(out: &mut Vec<u8>, saved: &Saved) -> Result<(), AllocError>
 }
 
 fn write_vertices(out: &mut Vec<u8>, vertices: &[SavedVertex], count: u8) -> Result<(), AllocError>
-    requires { count ≤ 8 }
+    requires { count ≤ most_fields }
     ensures { OnOk result (out.new.items ≡ out.old.items ++ flat_map (vertex_bytes count) vertices.now) }
 {
     for vertex in vertices {
@@ -42,7 +43,7 @@ fn write_vertices(out: &mut Vec<u8>, vertices: &[SavedVertex], count: u8) -> Res
 }
 
 fn write_cells(out: &mut Vec<u8>, cells: &[Fields], count: u8) -> Result<(), AllocError>
-    requires { count ≤ 8 }
+    requires { count ≤ most_fields }
     ensures { OnOk result (out.new.items ≡ out.old.items ++ flat_map (fields_bytes count) cells.now) }
 {
     for cell in cells {

@@ -6,12 +6,11 @@ use Rattle.pe_base.specs.declared.tally.Tally.{Tally}
 use Rattle.pe_base.specs.Tree.Places.{corner}
 use Rattle.pe_base.specs.Steps.Routes.{stack_in, stack_out}
 use Rattle.pe_base.specs.Acts.Effects.{VertexRecord}
-use Rattle.pe_base.specs.Walk.Course.{Ending, done, halts, stuck, Course, from, at_once, course_map}
+use Rattle.pe_base.specs.Walk.Course.{Ending, done, halts, stuck, Course, from, at_once, course_map, allowed}
 use Rattle.pe_base.specs.Walk.Core.{Setting, way}
 use Rattle.pe_base.specs.Walk.Touches.{tally_load, tally_store}
 use Rattle.pe_stacks.specs.Holdings.{Holdings}
-use Rattle.pe_hang.specs.Moves.{allowed}
-use Rattle.pe_hang.specs.Follows.{Fits, is_fit}
+use Rattle.pe_base.specs.Calls.Follows.{Fits, is_fit}
 use Rattle.pe_adapt.specs.Touches.{Desk, kind_in_hand}
 use Rattle.pe_adapt.specs.Touches as corners
 use Rattle.pe_walk.specs.Machine.{Machine, Ports, output, tally_may_rise, is_placed, desk_of, with_desk, load_corner, store_corner, load_all, store_all}

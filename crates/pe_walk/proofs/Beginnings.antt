@@ -12,12 +12,13 @@ use Rattle.pe_base.specs.Walk.Walk.{traverse}
 use Rattle.pe_base.proofs.Lists.{Each-all, filter_none}
 use Rattle.pe_stacks.specs.declared.grid.Grid.{Grid as Handle}
 use Rattle.pe_stacks.specs.Holdings.{Holdings, items_at}
-use Rattle.pe_mapping.specs.Held.{Held, Told}
-use Rattle.pe_mapping.specs.Sights.{Numbers, seen_vertex, seen_cell}
+use Rattle.pe_mapping.specs.Held.{Held}
+use Rattle.pe_base.specs.Calls.Told.{Told}
+use Rattle.pe_stacks.specs.Sights.{Numbers, record_of, seen_cell}
 use Rattle.pe_hang.specs.InHand.{map_stack, map_holdings}
-use Rattle.pe_hang.specs.Follows.{Found, Failure, read_by}
+use Rattle.pe_base.specs.Calls.Follows.{BeforeCall, Failure, read_by}
 use Rattle.pe_hang.proofs.OnStacks.{stack_at-map}
-use Rattle.pe_walk.specs.Gridded.{stored_of}
+use Rattle.pe_stacks.specs.StreamsHeld.{stored_of}
 use Rattle.pe_walk.specs.Traversing.{Stores, MayTraverse, HoldsNothing, HoldAGrid, Traverses, Answers}
 
 -- nothing is seen on stacks on which nothing lies
@@ -54,9 +55,9 @@ may_begin numbers mapping levels depots handle nothing no_cell axes some few fin
         axes = refl;
         finished = finished;
         holds = record {
-          stacks = length-map depots.vertices.stacks (map_stack (seen_vertex numbers.vertex)) ∙ nothing.count;
+          stacks = length-map depots.vertices.stacks (map_stack (record_of numbers.vertex)) ∙ nothing.count;
           cell_stacks = length-map depots.cells.stacks (map_stack (seen_cell numbers.cell)) ∙ no_cell.count;
-          vertices = λ s. ap (map stored_of) (unseen (seen_vertex numbers.vertex) 10 depots.vertices nothing s) ∙ either _ _ (no_vertices handle.dim levels numbers_of mapping.list);
+          vertices = λ s. ap (map stored_of) (unseen (record_of numbers.vertex) 10 depots.vertices nothing s) ∙ either _ _ (no_vertices handle.dim levels numbers_of mapping.list);
           cells = λ s. unseen (seen_cell numbers.cell) 2 depots.cells no_cell s ∙ either _ _ (no_cells handle.dim levels numbers_of mapping.list);
           none_out = nothing.none_out;
           no_cell_out = no_cell.none_out;
@@ -77,7 +78,7 @@ goes_on : {Plan V C : Type 0} (numbers : Numbers V C) (set : Setting Plan) (grid
 goes_on numbers set grid swapped levels told before mapping after answer same it = (it.next, record { greatest = it.greatest ∙ same; formed = inr it.formed; holds = it.holds })
 
 -- so does an answer of a traversal, if it is no error
-pub goes_on_if : {Plan V C E : Type 0} (numbers : Numbers V C) (set : Setting Plan) (grid : Grid) (swapped : Bool) (levels : ℕ) (old : Found) (before : Stores V C) (mapping : Held Plan) (after : Stores V C) (means : E → Failure) (result : Result (Handle C × Tally) E)
+pub goes_on_if : {Plan V C E : Type 0} (numbers : Numbers V C) (set : Setting Plan) (grid : Grid) (swapped : Bool) (levels : ℕ) (old : BeforeCall) (before : Stores V C) (mapping : Held Plan) (after : Stores V C) (means : E → Failure) (result : Result (Handle C × Tally) E)
     → grid.greatest ≡ levels → Answers numbers set grid swapped (traverse set grid) (read_by means result) old before mapping after → IfOk result (λ answer. HoldAGrid numbers mapping levels after answer.0)
 goes_on_if numbers set grid swapped levels old before mapping after means (Ok answer) same it = goes_on numbers set grid swapped levels old.told before mapping after answer same it
 goes_on_if numbers set grid swapped levels old before mapping after means (Err e) same it = tt

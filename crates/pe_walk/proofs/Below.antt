@@ -8,8 +8,8 @@ use Rattle.pe_base.proofs.Tree.CurveLaws.{length-children, power_positive}
 use Rattle.pe_base.specs.Walk.Course.{Course, at_once, course_map, each}
 use Rattle.pe_base.specs.Walk.Core.{Setting, way, Own}
 use Rattle.pe_base.specs.Walk.Touches.{kind_below}
-use Rattle.pe_hang.specs.Follows.{Fits}
-use Rattle.pe_hang.proofs.Leading.{and_then-fits}
+use Rattle.pe_base.specs.Calls.Follows.{Fits}
+use Rattle.pe_base.proofs.Calls.Leading.{and_then-fits}
 use Rattle.pe_walk.specs.Machine.{Machine, Ports, if_walked, inside, outside, walk_cell}
 use Rattle.pe_walk.specs.Visits.{walk_children, walk_below}
 

@@ -6,7 +6,7 @@ use Rattle.pe_base.specs.Acts.Effects.{VertexRecord}
 use Rattle.pe_base.specs.Walk.Course.{Ending, done, halts, stuck, Course, limit_at, behind, from, and_then}
 use Rattle.pe_base.specs.Walk.Core.{Setting, Own}
 use Rattle.pe_base.specs.Walk.Touches.{tally_cell}
-use Rattle.pe_hang.specs.Follows.{Found, halted, Follows, Fits}
+use Rattle.pe_base.specs.Calls.Follows.{BeforeCall, halted, Follows, Fits}
 use Rattle.pe_walk.specs.Machine.{Machine, Ports, count_cell, load_all, enter_cell, leave_cell, store_all}
 use Rattle.pe_walk.specs.Visits.{walk_below, visit_cell}
 use Rattle.pe_walk.proofs.Simulation.Matching.{then-grouped}
@@ -62,13 +62,13 @@ module _ {Plan : Type 0} (ports : Ports) (levels : ℕ) (place : Place) where
       (λ it. then-grouped (walk_below set ports levels place it) (leaving set) (storing set)))
 
   -- a cell is counted, and the tally is this one
-  pub counts-to : (set : Setting Plan) (m : Machine) (tally : Tally) (found : Found) → Fits (counting m set) → tally ≡ tally_cell place m.tally → tally.cells ≤ set.max_cells
+  pub counts-to : (set : Setting Plan) (m : Machine) (tally : Tally) (found : BeforeCall) → Fits (counting m set) → tally ≡ tally_cell place m.tally → tally.cells ≤ set.max_cells
       → Follows (counting m set) (λ (u : Unit {0}). record m { tally = tally }) (Ok tt) found found.told
   counts-to set m tally found fits is few =
       subst (λ t. Follows (counting m set) (λ (u : Unit {0}). record m { tally = t }) (Ok tt) found found.told) (sym is)
       (counts-on set ports place m found fits (subst (λ (t : Tally). t.cells ≤ set.max_cells) is few))
 
-  pub counts-over : (set : Setting Plan) (m : Machine) (after : Unit {0} → Machine) (tally : Tally) (found : Found) → Fits (counting m set) → tally ≡ tally_cell place m.tally → set.max_cells < tally.cells
+  pub counts-over : (set : Setting Plan) (m : Machine) (after : Unit {0} → Machine) (tally : Tally) (found : BeforeCall) → Fits (counting m set) → tally ≡ tally_cell place m.tally → set.max_cells < tally.cells
       → Follows (counting m set) after (Err (halted (limit_at place))) found found.told
   counts-over set m after tally found fits is past =
       counts-past set ports place m after found fits (subst (λ (t : Tally). set.max_cells < t.cells) is past)

@@ -8,8 +8,8 @@ use Rattle.pe_base.specs.Tree.Places.{bits, child_at}
 use Rattle.pe_base.specs.Tree.Curve.{flips, child_digits, children}
 use Rattle.pe_base.specs.Walk.Course.{Course, each}
 use Rattle.pe_base.specs.Walk.Core.{Setting}
-use Rattle.pe_hang.specs.Follows.{Found, Failure, Follows, Fits, Leads, IsRoomier}
-use Rattle.pe_hang.proofs.Leading.{leads_fits, leads_next, leads_err, leads_end}
+use Rattle.pe_base.specs.Calls.Follows.{BeforeCall, Failure, Follows, Fits, Leads, IsRoomier}
+use Rattle.pe_base.proofs.Calls.Leading.{leads_fits, leads_next, leads_err, leads_end}
 use Rattle.pe_walk.specs.Machine.{Machine, Ports, walk_cell}
 
 -- the children by their digits
@@ -30,7 +30,7 @@ module _ {Plan : Type 0} (ports : Ports) where
       let one : suc (levels - 1) ≡ levels = omega arith in
       ap (λ s. walk_cell s ports (suc (levels - 1)) cell' m) same ∙ ap (λ n. walk_cell set ports n cell' m) one ∙ ap (λ c. walk_cell set ports levels c m) is
 
-  module _ (set : Setting Plan) (levels : ℕ) (place : Place) (whole : Course Machine) (before now : Found) (left : List Digits) (m : Machine) where
+  module _ (set : Setting Plan) (levels : ℕ) (place : Place) (whole : Course Machine) (before now : BeforeCall) (left : List Digits) (m : Machine) where
     abbrev walks : List Digits → Machine → Course Machine
     walks digits m = each (walk_cell set ports levels) (map (child_at place) digits) m
 
@@ -41,12 +41,12 @@ module _ {Plan : Type 0} (ports : Ports) where
       pub child-may : Fits whole → Fits (walk_cell set ports levels (child_at place digits) m)
       child-may fits = leads_fits (walk_cell set ports levels (child_at place digits) m) (each (walk_cell set ports levels) (map (child_at place) rest)) led fits
 
-      pub child-next : (new : Found) (m' : Machine) → Follows (walk_cell set ports levels (child_at place digits) m) (λ (u : Unit {0}). m') (Ok tt) now new.told → IsRoomier now new
+      pub child-next : (new : BeforeCall) (m' : Machine) → Follows (walk_cell set ports levels (child_at place digits) m) (λ (u : Unit {0}). m') (Ok tt) now new.told → IsRoomier now new
           → Leads whole before new (walks rest m')
       child-next new m' is room =
           leads_next (walk_cell set ports levels (child_at place digits) m) (each (walk_cell set ports levels) (map (child_at place) rest)) (λ (u : Unit {0}). m') tt new led is room
 
-      pub child-err : (after after' : Unit {0} → Machine) (failure : Failure) (new : Found) → Follows (walk_cell set ports levels (child_at place digits) m) after (Err failure) now new.told
+      pub child-err : (after after' : Unit {0} → Machine) (failure : Failure) (new : BeforeCall) → Follows (walk_cell set ports levels (child_at place digits) m) after (Err failure) now new.told
           → Follows whole after' (Err failure) before new.told
       child-err after after' failure new is =
           leads_err (walk_cell set ports levels (child_at place digits) m) (each (walk_cell set ports levels) (map (child_at place) rest)) after after' failure new.told led is

@@ -8,9 +8,9 @@ use Rattle.pe_base.specs.Tree.Places.{IsCellPlace, IsDigits, finer, child_at, pa
 use Rattle.pe_base.proofs.Tree.PlaceLaws.{IsCellPlace-child_at, digit_below}
 use Rattle.pe_base.specs.Tree.Dim.{IsDim}
 use Rattle.pe_base.specs.Acts.Effects.{VertexRecord}
-use Rattle.pe_states.specs.Marks.{is_old_at, is_new_at, is_first_old, is_first_new, some_carrier}
-use Rattle.pe_states.specs.Sides.{AreSpread, IsRow as IsRowOfMarks}
-use Rattle.pe_adapt.specs.Marked.{AreMarksOf, GiveKinds}
+use Rattle.pe_states.specs.Ages.{is_old_at, is_new_at, is_first_old, is_first_new, some_carrier}
+use Rattle.pe_states.specs.Sides.{AreSpread, IsRow as IsRowOfAges}
+use Rattle.pe_adapt.specs.Ages.{AreAgesOf, GiveKinds}
 use Rattle.pe_adapt.proofs.KindLaws.{kind-carried, kind-first}
 use Rattle.pe_access.specs.declared.state.CellState.{CellState}
 use Rattle.pe_access.specs.States.{StandsFor, odd_count, row_turns}
@@ -36,7 +36,7 @@ parent-child_at axes place digits is fit =
     ap (λ pos. (let p : Place = record { level = place.level + 1 - 1; pos = pos } in p)) (thirds place.pos digits.k (is.pos.four ∙ sym fit.four) (digit_below axes digits fit))
     ∙ ap (λ level. (let p : Place = record { level = level; pos = place.pos } in p)) up
 
-module _ (axes traversal : ℕ) (place : Place) (digits : Digits) (within : IsDim axes) (is : IsCellPlace axes place) (level : place.level < 20) (fit : IsDigits axes digits) (marks : ℕ) where
+module _ (axes traversal : ℕ) (place : Place) (digits : Digits) (within : IsDim axes) (is : IsCellPlace axes place) (level : place.level < 20) (fit : IsDigits axes digits) (ages : ℕ) where
   abbrev child : Place
   child = child_at place digits
 
@@ -46,21 +46,21 @@ module _ (axes traversal : ℕ) (place : Place) (digits : Digits) (within : IsDi
   of-parent : child ≡ child_at (parent_of child) digits
   of-parent = ap (λ p. child_at p digits) (sym (parent-child_at axes place digits is fit))
 
-  -- the marks of a child of the root
+  -- the ages of a child of the root
   pub first-kinds : (its : List VertexRecord) → place.level ≡ 0
-      → ((k : ℕ) → k < 2 ^ axes → is_old_at marks k ≡ is_first_old axes digits traversal k)
-      → ((k : ℕ) → k < 2 ^ axes → is_new_at marks k ≡ is_first_new axes digits k)
-      → GiveKinds axes traversal child its marks
+      → ((k : ℕ) → k < 2 ^ axes → is_old_at ages k ≡ is_first_old axes digits traversal k)
+      → ((k : ℕ) → k < 2 ^ axes → is_new_at ages k ≡ is_first_new axes digits k)
+      → GiveKinds axes traversal child its ages
   first-kinds its top old new = λ k below.
-      kind-first axes traversal child digits k its marks within is-child (omega (arith, top)) of-parent (old k below) (new k below)
+      kind-first axes traversal child digits k its ages within is-child (omega (arith, top)) of-parent (old k below) (new k below)
 
   -- and of one further down
-  pub carried-kinds : (above : ℕ) (its : List VertexRecord) → 0 < place.level → AreMarksOf axes its above
-      → ((k : ℕ) → k < 2 ^ axes → is_old_at marks k ≡ some_carrier axes digits k (is_old_at above))
-      → ((k : ℕ) → k < 2 ^ axes → is_new_at marks k ≡ some_carrier axes digits k (is_new_at above))
-      → GiveKinds axes traversal child its marks
+  pub carried-kinds : (above : ℕ) (its : List VertexRecord) → 0 < place.level → AreAgesOf axes its above
+      → ((k : ℕ) → k < 2 ^ axes → is_old_at ages k ≡ some_carrier axes digits k (is_old_at above))
+      → ((k : ℕ) → k < 2 ^ axes → is_new_at ages k ≡ some_carrier axes digits k (is_new_at above))
+      → GiveKinds axes traversal child its ages
   carried-kinds above its deep are old new = λ k below.
-      kind-carried axes traversal child digits k its above marks within is-child (omega arith) (λ one. absurd (omega (arith, one, deep))) fit of-parent below are (old k below) (new k below)
+      kind-carried axes traversal child digits k its above ages within is-child (omega arith) (λ one. absurd (omega (arith, one, deep))) fit of-parent below are (old k below) (new k below)
 
 -- digits along a row
 front-same : (n : ℕ) (xs ys : List ℕ) → length xs ≡ length ys → ((i : ℕ) → i < n → slice_index xs i ≡ slice_index ys i) → take n xs ≡ take n ys
@@ -71,10 +71,10 @@ front-same (suc n) (x ∷ xs) [] same each = absurd (omega arith)
 front-same (suc n) (x ∷ xs) (y ∷ ys) same each =
     ap (λ z. z ∷ take n xs) (each 0 (omega arith)) ∙ ap (λ zs. y ∷ zs) (front-same n xs ys (omega arith) (λ i below. each (suc i) (omega arith)))
 
-pub row-same : (axes marks row : ℕ) (digits digits' : Digits) → IsDigits axes digits → IsDigits axes digits' → AreInOneRow axes digits digits'
-    → IsRowOfMarks axes digits marks row → IsRowOfMarks axes digits' marks row
-row-same axes marks row digits digits' fit fit' one is =
-    subst (λ ks. AreSpread 1 ks marks row) (front-same (axes - 1) digits.k digits'.k (fit.four ∙ sym fit'.four) one) is
+pub row-same : (axes ages row : ℕ) (digits digits' : Digits) → IsDigits axes digits → IsDigits axes digits' → AreInOneRow axes digits digits'
+    → IsRowOfAges axes digits ages row → IsRowOfAges axes digits' ages row
+row-same axes ages row digits digits' fit fit' one is =
+    subst (λ ks. AreSpread 1 ks ages row) (front-same (axes - 1) digits.k digits'.k (fit.four ∙ sym fit'.four) one) is
 
 pub turns-same : (axes : ℕ) (state : CellState) (digits digits' : Digits) → state.axes ≡ axes → IsDigits axes digits → IsDigits axes digits' → AreInOneRow axes digits digits' → row_turns state digits ≡ row_turns state digits'
 turns-same axes state digits digits' same fit fit' one =

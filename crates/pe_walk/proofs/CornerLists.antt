@@ -8,7 +8,7 @@ use Rattle.pe_stacks.specs.declared.record.Vertex.{Vertex}
 use Rattle.pe_stacks.specs.Corners.{CornerList, vertex_at, with_vertex, vertices_of, no_vertices, IsFull}
 use Rattle.pe_stacks.specs.Filled.{FullFrom}
 use Rattle.pe_stacks.proofs.Filling.{full_take, seen_put}
-use Rattle.pe_mapping.specs.Sights.{seen_vertex, seen_corners}
+use Rattle.pe_stacks.specs.Sights.{record_of, corner_records}
 use Rattle.pe_adapt.specs.Slots.{seen_slot}
 use Rattle.pe_walk.specs.Corners.{filled_in, filled_in_corners, seen_slots, AreOf}
 
@@ -63,12 +63,12 @@ module _ {X : Type 0} where
 
 module _ {V : Type 0} (numbers : V → List ℤ) where
   -- full corners are seen slot by slot
-  seen-full : (slots : List (Option (Vertex V))) → sum_by filled_in slots ≡ length slots → map (seen_vertex numbers) (filter_map (λ slot. slot) slots) ≡ map (seen_slot numbers) slots
+  seen-full : (slots : List (Option (Vertex V))) → sum_by filled_in slots ≡ length slots → map (record_of numbers) (filter_map (λ slot. slot) slots) ≡ map (seen_slot numbers) slots
   seen-full [] all = refl
   seen-full (None ∷ slots) all = absurd (omega (arith, filled-most slots, sum_by-cons filled_in None slots))
-  seen-full (Some v ∷ slots) all = ap (λ rest. seen_vertex numbers v ∷ rest) (seen-full slots (omega (arith, sum_by-cons filled_in (Some v) slots)))
+  seen-full (Some v ∷ slots) all = ap (λ rest. record_of numbers v ∷ rest) (seen-full slots (omega (arith, sum_by-cons filled_in (Some v) slots)))
 
-  pub seen_corners-full : (axes : ℕ) (corners : CornerList (Vertex V)) → AreOf axes corners → filled_in_corners corners ≡ 2 ^ axes → seen_corners numbers corners ≡ seen_slots numbers corners
+  pub seen_corners-full : (axes : ℕ) (corners : CornerList (Vertex V)) → AreOf axes corners → filled_in_corners corners ≡ 2 ^ axes → corner_records numbers corners ≡ seen_slots numbers corners
   seen_corners-full axes corners are all = seen-full corners.slots (all ∙ sym are.count)
 
 -- # Corners that are given up

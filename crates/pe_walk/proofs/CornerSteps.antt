@@ -11,12 +11,12 @@ use Rattle.pe_stacks.specs.Corners.{CornerList, vertex_at, with_vertex, vertices
 use Rattle.pe_stacks.specs.Filled.{FullFrom}
 use Rattle.pe_stacks.proofs.Filling.{full_start, full_put, empty_below, full_take, full_here, full_seen, full_from, seen_put, seen_none}
 use Rattle.pe_stacks.proofs.QuadSlots.{quad_within}
-use Rattle.pe_mapping.specs.Sights.{Numbers, seen_vertex, seen_corners}
+use Rattle.pe_stacks.specs.Sights.{Numbers, record_of, corner_records}
 use Rattle.pe_hang.specs.InHand.{Stays}
-use Rattle.pe_hang.specs.Follows.{Fits}
+use Rattle.pe_base.specs.Calls.Follows.{Fits}
 use Rattle.pe_hang.proofs.Staying.{stays-full}
 use Rattle.pe_adapt.specs.declared.stop.Halt.{Halt}
-use Rattle.pe_adapt.specs.Marked.{GiveKinds}
+use Rattle.pe_adapt.specs.Ages.{GiveKinds}
 use Rattle.pe_adapt.specs.Slots.{seen_slot}
 use Rattle.pe_walk.specs.declared.settings.Settings.{Settings}
 use Rattle.pe_walk.specs.declared.walked.WalkedCell.{WalkedCell}
@@ -41,10 +41,10 @@ pub quad_beyond : (axes q : ℕ) → IsDim axes → 2 ^ axes ≤ 4 * q + 3 → 2
 quad_beyond axes q range beyond = grind (arith, quad_within axes q range)
 
 -- as many corners are seen as are there
-seen-last : {V : Type 0} (seen : V → List ℤ) (axes k : ℕ) (corners : CornerList (Vertex V)) → FullFrom axes k corners → k + length (seen_corners seen corners) ≡ 2 ^ axes
+seen-last : {V : Type 0} (seen : V → List ℤ) (axes k : ℕ) (corners : CornerList (Vertex V)) → FullFrom axes k corners → k + length (corner_records seen corners) ≡ 2 ^ axes
 seen-last {V} seen axes k corners last =
     let there = ap (λ (vs : List (Vertex V)). length vs) (full_seen axes k corners last) in
-    omega (arith, last.count, there, length-map (vertices_of corners) (seen_vertex seen))
+    omega (arith, last.count, there, length-map (vertices_of corners) (record_of seen))
 
 module _ {Plan V C : Type 0} {settings : Settings} {cell : WalkedCell} where
   last-from : (k : ℕ) (corners : CornerList (Vertex V)) (hand : Hand Plan V C) → HasLast settings cell corners hand → filled_in_corners corners ≡ 2 ^ settings.setup.dim - k → k ≤ 2 ^ settings.setup.dim → FullFrom settings.setup.dim k corners
@@ -67,7 +67,7 @@ module _ {Plan V C : Type 0} {rules : Rules Plan} {numbers : Numbers V C} {setti
   -- # One corner is loaded
   module _ {corners : CornerList (Vertex V)} {old : Hand Plan V C} (k : ℕ) (ready : MayLoad rules numbers settings cell corners old) (inside : k < 2 ^ settings.setup.dim) (behind : filled_in_corners corners ≡ 2 ^ settings.setup.dim - (k + 1)) where
     abbrev loaded_its : List VertexRecord
-    loaded_its = seen_corners numbers.vertex corners
+    loaded_its = corner_records numbers.vertex corners
 
     abbrev load_first : Setting Plan → Machine → Course (VertexRecord × Machine)
     load_first set machine = load_corner set (ports_of settings) cell.place k machine
@@ -102,10 +102,10 @@ module _ {Plan V C : Type 0} {rules : Rules Plan} {numbers : Numbers V C} {setti
     load-rest (Some v) is machine =
         let after = with_vertex corners k (Some v) in
         let put = full_put settings.setup.dim k v corners after refl last_loaded in
-        let seen : seen_corners numbers.vertex after ≡ seen_vertex numbers.vertex v ∷ loaded_its = ap (λ vs. map (seen_vertex numbers.vertex) vs) (seen_put settings.setup.dim k v corners after refl last_loaded) in
-        let same : k ≡ 2 ^ old.held.dim - length (seen_corners numbers.vertex after) = omega (arith, seen-last numbers.vertex settings.setup.dim k after put, ap (λ d. 2 ^ d) ready.here.dim) in
+        let seen : corner_records numbers.vertex after ≡ record_of numbers.vertex v ∷ loaded_its = ap (λ vs. map (record_of numbers.vertex) vs) (seen_put settings.setup.dim k v corners after refl last_loaded) in
+        let same : k ≡ 2 ^ old.held.dim - length (corner_records numbers.vertex after) = omega (arith, seen-last numbers.vertex settings.setup.dim k after put, ap (λ d. 2 ^ d) ready.here.dim) in
         ap (λ its. load_all (setting_in rules old.held settings) (ports_of settings) cell.place k its machine) (sym seen)
-        ∙ ap (λ n. load_all (setting_in rules old.held settings) (ports_of settings) cell.place n (seen_corners numbers.vertex after) machine) same
+        ∙ ap (λ n. load_all (setting_in rules old.held settings) (ports_of settings) cell.place n (corner_records numbers.vertex after) machine) same
 
     module _ (slot : Option (Vertex V)) {result : Result (Unit {0}) Halt} {new : Hand Plan V C} (loaded : OnOk result (IsSome slot)) where
       pub load-goes : GoesAlong rules numbers settings load_first (λ machine. (seen_slot numbers.vertex slot, machine)) 0 (filled_in slot) result old new
@@ -121,7 +121,7 @@ module _ {Plan V C : Type 0} {rules : Rules Plan} {numbers : Numbers V C} {setti
     load-ready None (Ok done) new loaded goes = absurd (let no : false ≡ true = loaded in cc)
     load-ready (Some v) (Ok done) new loaded goes = record {
       here = last-next k corners (with_vertex corners k (Some v)) old new ready.here goes.stays (full_put settings.setup.dim k v corners (with_vertex corners k (Some v)) refl last_loaded);
-      kinds = kinds-kept (seen_corners numbers.vertex old.parents) (seen_corners numbers.vertex new.parents) goes.stays.parents.marks old.held.dim new.held.dim settings.traversal cell.place cell.marks goes.stays.keeps.dim ready.kinds;
+      kinds = kinds-kept (corner_records numbers.vertex old.parents) (corner_records numbers.vertex new.parents) goes.stays.parents.ages old.held.dim new.held.dim settings.traversal cell.place cell.ages goes.stays.keeps.dim ready.kinds;
       fits = may-next ready.fits goes;
     }
 
@@ -135,7 +135,7 @@ module _ {Plan V C : Type 0} {rules : Rules Plan} {numbers : Numbers V C} {setti
     store_first set machine = store_corner set (ports_of settings) cell.place k (seen_slot numbers.vertex slot) machine
 
     abbrev store_rest : Setting Plan → Machine → Course Machine
-    store_rest set machine = store_all set (ports_of settings) cell.place (k + 1) (seen_corners numbers.vertex after_store) machine
+    store_rest set machine = store_all set (ports_of settings) cell.place (k + 1) (corner_records numbers.vertex after_store) machine
 
     last_to_store : FullFrom settings.setup.dim k corners
     last_to_store = last-from k corners old ready.here behind (omega arith)
@@ -146,26 +146,26 @@ module _ {Plan V C : Type 0} {rules : Rules Plan} {numbers : Numbers V C} {setti
     pub store-there : IsSome slot
     store-there = subst IsSome at (full_here settings.setup.dim k corners inside last_to_store)
 
-    seen-store : seen_corners numbers.vertex corners ≡ seen_slot numbers.vertex slot ∷ seen_corners numbers.vertex after_store
+    seen-store : corner_records numbers.vertex corners ≡ seen_slot numbers.vertex slot ∷ corner_records numbers.vertex after_store
     seen-store = go slot store-there at
       where
-        go : (it : Option (Vertex V)) → IsSome it → vertex_at corners k ≡ it → seen_corners numbers.vertex corners ≡ seen_slot numbers.vertex it ∷ seen_corners numbers.vertex after_store
+        go : (it : Option (Vertex V)) → IsSome it → vertex_at corners k ≡ it → corner_records numbers.vertex corners ≡ seen_slot numbers.vertex it ∷ corner_records numbers.vertex after_store
         go None is here = absurd (let no : false ≡ true = is in cc)
         go (Some v) is here =
-            ap (λ vs. map (seen_vertex numbers.vertex) vs) (seen-take settings.setup.dim k v corners inside last_to_store here)
-            ∙ ap (λ it. seen_vertex numbers.vertex v ∷ seen_corners numbers.vertex (with_vertex corners k it)) (sym none)
+            ap (λ vs. map (record_of numbers.vertex) vs) (seen-take settings.setup.dim k v corners inside last_to_store here)
+            ∙ ap (λ it. record_of numbers.vertex v ∷ corner_records numbers.vertex (with_vertex corners k it)) (sym none)
 
     store-whole : (machine : Machine) → left_of stores_left numbers settings cell.place corners (setting_in rules old.held settings) machine
         ≡ and_then (store_first (setting_in rules old.held settings) machine) (store_rest (setting_in rules old.held settings))
     store-whole machine =
-        let same : 2 ^ old.held.dim - length (seen_corners numbers.vertex corners) ≡ k = omega (arith, seen-last numbers.vertex settings.setup.dim k corners last_to_store, ap (λ d. 2 ^ d) ready.here.dim) in
-        ap (λ n. store_all (setting_in rules old.held settings) (ports_of settings) cell.place n (seen_corners numbers.vertex corners) machine) same
+        let same : 2 ^ old.held.dim - length (corner_records numbers.vertex corners) ≡ k = omega (arith, seen-last numbers.vertex settings.setup.dim k corners last_to_store, ap (λ d. 2 ^ d) ready.here.dim) in
+        ap (λ n. store_all (setting_in rules old.held settings) (ports_of settings) cell.place n (corner_records numbers.vertex corners) machine) same
         ∙ ap (λ its. store_all (setting_in rules old.held settings) (ports_of settings) cell.place k its machine) seen-store
 
     store-rest : (machine : Machine) → store_rest (setting_in rules old.held settings) machine ≡ left_of stores_left numbers settings cell.place after_store (setting_in rules old.held settings) machine
     store-rest machine =
-        let same : k + 1 ≡ 2 ^ old.held.dim - length (seen_corners numbers.vertex after_store) = omega (arith, seen-last numbers.vertex settings.setup.dim (k + 1) after_store last_stored, ap (λ d. 2 ^ d) ready.here.dim) in
-        ap (λ n. store_all (setting_in rules old.held settings) (ports_of settings) cell.place n (seen_corners numbers.vertex after_store) machine) same
+        let same : k + 1 ≡ 2 ^ old.held.dim - length (corner_records numbers.vertex after_store) = omega (arith, seen-last numbers.vertex settings.setup.dim (k + 1) after_store last_stored, ap (λ d. 2 ^ d) ready.here.dim) in
+        ap (λ n. store_all (setting_in rules old.held settings) (ports_of settings) cell.place n (corner_records numbers.vertex after_store) machine) same
 
     pub store-fits : MayGo rules numbers settings store_first old
     store-fits = may-first rules numbers settings store_first store_rest old (λ cells. subst Fits (store-whole (machine_of numbers cells old)) (ready.fits cells))
@@ -203,10 +203,10 @@ module _ {Plan V C : Type 0} (rules : Rules Plan) (numbers : Numbers V C) (setti
     loads-all : (machine : Machine) → left_of loads_left numbers settings cell.place corners (setting_in rules old.held settings) machine
         ≡ load_all (setting_in rules old.held settings) (ports_of settings) cell.place (2 ^ old.held.dim) [] machine
     loads-all machine =
-        ap (λ vs. loads_left (setting_in rules old.held settings) (ports_of settings) cell.place (map (seen_vertex numbers.vertex) vs) machine) (seen_none settings.setup.dim corners none-loaded)
+        ap (λ vs. loads_left (setting_in rules old.held settings) (ports_of settings) cell.place (map (record_of numbers.vertex) vs) machine) (seen_none settings.setup.dim corners none-loaded)
         ∙ ap (λ n. load_all (setting_in rules old.held settings) (ports_of settings) cell.place n [] machine) (omega arith)
 
-    pub loads-start : IsWalked old.held.dim settings cell → GiveKinds old.held.dim settings.traversal cell.place (seen_corners numbers.vertex old.parents) cell.marks → IsFull old.held.dim old.parents
+    pub loads-start : IsWalked old.held.dim settings cell → GiveKinds old.held.dim settings.traversal cell.place (corner_records numbers.vertex old.parents) cell.ages → IsFull old.held.dim old.parents
         → MayGo rules numbers settings (λ set. load_all set (ports_of settings) cell.place (2 ^ old.held.dim) []) old
         → MayLoad rules numbers settings cell corners old
     loads-start walked kinds full fits =
@@ -257,4 +257,4 @@ module _ {Plan V C : Type 0} (rules : Rules Plan) (numbers : Numbers V C) (setti
         goes-all _ _ (2 ^ old.held.dim) (filled_in_corners corners') goes stores-all (on-ok result filled none-left) (omega (arith, all))
       where
         none-left : filled_in_corners corners' ≡ 0 → (machine : Machine) → left_of stores_left numbers settings cell.place corners' (setting_in rules old.held settings) machine ≡ at_once machine
-        none-left none machine = ap (λ vs. stores_left (setting_in rules old.held settings) (ports_of settings) cell.place (map (seen_vertex numbers.vertex) vs) machine) (seen_none settings.setup.dim corners' (empty-of settings.setup.dim corners' are' none))
+        none-left none machine = ap (λ vs. stores_left (setting_in rules old.held settings) (ports_of settings) cell.place (map (record_of numbers.vertex) vs) machine) (seen_none settings.setup.dim corners' (empty-of settings.setup.dim corners' are' none))

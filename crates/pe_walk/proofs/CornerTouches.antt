@@ -19,12 +19,13 @@ use Rattle.pe_stacks.specs.declared.record.Vertex.{Vertex}
 use Rattle.pe_stacks.specs.Holdings.{Holdings, KeepsRoom, stack_count, stack_at, popped, popped_from}
 use Rattle.std.proofs.lemmas.List.{length-set}
 use Rattle.std.proofs.lemmas.Bool.{and_parts}
-use Rattle.pe_mapping.specs.Sights.{Numbers, seen_corners}
+use Rattle.pe_stacks.specs.Sights.{Numbers, corner_records}
 use Rattle.pe_access.specs.Numbers.{stack_of}
 use Rattle.pe_hang.specs.InHand.{Stays}
-use Rattle.pe_mapping.specs.Held.{Told}
-use Rattle.pe_hang.specs.Follows.{Follows, Fits, Found, Failure, Left, read_by}
-use Rattle.pe_hang.proofs.Leading.{and_then-fits, follows-map}
+use Rattle.pe_base.specs.Calls.Told.{Told}
+use Rattle.pe_base.specs.Calls.Follows.{Follows, Fits, BeforeCall, Failure, read_by}
+use Rattle.pe_stacks.specs.RecordsOut.{RecordsOut}
+use Rattle.pe_base.proofs.Calls.Leading.{and_then-fits, follows-map}
 use Rattle.pe_hang.proofs.Moving.{allowed-fits, allowed-is}
 use Rattle.pe_adapt.specs.declared.stop.Halt.{Halt}
 use Rattle.pe_adapt.specs.Slots.{seen_slot}
@@ -73,7 +74,7 @@ module _ {Plan : Type 0} (set : Setting Plan) (ports : Ports) (cell : Place) (k 
       (subst Fits (allowed-is (tally_may_rise m.tally && is_placed set.axes (kind_here m) here) (loading m) fits) fits)
 
   -- what the load of a corner does beside the tally is what it does
-  pub load-follows : {A : Type 0} (m : Machine) (tally : Tally) (after : A → VertexRecord × Desk) (answer : Result A Failure) (old : Found) (new : Told)
+  pub load-follows : {A : Type 0} (m : Machine) (tally : Tally) (after : A → VertexRecord × Desk) (answer : Result A Failure) (old : BeforeCall) (new : Told)
       → Fits (load_corner set ports cell k m) → tally ≡ tally_load (kind_here m) first_here m.tally
       → Follows (corners.load_corner set ports.input cell k (desk_of m)) after answer old new
       → Follows (load_corner set ports cell k m) (λ a. ((after a).0, with_desk (after a).1 (record m { tally = tally }))) answer old new
@@ -104,7 +105,7 @@ module _ {Plan : Type 0} (set : Setting Plan) (ports : Ports) (cell : Place) (k 
       and_then-fits (corners.store_corner set (output ports) cell k it (desk_of m)) _
       (subst Fits (allowed-is (tally_may_rise m.tally && is_placed set.axes it.kind here) (storing it m) fits) fits)
 
-  pub store-follows : {A : Type 0} (it : VertexRecord) (m : Machine) (tally : Tally) (after : A → Desk) (answer : Result A Failure) (old : Found) (new : Told)
+  pub store-follows : {A : Type 0} (it : VertexRecord) (m : Machine) (tally : Tally) (after : A → Desk) (answer : Result A Failure) (old : BeforeCall) (new : Told)
       → Fits (store_corner set ports cell k it m) → tally ≡ tally_store it.kind last_here m.tally
       → Follows (corners.store_corner set (output ports) cell k it (desk_of m)) after answer old new
       → Follows (store_corner set ports cell k it m) (λ a. with_desk (after a) (record m { tally = tally })) answer old new
@@ -116,14 +117,14 @@ module _ {Plan : Type 0} (set : Setting Plan) (ports : Ports) (cell : Place) (k 
 
 -- how many records are out, by the slot
 left-loaded : {X : Type 0} (slot : Option X) (result : Result (Unit {0}) Halt) (old new : Holdings X) (room room' : ℕ → ℕ)
-    → Left 0 1 old room new room' (is_err result) → OnOk result (IsSome slot) → OnErr result (slot ≡ None) → Left 0 (filled_in slot) old room new room' false
+    → RecordsOut 0 1 old room new room' (is_err result) → OnOk result (IsSome slot) → OnErr result (slot ≡ None) → RecordsOut 0 (filled_in slot) old room new room' false
 left-loaded None (Ok u) old new room room' left loaded emptied = absurd (let no : false ≡ true = loaded in cc)
 left-loaded (Some x) (Ok u) old new room room' left loaded emptied = left
 left-loaded None (Err halt) old new room room' left loaded emptied = record { count = left.count; keeps = left.keeps; out = left.out }
 left-loaded (Some x) (Err halt) old new room room' left loaded emptied = absurd cc
 
 left-stored : {X : Type 0} (result : Result (Unit {0}) Halt) (old new : Holdings X) (room room' : ℕ → ℕ)
-    → Left 1 0 old room new room' (is_err result) → Left 1 0 old room new room' false
+    → RecordsOut 1 0 old room new room' (is_err result) → RecordsOut 1 0 old room new room' false
 left-stored (Ok u) old new room room' left = left
 left-stored (Err halt) old new room room' left = record { count = left.count; keeps = left.keeps; out = left.out }
 
@@ -167,11 +168,11 @@ module _ {Plan V C : Type 0} (rules : Rules Plan) (numbers : Numbers V C) (setti
 
   pub goes-load : (slot : Option (Vertex V))
       → MayGo rules numbers settings loads old
-      → new.progress.tally ≡ tally_load (kind_in_hand set_here place (seen_corners numbers.vertex old.parents) (corner old.held.dim place k))
+      → new.progress.tally ≡ tally_load (kind_in_hand set_here place (corner_records numbers.vertex old.parents) (corner old.held.dim place k))
       (is_none (stack_in old.held.dim (way set_here) (corner old.held.dim place k) place)) old.progress.tally
       → ((room : ℕ → ℕ) → Follows (corners.load_corner set_here settings.input place k desk_before) (λ (done : Unit {0}). (seen_slot numbers.vertex slot, desk_behind))
       (read_by (failure_in new.progress) result) (found_in old room) new.held.told)
-      → Left 0 1 old.vertices old.room new.vertices new.room (is_err result) → Stays numbers.vertex old.held new.held old.parents new.parents
+      → RecordsOut 0 1 old.vertices old.room new.vertices new.room (is_err result) → Stays numbers.vertex old.held new.held old.parents new.parents
       → OnOk result (IsSome slot) → OnErr result (slot ≡ None)
       → GoesAlong rules numbers settings loads (λ machine. (seen_slot numbers.vertex slot, machine)) 0 (filled_in slot) result old new
   goes-load slot may counted touched left stays loaded emptied = record {
@@ -180,7 +181,7 @@ module _ {Plan V C : Type 0} (rules : Rules Plan) (numbers : Numbers V C) (setti
     left = left-loaded slot result old.vertices new.vertices old.room new.room left loaded emptied;
     stays = stays;
     counted = ap (λ tally. tally.cells) counted
-        ∙ load-cells (kind_in_hand set_here place (seen_corners numbers.vertex old.parents) (corner old.held.dim place k)) (is_none (stack_in old.held.dim (way set_here) (corner old.held.dim place k) place)) old.progress.tally;
+        ∙ load-cells (kind_in_hand set_here place (corner_records numbers.vertex old.parents) (corner old.held.dim place k)) (is_none (stack_in old.held.dim (way set_here) (corner old.held.dim place k) place)) old.progress.tally;
   }
 
   pub goes-store : (it : VertexRecord)
@@ -188,7 +189,7 @@ module _ {Plan V C : Type 0} (rules : Rules Plan) (numbers : Numbers V C) (setti
       → new.progress.tally ≡ tally_store it.kind (is_none (stack_out old.held.dim (way set_here) (corner old.held.dim place k) place)) old.progress.tally
       → ((room : ℕ → ℕ) → Follows (corners.store_corner set_here (output (ports_of settings)) place k it desk_before) (λ (done : Unit {0}). desk_behind)
       (read_by (failure_in new.progress) result) (found_in old room) new.held.told)
-      → Left 1 0 old.vertices old.room new.vertices new.room (is_err result) → Stays numbers.vertex old.held new.held old.parents new.parents
+      → RecordsOut 1 0 old.vertices old.room new.vertices new.room (is_err result) → Stays numbers.vertex old.held new.held old.parents new.parents
       → GoesAlong rules numbers settings (stores it) (λ machine. machine) 1 0 result old new
   goes-store it may counted touched left stays = record {
     follows = λ cells room. store-follows set_here (ports_of settings) place k it (machine_of numbers cells old) new.progress.tally (λ (done : Unit {0}). desk_behind)
@@ -206,7 +207,7 @@ module _ {Plan V C : Type 0} (rules : Rules Plan) (numbers : Numbers V C) (setti
   may-load-desk may = load-desk set_here (ports_of settings) place k (machine_of numbers no_cells old) (may no_cells)
 
   pub may-load-placed : MayGo rules numbers settings loads old
-      → is_placed old.held.dim (kind_in_hand set_here place (seen_corners numbers.vertex old.parents) (corner old.held.dim place k)) (corner old.held.dim place k) ≡ true
+      → is_placed old.held.dim (kind_in_hand set_here place (corner_records numbers.vertex old.parents) (corner old.held.dim place k)) (corner old.held.dim place k) ≡ true
   may-load-placed may = load-placed set_here (ports_of settings) place k (machine_of numbers no_cells old) (may no_cells)
 
   pub may-store-rises : (it : VertexRecord) → MayGo rules numbers settings (stores it) old → tally_may_rise old.progress.tally ≡ true
@@ -280,7 +281,7 @@ route-is stack axes settings cell k kind number is counts placed routes =
     subst (λ w. stack_of number ≡ stack axes w (corner axes cell.place k) cell.place) settings.turned (routes axes settings.way cell.place is.place is.state inside)
 
 -- after a pop one record more is out
-pub popped-left : {X : Type 0} (old new : Holdings X) (room room' : ℕ → ℕ) (s : ℕ) → new ≡ popped old s → KeepsRoom old room new room' → Left 0 1 old room new room' false
+pub popped-left : {X : Type 0} (old new : Holdings X) (room room' : ℕ → ℕ) (s : ℕ) → new ≡ popped old s → KeepsRoom old room new room' → RecordsOut 0 1 old room new room' false
 popped-left old new room room' s is keeps = record {
   count = ap (λ h. stack_count h) is ∙ length-set old.stacks s (popped_from (stack_at old s));
   keeps = keeps;

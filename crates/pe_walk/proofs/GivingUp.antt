@@ -4,12 +4,12 @@ use Rattle.pe_base.specs.Acts.Effects.{VertexRecord}
 use Rattle.pe_base.specs.Walk.Course.{Course, at_once, and_then}
 use Rattle.pe_base.specs.Walk.Core.{Setting}
 use Rattle.pe_stacks.specs.Holdings.{Holdings, given_up}
-use Rattle.pe_mapping.specs.Held.{Adds}
-use Rattle.pe_mapping.proofs.Texts.{adds-nothing}
+use Rattle.pe_base.specs.Calls.Told.{Adds}
+use Rattle.pe_base.proofs.Calls.Texts.{adds-nothing}
 use Rattle.pe_hang.specs.InHand.{map_holdings}
 use Rattle.pe_hang.specs.Moves.{give_up}
-use Rattle.pe_hang.specs.Follows.{Follows, Fits, Found}
-use Rattle.pe_hang.proofs.Leading.{and_then-fits}
+use Rattle.pe_base.specs.Calls.Follows.{Follows, Fits, BeforeCall}
+use Rattle.pe_base.proofs.Calls.Leading.{and_then-fits}
 use Rattle.pe_hang.proofs.Moving.{give_up-is}
 use Rattle.pe_walk.specs.GivenUp.{given_up_times}
 use Rattle.pe_walk.specs.Machine.{Machine, Ports, give_up_all}
@@ -38,7 +38,7 @@ module _ {Plan X : Type 0} (f : X → VertexRecord) (set : Setting Plan) (ports 
       ∙ gives-all its (given_up held) (subst Fits one fits)
       ∙ ap (λ h. at_once (with_vertices h)) (given_up-first (length its) held)
 
-  pub gives-follow : (its : List VertexRecord) (n : ℕ) (held held' : Holdings X) (found : Found) → Fits (give_up_all set ports its (with_vertices held)) → n ≡ length its → held' ≡ given_up_times n held
+  pub gives-follow : (its : List VertexRecord) (n : ℕ) (held held' : Holdings X) (found : BeforeCall) → Fits (give_up_all set ports its (with_vertices held)) → n ≡ length its → held' ≡ given_up_times n held
       → Follows (give_up_all set ports its (with_vertices held)) (λ (u : Unit {0}). with_vertices held') (Ok tt) found found.told
   gives-follow its n held held' found fits count after =
       let course = gives-all its held fits in

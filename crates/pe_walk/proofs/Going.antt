@@ -6,10 +6,11 @@ use Rattle.pe_base.specs.Walk.Course.{Course, at_once, and_then}
 use Rattle.pe_base.specs.Walk.Core.{Setting}
 use Rattle.pe_stacks.specs.Corners.{IsFull}
 use Rattle.pe_mapping.specs.Held.{Keeps}
-use Rattle.pe_mapping.specs.Sights.{Numbers}
-use Rattle.pe_hang.specs.Follows.{Failure, Found, Follows, Leads, Fits, Left, IsRoomier, read_by}
-use Rattle.pe_hang.proofs.Staying.{keeps-same, stays-beside, stays-then}
-use Rattle.pe_hang.proofs.Leading.{and_then-fits, leads_start, leads_next, leads_err, leads_last, leads_end, leads_rest, setting-kept}
+use Rattle.pe_stacks.specs.Sights.{Numbers}
+use Rattle.pe_base.specs.Calls.Follows.{Failure, BeforeCall, Follows, Leads, Fits, IsRoomier, read_by}
+use Rattle.pe_stacks.specs.RecordsOut.{RecordsOut}
+use Rattle.pe_hang.proofs.Staying.{keeps-same, stays-beside, stays-then, setting-kept}
+use Rattle.pe_base.proofs.Calls.Leading.{and_then-fits, leads_start, leads_next, leads_err, leads_last, leads_end, leads_rest}
 use Rattle.pe_adapt.specs.declared.stop.Halt.{Halt}
 use Rattle.pe_walk.specs.declared.settings.Settings.{Settings}
 use Rattle.pe_walk.specs.Machine.{Machine}
@@ -27,7 +28,7 @@ on-always (Err e) p = tt
 
 -- # Courses
 -- a step, and then the rest
-step-leads : {A Y : Type 0} (first : Course A) (next : A → Course Y) (a : A) (answer : Result (Unit {0}) Failure) (old now : Found)
+step-leads : {A Y : Type 0} (first : Course A) (next : A → Course Y) (a : A) (answer : Result (Unit {0}) Failure) (old now : BeforeCall)
     → Follows first (λ (done : Unit {0}). a) answer old now.told → IsRoomier old now → LeadsOn (and_then first next) (next a) answer old now
 step-leads first next a (Ok done) old now is room = leads_next first next (λ (done : Unit {0}). a) done now (leads_start (and_then first next) old) is room
 step-leads first next a (Err failure) old now is room =
@@ -35,7 +36,7 @@ step-leads first next a (Err failure) old now is room =
 
 module _ {X : Type 0} where
   -- a part, and then another part
-  leads-then : (whole rest last : Course X) (answer : Result (Unit {0}) Failure) (old mid now : Found) → Leads whole old mid rest → LeadsOn rest last answer mid now → LeadsOn whole last answer old now
+  leads-then : (whole rest last : Course X) (answer : Result (Unit {0}) Failure) (old mid now : BeforeCall) → Leads whole old mid rest → LeadsOn rest last answer mid now → LeadsOn whole last answer old now
   leads-then whole rest last (Ok done) old mid now first second =
       let part : Course (Unit {0}) = record { text = second.text; log = second.log; ending = (at_once done).ending } in
       leads_next part (λ (done : Unit {0}). last) (λ (done : Unit {0}). done) done now (subst (λ course. Leads whole old mid course) second.splits first)
@@ -43,14 +44,14 @@ module _ {X : Type 0} where
   leads-then whole rest last (Err failure) old mid now first second = λ after. leads_last rest after (Err failure) now.told first (second after)
 
   -- the same, written otherwise
-  leads-same : (whole whole' rest rest' : Course X) (result : Result (Unit {0}) Halt) (means : Halt → Failure) (old now : Found) → whole ≡ whole' → OnOk result (rest ≡ rest')
+  leads-same : (whole whole' rest rest' : Course X) (result : Result (Unit {0}) Halt) (means : Halt → Failure) (old now : BeforeCall) → whole ≡ whole' → OnOk result (rest ≡ rest')
       → LeadsOn whole rest (read_by means result) old now → LeadsOn whole' rest' (read_by means result) old now
   leads-same whole whole' rest rest' (Ok done) means old now same after is = subst (λ course. Leads course old now rest') same (subst (λ course. Leads whole old now course) after is)
   leads-same whole whole' rest rest' (Err halt) means old now same after is =
       λ to. subst (λ course. Follows course to (Err (means halt)) old now.told) same (is to)
 
   -- all is done
-  leads-all : (whole rest : Course X) (x : X) (result : Result (Unit {0}) Halt) (means : Halt → Failure) (old now : Found) → OnOk result (rest ≡ at_once x)
+  leads-all : (whole rest : Course X) (x : X) (result : Result (Unit {0}) Halt) (means : Halt → Failure) (old now : BeforeCall) → OnOk result (rest ≡ at_once x)
       → LeadsOn whole rest (read_by means result) old now → Follows whole (λ (done : Unit {0}). x) (read_by means result) old now.told
   leads-all whole rest x (Ok done) means old now end is = leads_end (λ (done : Unit {0}). x) done (subst (λ course. Leads whole old now course) end is)
   leads-all whole rest x (Err halt) means old now end is = is (λ (done : Unit {0}). x)
@@ -61,7 +62,7 @@ module _ {Plan V C : Type 0} (old new : Hand Plan V C) (keeps : Keeps old.held n
   pub setting-same : (rules : Rules Plan) (settings : Settings) → setting_in rules new.held settings ≡ setting_in rules old.held settings
   setting-same rules settings = setting-kept rules old.held new.held settings.setup.start_level settings.setup.max_cells settings.traversal keeps
 
-  roomier : (had has : ℕ) → Left had has old.vertices old.room new.vertices new.room false → (room : ℕ → ℕ) → IsRoomier (found_in old room) (found_in new room)
+  roomier : (had has : ℕ) → RecordsOut had has old.vertices old.room new.vertices new.room false → (room : ℕ → ℕ) → IsRoomier (found_in old room) (found_in new room)
   roomier had has left room = record { sure = keeps.sure; vertices = left.keeps; cells = λ s. omega arith }
 
 -- the first step of what is left may be done

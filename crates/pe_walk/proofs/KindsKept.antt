@@ -1,4 +1,4 @@
--- The kinds that marks give stay, where the marks of the parent's corners stay.
+-- The kinds that ages give stay, where the ages of the parent's corners stay.
 use Rattle.std.proofs.Common.{◌≡◌, ℕ, List, Option, Some, None, refl, sym, ap, subst, ◌∙◌}
 use Rattle.std.specs.Prelude.{slice_get, Bool, false, ◌==◌, if◌then◌else◌}
 use Rattle.std.specs.Option.{option_map}
@@ -9,39 +9,39 @@ use Rattle.pe_base.specs.Life.States.{is_old, is_new}
 use Rattle.pe_base.specs.Life.Kinds.{kind_from, level_one_kind}
 use Rattle.pe_base.specs.Life.Carriers.{passes, is_carried, kind_by, carriers}
 use Rattle.pe_base.specs.Acts.Effects.{VertexRecord}
-use Rattle.pe_hang.specs.InHand.{marks_of}
-use Rattle.pe_adapt.specs.Marked.{GiveKinds}
+use Rattle.pe_hang.specs.InHand.{ages_of}
+use Rattle.pe_adapt.specs.Ages.{GiveKinds}
 use Rattle.pe_adapt.specs.Touches.{state_in_hand, corner_number}
-use Rattle.pe_states.proofs.Tests.{any_same}
+use Rattle.pe_base.proofs.Tests.{any_same}
 
 abbrev is_first : Option (Bool × Bool) → Bool
 is_first None = false
-is_first (Some marks) = marks.0
+is_first (Some ages) = ages.0
 
 abbrev is_second : Option (Bool × Bool) → Bool
 is_second None = false
-is_second (Some marks) = marks.1
+is_second (Some ages) = ages.1
 
-abbrev mark_of : VertexRecord → Bool × Bool
-mark_of it = (is_old it.state, is_new it.state)
+abbrev age_of : VertexRecord → Bool × Bool
+age_of it = (is_old it.state, is_new it.state)
 
-old-marked : (it : Option VertexRecord) → passes is_old (option_map (λ it. it.state) it) ≡ is_first (option_map mark_of it)
-old-marked None = refl
-old-marked (Some it) = refl
+old-aged : (it : Option VertexRecord) → passes is_old (option_map (λ it. it.state) it) ≡ is_first (option_map age_of it)
+old-aged None = refl
+old-aged (Some it) = refl
 
-new-marked : (it : Option VertexRecord) → passes is_new (option_map (λ it. it.state) it) ≡ is_second (option_map mark_of it)
-new-marked None = refl
-new-marked (Some it) = refl
+new-aged : (it : Option VertexRecord) → passes is_new (option_map (λ it. it.state) it) ≡ is_second (option_map age_of it)
+new-aged None = refl
+new-aged (Some it) = refl
 
-module _ (its its' : List VertexRecord) (same : marks_of its' ≡ marks_of its) where
-  at-same : (n : ℕ) → option_map mark_of (slice_get its' n) ≡ option_map mark_of (slice_get its n)
-  at-same n = sym (slice_get-map mark_of its' n) ∙ ap (λ marks. slice_get marks n) same ∙ slice_get-map mark_of its n
+module _ (its its' : List VertexRecord) (same : ages_of its' ≡ ages_of its) where
+  at-same : (n : ℕ) → option_map age_of (slice_get its' n) ≡ option_map age_of (slice_get its n)
+  at-same n = sym (slice_get-map age_of its' n) ∙ ap (λ ages. slice_get ages n) same ∙ slice_get-map age_of its n
 
   old-same : (n : ℕ) → passes is_old (option_map (λ it. it.state) (slice_get its' n)) ≡ passes is_old (option_map (λ it. it.state) (slice_get its n))
-  old-same n = old-marked (slice_get its' n) ∙ ap is_first (at-same n) ∙ sym (old-marked (slice_get its n))
+  old-same n = old-aged (slice_get its' n) ∙ ap is_first (at-same n) ∙ sym (old-aged (slice_get its n))
 
   new-same : (n : ℕ) → passes is_new (option_map (λ it. it.state) (slice_get its' n)) ≡ passes is_new (option_map (λ it. it.state) (slice_get its n))
-  new-same n = new-marked (slice_get its' n) ∙ ap is_second (at-same n) ∙ sym (new-marked (slice_get its n))
+  new-same n = new-aged (slice_get its' n) ∙ ap is_second (at-same n) ∙ sym (new-aged (slice_get its n))
 
   kind-same : (axes traversal : ℕ) (parent vertex : Place) → kind_by axes traversal (state_in_hand parent its') vertex ≡ kind_by axes traversal (state_in_hand parent its) vertex
   kind-same axes traversal parent vertex =
@@ -50,7 +50,7 @@ module _ (its its' : List VertexRecord) (same : marks_of its' ≡ marks_of its) 
       ap (λ o. if vertex.level == 1 then level_one_kind axes traversal vertex else kind_from o (is_carried is_new (state_in_hand parent its') vertex)) old
       ∙ ap (λ n. if vertex.level == 1 then level_one_kind axes traversal vertex else kind_from (is_carried is_old (state_in_hand parent its) vertex) n) new
 
-  pub kinds-kept : (axes axes' traversal : ℕ) (place : Place) (marks : ℕ) → axes' ≡ axes → GiveKinds axes traversal place its marks → GiveKinds axes' traversal place its' marks
-  kinds-kept axes axes' traversal place marks dims gives =
-      subst (λ a. GiveKinds a traversal place its' marks) (sym dims)
+  pub kinds-kept : (axes axes' traversal : ℕ) (place : Place) (ages : ℕ) → axes' ≡ axes → GiveKinds axes traversal place its ages → GiveKinds axes' traversal place its' ages
+  kinds-kept axes axes' traversal place ages dims gives =
+      subst (λ a. GiveKinds a traversal place its' ages) (sym dims)
       (λ n below. gives n below ∙ sym (kind-same axes traversal (parent_of place) (corner axes place n)))

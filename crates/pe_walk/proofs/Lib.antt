@@ -1,7 +1,5 @@
--- The laws of the walk, from the lemmas of `pe_base`, in reading order.
+-- The walk on stacks is the walk by address, and its code is that walk; in reading order.
 
--- tests, lists and powers
-pub mod Tests
 -- calls that go along with the machine
 pub mod Going
 -- one corner of the cell that is walked
@@ -12,30 +10,6 @@ pub mod KindsKept
 pub mod CornerLists
 -- and one after another
 pub mod CornerSteps
--- # The laws
--- cells that are not walked
-pub mod Unwalked
--- the cells of the tree are the places of cells
-pub mod Trees
--- faces to earlier cells, to later ones, and on the boundary of the root
-pub mod Outside
--- the steps around a vertex, and the corners of the cells on both sides of each
-pub mod Steps
--- what is stored was loaded
-pub mod Stores
--- each law
-pub mod Derived
--- # The walk over places on stacks
--- its steps, the walk of a cell, traversals
-pub mod Tokens
--- what makes a walk: carriers
-pub mod Outlooks
--- what is foreseen of a traversal, and what is stored
-pub mod Forecasts
--- streams in the order of grids
-pub mod StreamOrders
--- how many cells a grid has
-pub mod GridCells
 -- the walk on stacks is the image of the walk by address
 pub mod Simulation
 -- # The walk in code
@@ -47,8 +21,8 @@ pub mod Traversing
 pub mod Beginnings
 -- the children of a cell along rows
 pub mod Children
--- what the marks of corners tell
-pub mod Markings
+-- what the ages of corners tell
+pub mod AgeLaws
 -- records that are given up, one after another
 pub mod GivingUp
 -- calls of a walk, one after another

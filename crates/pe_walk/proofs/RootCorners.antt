@@ -8,18 +8,18 @@ use Rattle.pe_base.specs.Walk.Course.{Course}
 use Rattle.pe_base.specs.Walk.Core.{Setting, fresh_vertex}
 use Rattle.pe_stacks.specs.declared.record.Vertex.{Vertex}
 use Rattle.pe_stacks.specs.Holdings.{Holdings, lent}
-use Rattle.pe_mapping.specs.Sights.{seen_vertex}
+use Rattle.pe_stacks.specs.Sights.{record_of}
 use Rattle.pe_hang.specs.InHand.{map_holdings}
 use Rattle.pe_hang.specs.Moves.{lend}
-use Rattle.pe_hang.specs.Follows.{Follows, Fits, Found, Leads, IsRoomier}
-use Rattle.pe_hang.proofs.Leading.{and_then-fits, leads_step, leads_end}
+use Rattle.pe_base.specs.Calls.Follows.{Follows, Fits, BeforeCall, Leads, IsRoomier}
+use Rattle.pe_base.proofs.Calls.Leading.{and_then-fits, leads_step, leads_end}
 use Rattle.pe_hang.proofs.Moving.{lend-is}
 use Rattle.pe_walk.specs.Machine.{Machine, Ports, root_corners}
 use Rattle.pe_walk.specs.Visits.{with_vertices}
 
 module _ {Plan V : Type 0} (numbers : V → List ℤ) (set : Setting Plan) (ports : Ports) (rest : Machine) where
   abbrev pub at_root : Holdings (Vertex V) → List ℤ → Machine
-  at_root held list = with_vertices (map_holdings (seen_vertex numbers) held) list rest
+  at_root held list = with_vertices (map_holdings (record_of numbers) held) list rest
 
   abbrev pub roots : ℕ → List VertexRecord → Holdings (Vertex V) → List ℤ → Course (List VertexRecord × Machine)
   roots n its held list = root_corners set ports n its (at_root held list)
@@ -30,19 +30,19 @@ module _ {Plan V : Type 0} (numbers : V → List ℤ) (set : Setting Plan) (port
       root_corners set ports k (made.0 ∷ its) (record m { vertices = vertices; family = made.1 })
 
   -- a record may be lent for one more
-  pub roots-may : (n k : ℕ) (its : List VertexRecord) (held : Holdings (Vertex V)) (list : List ℤ) → n ≡ suc k → Fits (roots n its held list) → Fits (lend (map_holdings (seen_vertex numbers) held))
+  pub roots-may : (n k : ℕ) (its : List VertexRecord) (held : Holdings (Vertex V)) (list : List ℤ) → n ≡ suc k → Fits (roots n its held list) → Fits (lend (map_holdings (record_of numbers) held))
   roots-may n k its held list more fits =
-      and_then-fits (lend (map_holdings (seen_vertex numbers) held)) (after_lend k its (at_root held list)) (subst (λ j. Fits (roots j its held list)) more fits)
+      and_then-fits (lend (map_holdings (record_of numbers) held)) (after_lend k its (at_root held list)) (subst (λ j. Fits (roots j its held list)) more fits)
 
-  module _ (whole : Course (List VertexRecord × Machine)) (before now : Found) where
+  module _ (whole : Course (List VertexRecord × Machine)) (before now : BeforeCall) where
     -- one more is made
-    pub roots-step : (n k : ℕ) (its : List VertexRecord) (held held' : Holdings (Vertex V)) (list list' : List ℤ) (made : Vertex V) (new : Found)
-        → n ≡ suc k → Leads whole before now (roots n its held list) → Fits (lend (map_holdings (seen_vertex numbers) held)) → held' ≡ lent held
+    pub roots-step : (n k : ℕ) (its : List VertexRecord) (held held' : Holdings (Vertex V)) (list list' : List ℤ) (made : Vertex V) (new : BeforeCall)
+        → n ≡ suc k → Leads whole before now (roots n its held list) → Fits (lend (map_holdings (record_of numbers) held)) → held' ≡ lent held
         → numbers made.payload ≡ (set.rules.fresh_vertex set.plan list).numbers → made.state ≡ Unrefined → made.kind ≡ Hanging → list' ≡ (set.rules.fresh_vertex set.plan list).list
         → now.told ≡ new.told → IsRoomier now new
-        → Leads whole before new (roots k (seen_vertex numbers made ∷ its) held' list')
+        → Leads whole before new (roots k (record_of numbers made ∷ its) held' list')
     roots-step n k its held held' list list' made new more lead fits after payload state kind listed told room =
-        let f = seen_vertex numbers in
+        let f = record_of numbers in
         let lends = lend-is f held fits in
         let fresh = set.rules.fresh_vertex set.plan list in
         let led = leads_step (lend (map_holdings f held)) (after_lend k its (at_root held list)) (map_holdings f (lent held)) new

@@ -6,11 +6,12 @@ use Rattle.pe_base.specs.Tree.Places.{root}
 use Rattle.pe_base.specs.Acts.Effects.{Rules, VertexRecord}
 use Rattle.pe_base.specs.Walk.Course.{Course, behind, and_then}
 use Rattle.pe_base.specs.Walk.Core.{Setting, plain_event}
-use Rattle.pe_mapping.specs.Held.{Held, Told}
-use Rattle.pe_mapping.specs.Sights.{Numbers, seen_vertex, seen_corners}
+use Rattle.pe_mapping.specs.Held.{Held}
+use Rattle.pe_base.specs.Calls.Told.{Told}
+use Rattle.pe_stacks.specs.Sights.{Numbers, record_of, corner_records}
 use Rattle.pe_hang.specs.InHand.{vertices_on_stacks}
-use Rattle.pe_hang.specs.Follows.{Found, Failure, Follows, Fits}
-use Rattle.pe_hang.proofs.Leading.{follows-map}
+use Rattle.pe_base.specs.Calls.Follows.{BeforeCall, Failure, Follows, Fits}
+use Rattle.pe_base.proofs.Calls.Leading.{follows-map}
 use Rattle.pe_walk.specs.declared.settings.Settings.{Settings}
 use Rattle.pe_walk.specs.GivenUp.{given_up_times}
 use Rattle.pe_walk.specs.InHand.{ports_of}
@@ -39,7 +40,7 @@ module _ {Plan : Type 0} (ports : Ports) (greatest : ℕ) where
   after_begin set m = and_then (walk_children set ports greatest root m) (plain set ports EndIteration)
 
   -- an event of the traversal as a whole
-  pub plain-follows : (set : Setting Plan) (event : Event) (m : Machine) (list : List ℤ) (answer : Result (Unit {0}) Failure) (old : Found) (new : Told)
+  pub plain-follows : (set : Setting Plan) (event : Event) (m : Machine) (list : List ℤ) (answer : Result (Unit {0}) Failure) (old : BeforeCall) (new : Told)
       → Follows (plain_event set event m.family.list) (λ (u : Unit {0}). list) answer old new → Follows (plain set ports event m) (λ (u : Unit {0}). with_list m list) answer old new
   plain-follows set event m list answer old new is = follows-map (with_list m) (plain_event set event m.family.list) (λ (u : Unit {0}). list) answer old new is
 
@@ -83,7 +84,7 @@ module _ {Plan V C : Type 0} (rules : Rules Plan) (numbers : Numbers V C) (setti
 
   pub root-gives : (answer : Result (Unit {0}) Failure) → HasRun rules settings (rooting ports settings.setup.max_level (machine_of numbers mid)) (λ (u : Unit {0}). machine_of numbers walked) answer mid walked
       → Goes rules settings mid walked → Fits (goes_on (set_in rules settings mid)) → new.held ≡ walked.held
-      → (n : ℕ) → n ≡ length (seen_corners numbers.vertex walked.parents) → new.vertices ≡ given_up_times n walked.vertices
+      → (n : ℕ) → n ≡ length (corner_records numbers.vertex walked.parents) → new.vertices ≡ given_up_times n walked.vertices
       → HasRun rules settings goes_on given answer mid new
   root-gives (Ok u) is goes fits same n count after =
       let greatest = settings.setup.max_level in
@@ -92,7 +93,7 @@ module _ {Plan V C : Type 0} (rules : Rules Plan) (numbers : Numbers V C) (setti
       let set = set_in rules settings walked in
       let found = found_in walked in
       let still = record walked { vertices = new.vertices } in
-      let gives = gives-follow (seen_vertex numbers.vertex) set ports bare (seen_corners numbers.vertex walked.parents) n walked.vertices new.vertices found
+      let gives = gives-follow (record_of numbers.vertex) set ports bare (corner_records numbers.vertex walked.parents) n walked.vertices new.vertices found
       (runs-may rules settings roots (giving ports greatest) to_walk tt mid walked fits is goes) count after in
       subst (λ (held : Held Plan). Follows (goes_on (set_in rules settings mid)) given (Ok tt) (found_in mid) held.told) (sym same)
       (runs-then rules settings roots (giving ports greatest) to_walk tt given (Ok tt) mid walked still is goes gives)

@@ -13,15 +13,16 @@ use Rattle.pe_base.specs.Walk.Walk as model
 use Rattle.pe_base.proofs.Walk.Courses.{mapped-done}
 use Rattle.pe_stacks.specs.declared.grid.Grid.{Grid as Handle}
 use Rattle.pe_stacks.specs.Holdings.{Holdings, CountsWithin}
-use Rattle.pe_mapping.specs.Held.{Held, Adds, AddsPart, max_level}
-use Rattle.pe_mapping.specs.Sights.{Numbers, seen_vertex, seen_cell}
+use Rattle.pe_mapping.specs.Held.{Held, max_level}
+use Rattle.pe_base.specs.Calls.Told.{Adds, AddsPart}
+use Rattle.pe_stacks.specs.Sights.{Numbers, record_of, seen_cell}
 use Rattle.pe_hang.specs.InHand.{setting_of, map_holdings}
-use Rattle.pe_hang.specs.Follows.{is_fit, Fits, Found, HasOverfull, Failure, halted, unwritten, wanting, unheard_of, Follows, Does, read_by}
+use Rattle.pe_base.specs.Calls.Follows.{is_fit, Fits, BeforeCall, HasOverfull, Failure, halted, unwritten, wanting, unheard_of, Follows, Does, read_by}
 use Rattle.pe_walk.specs.Machine.{Machine}
 use Rattle.pe_walk.specs.Machine as machine
 use Rattle.pe_walk.specs.Gridded.{HoldsGrid, MachineMayTraverse, MachineHasTraversed, EndAlike, IsShort, IsWalked, ports_of}
 use Rattle.pe_walk.specs.InHand.{machine_between}
-use Rattle.pe_walk.specs.Outlooks.{outlook}
+use Rattle.pe_order.specs.Outlooks.{outlook}
 use Rattle.pe_walk.proofs.Simulation.Answers.{stacks_are_addresses}
 use Rattle.pe_walk.proofs.Simulation.Tallied.Alike.{CountAlike, is_seen, alike-sym, within-alike, raises-alike, exact-alike}
 use Rattle.pe_walk.proofs.Simulation.Tallied.Traversals.{traversals_are_exact}
@@ -52,7 +53,7 @@ may_turn numbers rules mapping start_level max_cells levels depots handle grid l
     root = h.root;
     list = h.list;
   };
-  counts = within-alike depots.vertices (map_holdings (seen_vertex numbers.vertex) depots.vertices) (2 ^ 60) (is_seen (seen_vertex numbers.vertex) depots.vertices) counts;
+  counts = within-alike depots.vertices (map_holdings (record_of numbers.vertex) depots.vertices) (2 ^ 60) (is_seen (record_of numbers.vertex) depots.vertices) counts;
   cell_counts = within-alike depots.cells (map_holdings (seen_cell numbers.cell) depots.cells) (2 ^ 60) (is_seen (seen_cell numbers.cell) depots.cells) cell_counts;
   tally = refl;
 }
@@ -90,7 +91,7 @@ halts_of swapped cause stuck alike = absurd alike
 
 module _ {Plan V C : Type 0} (numbers : Numbers V C) (set : Setting Plan) (grid : Grid) (handle : Handle C) (before : Stores V C) (list : List ℤ)
     (may : MachineMayTraverse set grid handle.swapped (machine_between numbers before.vertices before.cells handle.root list (no_tally set.traversal)))
-    (old : Found) (mapping : Held Plan) (after : Stores V C) where
+    (old : BeforeCall) (mapping : Held Plan) (after : Stores V C) where
   abbrev after_of : Handle C × Tally → Machine
   after_of answer = machine_between numbers after.vertices after.cells answer.0.root mapping.list answer.1
 
@@ -120,9 +121,9 @@ module _ {Plan V C : Type 0} (numbers : Numbers V C) (set : Setting Plan) (grid 
           holds = held found.0.0 (subst (λ b. HoldsGrid found.0.0 b (after_of answer)) (sym advanced.swapped) found.2.holds);
         };
         traffic = exact-alike (outlook set.start_level grid handle.swapped) grid.greatest begins.vertices (after_of answer).vertices begins.cells (after_of answer).cells before.vertices after.vertices before.cells after.cells answer.1
-            (unseen (seen_vertex numbers.vertex) before.vertices) (unseen (seen_vertex numbers.vertex) after.vertices) (unseen (seen_cell numbers.cell) before.cells) (unseen (seen_cell numbers.cell) after.cells) exact.traffic;
+            (unseen (record_of numbers.vertex) before.vertices) (unseen (record_of numbers.vertex) after.vertices) (unseen (seen_cell numbers.cell) before.cells) (unseen (seen_cell numbers.cell) after.cells) exact.traffic;
         few = exact.few;
-        rises = raises-alike begins.vertices (after_of answer).vertices before.vertices after.vertices (64 * (answer.1.cells + 1)) (unseen (seen_vertex numbers.vertex) before.vertices) (unseen (seen_vertex numbers.vertex) after.vertices) exact.rises;
+        rises = raises-alike begins.vertices (after_of answer).vertices before.vertices after.vertices (64 * (answer.1.cells + 1)) (unseen (record_of numbers.vertex) before.vertices) (unseen (record_of numbers.vertex) after.vertices) exact.rises;
         cells_rise = raises-alike begins.cells (after_of answer).cells before.cells after.cells (64 * (answer.1.cells + 1)) (unseen (seen_cell numbers.cell) before.cells) (unseen (seen_cell numbers.cell) after.cells) exact.cells_rise;
       }
     where

@@ -9,16 +9,17 @@ use Rattle.pe_base.specs.declared.kind.Kind.TheVariants.{Kept, Born, Dying, Hang
 use Rattle.pe_base.specs.declared.event.Event.TheVariants.{EnterCell, LeaveCell, DestroyCell}
 use Rattle.pe_base.specs.declared.tally.Tally.{Tally}
 use Rattle.pe_base.specs.Acts.Effects.{VertexRecord, Fresh}
-use Rattle.pe_base.specs.Walk.Course.{Course, Push, limit_at, at_once, course_map, and_then, done}
+use Rattle.pe_base.specs.Walk.Course.{Course, Push, limit_at, at_once, course_map, and_then, done, allowed}
 use Rattle.pe_base.specs.Walk.Core.{Setting, Family, Own, cell_event, enter_touch, leave_touch}
 use Rattle.pe_stacks.specs.declared.record.CellRec.{CellRec}
 use Rattle.pe_stacks.specs.Holdings.{Holdings, items_at, len_at, lent, given_up, popped, pushed}
-use Rattle.pe_mapping.specs.Held.{Told, Adds}
-use Rattle.pe_mapping.proofs.Texts.{adds-nothing, part-nothing}
+use Rattle.pe_base.specs.Calls.Told.{Told, Adds}
+use Rattle.pe_base.proofs.Calls.Texts.{adds-nothing, part-nothing}
 use Rattle.pe_hang.specs.InHand.{map_holdings}
-use Rattle.pe_hang.specs.Moves.{allowed, may_rise, lend, give_up, pop, push}
-use Rattle.pe_hang.specs.Follows.{Follows, Fits, is_fit, Failure, halted, unwritten, wanting, unheard_of, Found, HasOverfull, held_by, read_by}
-use Rattle.pe_hang.proofs.Leading.{and_then-fits, follows-map, follows-behind, leads_start, leads_next, leads_rest, leads_err, leads_last}
+use Rattle.pe_hang.specs.Moves.{may_rise, lend, give_up, pop, push}
+use Rattle.pe_base.specs.Calls.Follows.{Follows, Fits, is_fit, Failure, halted, unwritten, wanting, unheard_of, BeforeCall, HasOverfull, read_by}
+use Rattle.pe_stacks.specs.RecordsOut.{held_by}
+use Rattle.pe_base.proofs.Calls.Leading.{and_then-fits, follows-map, follows-behind, leads_start, leads_next, leads_rest, leads_err, leads_last}
 use Rattle.pe_hang.proofs.Moving.{allowed-fits, allowed-is, lend-is, pop-is, give_up-is, push-is}
 use Rattle.pe_base.specs.Walk.Touches.{tally_cell}
 use Rattle.pe_walk.specs.Machine.{Machine, Ports, tally_may_rise, within_limit, count_cell, cell_output, kind_of_cell, cell_comes, cell_goes, enter_cell, leave_cell}
@@ -45,7 +46,7 @@ module _ {Plan X : Type 0} (f : X → List ℤ) (set : Setting Plan) (ports : Po
       comes-fits fits = and_then-fits (cell_comes set ports kind (on_cells held family)) entering (subst Fits enters-is fits)
 
       -- what comes is entered
-      pub entered : {A E : Type 0} (held' held'' : Holdings X) (x : List ℤ) (after : A → Own × Family) (means : E → Failure) (result : Result A E) (found : Found) (new : Told)
+      pub entered : {A E : Type 0} (held' held'' : Holdings X) (x : List ℤ) (after : A → Own × Family) (means : E → Failure) (result : Result A E) (found : BeforeCall) (new : Told)
           → cell_comes set ports kind (on_cells held family) ≡ at_once (x, on_cells held'' family) → OnOk result (held' ≡ held'')
           → Follows (enter_touch set kind x cell corners family) after (read_by means result) found new
           → Follows enters (λ a. ((after a).0, on_cells held' (after a).1)) (read_by means result) found new
@@ -97,14 +98,14 @@ module _ {Plan X : Type 0} (f : X → List ℤ) (set : Setting Plan) (ports : Po
     enters-stored Hanging x corners born = refl
 
     -- where its record was stored, a cell is entered by one event
-    pub enter-stored : {A : Type 0} (x : List ℤ) (corners : List VertexRecord) (after : A → Own × Family) (answer : Result A Failure) (found : Found) (new : Told)
+    pub enter-stored : {A : Type 0} (x : List ℤ) (corners : List VertexRecord) (after : A → Own × Family) (answer : Result A Failure) (found : BeforeCall) (new : Told)
         → (kind ≡ Born → ⊥) → Follows (cell_event set EnterCell cell (record { cell = x; corners = corners }, family)) after answer found new
         → Follows (enter_touch set kind x cell corners family) after answer found new
     enter-stored x corners after answer found new born is =
         subst (λ course. Follows course after answer found new) (sym (enters-stored kind x corners born)) is
 
     -- where its record is made, by two
-    pub enter-made : {A : Type 0} (x : List ℤ) (corners : List VertexRecord) (after : A → Own × Family) (answer : Result A Failure) (found : Found) (new : Told)
+    pub enter-made : {A : Type 0} (x : List ℤ) (corners : List VertexRecord) (after : A → Own × Family) (answer : Result A Failure) (found : BeforeCall) (new : Told)
         → kind ≡ Born → Follows (enter_touch set Born x cell corners family) after answer found new
         → Follows (enter_touch set kind x cell corners family) after answer found new
     enter-made x corners after answer found new born is =
@@ -123,8 +124,8 @@ module _ {Plan X : Type 0} (f : X → List ℤ) (set : Setting Plan) (ports : Po
           course_map (λ m. (after.0.corners, m)) (cell_goes set ports k after.0.cell (on_cells held after.1)))) is_kind
 
       -- the core of leaving was left
-      module _ {A : Type 0} (after : A → Own × Family) (found : Found) (new : Told) where
-        abbrev now : Found
+      module _ {A : Type 0} (after : A → Own × Family) (found : BeforeCall) (new : Told) where
+        abbrev now : BeforeCall
         now = record found { told = new }
 
         pub left-failed : {B : Type 0} (after' : B → List VertexRecord × Machine) (failure : Failure)
@@ -230,15 +231,15 @@ module _ {Plan : Type 0} (set : Setting Plan) (cell : Place) (own : Own) (family
   leaving Dying stays = absurd (stays refl)
   leaving Hanging stays = refl
 
-  pub leave-stays : {A : Type 0} (kind : Kind) (after : A → Own × Family) (answer : Result A Failure) (found : Found) (new : Told) → (kind ≡ Dying → ⊥)
+  pub leave-stays : {A : Type 0} (kind : Kind) (after : A → Own × Family) (answer : Result A Failure) (found : BeforeCall) (new : Told) → (kind ≡ Dying → ⊥)
       → Follows (cell_event set LeaveCell cell (own, family)) after answer found new → Follows (leave_touch set kind cell own family) after answer found new
   leave-stays kind after answer found new stays is = subst (λ course. Follows course after answer found new) (sym (leaving kind stays)) is
 
-  pub leave-dies : {A : Type 0} (kind : Kind) (after : A → Own × Family) (answer : Result A Failure) (found : Found) (new : Told) → kind ≡ Dying
+  pub leave-dies : {A : Type 0} (kind : Kind) (after : A → Own × Family) (answer : Result A Failure) (found : BeforeCall) (new : Told) → kind ≡ Dying
       → Follows (and_then (cell_event set LeaveCell cell (own, family)) (cell_event set DestroyCell cell)) after answer found new → Follows (leave_touch set kind cell own family) after answer found new
   leave-dies kind after answer found new dies is = subst (λ k. Follows (leave_touch set k cell own family) after answer found new) (sym dies) is
 
-  pub leave-fails : {A B : Type 0} (kind : Kind) (after : A → Own × Family) (after' : B → Own × Family) (failure : Failure) (found : Found) (new : Told)
+  pub leave-fails : {A B : Type 0} (kind : Kind) (after : A → Own × Family) (after' : B → Own × Family) (failure : Failure) (found : BeforeCall) (new : Told)
       → Follows (cell_event set LeaveCell cell (own, family)) after (Err failure) found new → Follows (leave_touch set kind cell own family) after' (Err failure) found new
   leave-fails kind after after' failure found new is = at kind
     where
@@ -296,7 +297,7 @@ module _ {Plan : Type 0} (set : Setting Plan) (ports : Ports) (cell : Place) (m 
   not-above : (a b : ℕ) → a ≤ b → nat_lt b a ≡ false
   not-above a b few = grind (arith, nat_tests)
 
-  pub counts-on : (found : Found) → Fits counts → counted.tally.cells ≤ set.max_cells → Follows counts (λ (u : Unit {0}). counted) (Ok tt) found found.told
+  pub counts-on : (found : BeforeCall) → Fits counts → counted.tally.cells ≤ set.max_cells → Follows counts (λ (u : Unit {0}). counted) (Ok tt) found found.told
   counts-on found fits few =
       let is = counts-is fits false (not-above counted.tally.cells set.max_cells few) in
       record {
@@ -304,7 +305,7 @@ module _ {Plan : Type 0} (set : Setting Plan) (ports : Ports) (cell : Place) (m 
         told = subst (λ text. Adds found.told text found.told) (sym (ap (λ c. c.text) is)) (adds-nothing found.told);
       }
 
-  pub counts-past : {A : Type 0} (after : A → Machine) (found : Found) → Fits counts → set.max_cells < counted.tally.cells → Follows counts after (Err (halted (limit_at cell))) found found.told
+  pub counts-past : {A : Type 0} (after : A → Machine) (found : BeforeCall) → Fits counts → set.max_cells < counted.tally.cells → Follows counts after (Err (halted (limit_at cell))) found found.told
   counts-past after found fits past =
       let is = counts-is fits true (lt-ltb set.max_cells counted.tally.cells past) in
       record {

@@ -7,19 +7,20 @@ use Rattle.pe_base.specs.Acts.Effects.{Rules}
 use Rattle.pe_base.specs.Walk.Course.{Ending, done, halts, stuck, Course}
 use Rattle.pe_base.specs.Walk.Core.{Setting}
 use Rattle.pe_base.specs.Walk.Working.{Working}
-use Rattle.pe_mapping.specs.Held.{Held, Told, Adds, AddsPart}
+use Rattle.pe_mapping.specs.Held.{Held}
+use Rattle.pe_base.specs.Calls.Told.{Told, Adds, AddsPart}
 use Rattle.pe_hang.specs.InHand.{setting_of}
-use Rattle.pe_hang.specs.Follows.{is_fit, Fits, Found, Failure, halted, unwritten, wanting, unheard_of, Follows, Does, read_by}
+use Rattle.pe_base.specs.Calls.Follows.{is_fit, Fits, BeforeCall, Failure, halted, unwritten, wanting, unheard_of, Follows, Does, read_by}
 use Rattle.pe_walk.specs.declared.settings.Settings.{Settings}
 use Rattle.pe_walk.specs.Machine.{Machine, Ports}
 use Rattle.pe_walk.specs.Machine as machine
 use Rattle.pe_walk.specs.Gridded.{ports_of}
 use Rattle.pe_walk.specs.InHand.{setting_in, ports_of as ports_in}
-use Rattle.pe_walk.specs.CellTraffic.{CountsAreFew}
+use Rattle.pe_order.specs.CellTraffic.{CountsAreFew}
 use Rattle.pe_walk.specs.Traversing.{Stores}
 use Rattle.pe_walk.specs.FaceLaw.{Moment, MayWalk, IsAt, HasWalked, CellEndsAlike, IsBrief, IsCellWalked, WalksCell, CellAnswers, by_address}
 use Rattle.pe_walk.proofs.Traversing.{of_all}
-use Rattle.pe_walk.proofs.Tokens.CellTraffic.{still_few}
+use Rattle.pe_order.proofs.Tokens.CellTraffic.{still_few}
 use Rattle.pe_walk.proofs.Simulation.FaceLaw.{law_of_a_face}
 use Rattle.pe_walk.proofs.Simulation.Tallied.Alike.{CountAlike, cell-alike}
 use Rattle.pe_walk.proofs.Simulation.Tallied.Cells.{cells_are_exact}
@@ -66,7 +67,7 @@ module _ {Plan : Type 0} (set : Setting Plan) (at : Moment) (begins : Machine) (
   halts_of cause (halts other) alike = ap halts alike
   halts_of cause stuck alike = absurd alike
 
-  module _ {V C : Type 0} (old : Found) (before : Stores V C) (new : Told) (after : Stores V C) (m : Machine)
+  module _ {V C : Type 0} (old : BeforeCall) (before : Stores V C) (new : Told) (after : Stores V C) (m : Machine)
       (vertices : CountAlike begins.vertices before.vertices) (cells : CountAlike begins.cells before.cells) (vertices' : CountAlike m.vertices after.vertices) (cells' : CountAlike m.cells after.cells)
       (few : CountsAreFew set.max_cells begins.tally before.vertices before.cells) where
     walks : Does course (done m) old.told new → WalksCell set at (by_address set at) old.told new before begins.tally after m

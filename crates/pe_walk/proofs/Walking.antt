@@ -5,10 +5,10 @@ use Rattle.pe_base.specs.Walk.Course.{Course, and_then}
 use Rattle.pe_base.specs.Walk.Core.{Setting}
 use Rattle.pe_stacks.specs.Holdings.{KeepsRoom}
 use Rattle.pe_mapping.specs.Held.{Keeps}
-use Rattle.pe_mapping.specs.Sights.{Numbers}
-use Rattle.pe_hang.specs.Follows.{Failure, Follows, Fits, IsRoomier}
-use Rattle.pe_hang.proofs.Leading.{follows-then, leads_start, leads_rest, leads_next, leads_err, setting-kept}
-use Rattle.pe_hang.proofs.Staying.{stays-then}
+use Rattle.pe_stacks.specs.Sights.{Numbers}
+use Rattle.pe_base.specs.Calls.Follows.{Failure, Follows, Fits, IsRoomier}
+use Rattle.pe_base.proofs.Calls.Leading.{follows-then, leads_start, leads_rest, leads_next, leads_err}
+use Rattle.pe_hang.proofs.Staying.{setting-kept, stays-then}
 use Rattle.pe_adapt.specs.declared.stop.Halt.{Halt}
 use Rattle.pe_walk.specs.declared.settings.Settings.{Settings}
 use Rattle.pe_walk.specs.InHand.{setting_in}

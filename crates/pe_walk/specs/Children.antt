@@ -5,8 +5,8 @@ use Rattle.pe_base.specs.Tree.Places.{IsCellPlace, IsDigits, child_at}
 use Rattle.pe_base.specs.Acts.Effects.{VertexRecord}
 use Rattle.pe_access.specs.States.{StandsFor, row_turns}
 use Rattle.pe_access.specs.Rows.{IsRow}
-use Rattle.pe_states.specs.Sides.{IsRow as IsRowOfMarks}
-use Rattle.pe_adapt.specs.Marked.{AreMarksOf, GiveKinds}
+use Rattle.pe_states.specs.Sides.{IsRow as IsRowOfAges}
+use Rattle.pe_adapt.specs.Ages.{AreAgesOf, GiveKinds}
 use Rattle.pe_walk.specs.declared.settings.Settings.{Settings}
 use Rattle.pe_walk.specs.declared.child.Above.{Above}
 use Rattle.pe_walk.specs.declared.child.Child.{Child}
@@ -21,13 +21,13 @@ pub record IsAbove (axes : ℕ) (settings : Settings) (above : Above) : Type 0 w
 abbrev pub AreInOneRow : ℕ → Digits → Digits → Type 0
 AreInOneRow axes digits digits' = (i : ℕ) → i < axes - 1 → slice_index digits.k i ≡ slice_index digits'.k i
 
--- what is known of a child holds of it; its marks give its corners' kinds wherever those of the cell above are its parents'
+-- what is known of a child holds of it; its ages give its corners' kinds wherever those of the cell above are its parents'
 pub record IsChild (axes : ℕ) (settings : Settings) (above : Above) (child : Child) : Type 0 where
   pub digits : IsDigits axes child.digits
   pub place : child.cell.place ≡ child_at above.place child.digits
   pub state : StandsFor axes settings.way (child_at above.place child.digits) child.cell.state
   pub row : IsRow child.cell.state child.cell.row
-  pub row_marks : IsRowOfMarks axes child.digits above.marks child.row_marks
+  pub row_ages : IsRowOfAges axes child.digits above.ages child.row_ages
   pub turns : child.turns ≡ row_turns above.state child.digits
   pub few : child.turns < 12
-  pub kinds : (its : List VertexRecord) → AreMarksOf axes its above.marks → GiveKinds axes settings.traversal child.cell.place its child.cell.marks
+  pub kinds : (its : List VertexRecord) → AreAgesOf axes its above.ages → GiveKinds axes settings.traversal child.cell.place its child.cell.ages

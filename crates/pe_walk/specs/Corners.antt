@@ -9,13 +9,14 @@ use Rattle.pe_stacks.specs.declared.record.CellRec.{CellRec}
 use Rattle.pe_stacks.specs.Corners.{CornerList, IsFull}
 use Rattle.pe_stacks.specs.Filled.{FullFrom}
 use Rattle.pe_stacks.specs.Holdings.{Holdings}
-use Rattle.pe_mapping.specs.Held.{Held}
-use Rattle.pe_mapping.specs.Sights.{Numbers, seen_corners}
+use Rattle.pe_mapping.specs.Held.{Held, found_of}
+use Rattle.pe_stacks.specs.Sights.{Numbers, corner_records}
 use Rattle.pe_hang.specs.InHand.{Stays}
-use Rattle.pe_hang.specs.Follows.{Found, Failure, Follows, Leads, Fits, Left, read_by, found_of, held_by}
+use Rattle.pe_base.specs.Calls.Follows.{BeforeCall, Failure, Follows, Leads, Fits, read_by}
+use Rattle.pe_stacks.specs.RecordsOut.{RecordsOut, held_by}
 use Rattle.pe_adapt.specs.declared.stop.Halt.{Halt}
 use Rattle.pe_adapt.specs.Slots.{seen_slot}
-use Rattle.pe_adapt.specs.Marked.{GiveKinds}
+use Rattle.pe_adapt.specs.Ages.{GiveKinds}
 use Rattle.pe_walk.specs.declared.settings.Settings.{Settings}
 use Rattle.pe_walk.specs.declared.progress.Progress.{Progress}
 use Rattle.pe_walk.specs.declared.walked.WalkedCell.{WalkedCell}
@@ -38,7 +39,7 @@ hand_of held vertices room parents parent progress =
 abbrev pub machine_of : {Plan V C : Type 0} → Numbers V C → Holdings (List ℤ) → Hand Plan V C → Machine
 machine_of numbers cells hand = machine_in_hand numbers hand.vertices cells hand.parents hand.parent hand.held.list hand.progress.tally
 
-abbrev pub found_in : {Plan V C : Type 0} → Hand Plan V C → (ℕ → ℕ) → Found
+abbrev pub found_in : {Plan V C : Type 0} → Hand Plan V C → (ℕ → ℕ) → BeforeCall
 found_in hand room = found_of hand.held (held_by hand.vertices hand.room) room
 
 -- how many vertices are in slots
@@ -76,14 +77,14 @@ pub record GoesAlong {Plan V C X : Type 0} (rules : Rules Plan) (numbers : Numbe
   pub follows : (cells : Holdings (List ℤ)) (room : ℕ → ℕ) → Follows
       (course (setting_in rules old.held settings) (machine_of numbers cells old)) (λ (done : Unit {0}). after (machine_of numbers cells new))
       (read_by (failure_in new.progress) result) (found_in old room) new.held.told
-  pub left : Left had has old.vertices old.room new.vertices new.room false
+  pub left : RecordsOut had has old.vertices old.room new.vertices new.room false
   pub stays : Stays numbers.vertex old.held new.held old.parents new.parents
   pub counted : new.progress.tally.cells ≡ old.progress.tally.cells
 
 -- A course is left, and then another one. Where a call comes through, the first leads to the second; where it fails, the first
 -- fails, whatever would have come of it.
 module _ {X : Type 0} where
-  abbrev pub LeadsOn : Course X → Course X → Result (Unit {0}) Failure → Found → Found → Type 0
+  abbrev pub LeadsOn : Course X → Course X → Result (Unit {0}) Failure → BeforeCall → BeforeCall → Type 0
   LeadsOn whole rest (Ok done) old now = Leads whole old now rest
   LeadsOn whole rest (Err failure) old now = (after : Unit {0} → X) → Follows whole after (Err failure) old now.told
 
@@ -92,13 +93,13 @@ pub record GoesOn {Plan V C X : Type 0} (rules : Rules Plan) (numbers : Numbers 
   pub leads : (cells : Holdings (List ℤ)) (room : ℕ → ℕ) → LeadsOn
       (whole (setting_in rules old.held settings) (machine_of numbers cells old)) (rest (setting_in rules old.held settings) (machine_of numbers cells new))
       (read_by (failure_in new.progress) result) (found_in old room) (found_in new room)
-  pub left : Left had has old.vertices old.room new.vertices new.room false
+  pub left : RecordsOut had has old.vertices old.room new.vertices new.room false
   pub stays : Stays numbers.vertex old.held new.held old.parents new.parents
   pub counted : new.progress.tally.cells ≡ old.progress.tally.cells
 
 -- what is left to do for a cell, by the corners in their slots
 abbrev pub left_of : {Plan V C X : Type 0} → (Setting Plan → Ports → Place → List VertexRecord → Machine → Course X) → Numbers V C → Settings → Place → CornerList (Vertex V) → Setting Plan → Machine → Course X
-left_of course numbers settings cell corners set m = course set (ports_of settings) cell (seen_corners numbers.vertex corners) m
+left_of course numbers settings cell corners set m = course set (ports_of settings) cell (corner_records numbers.vertex corners) m
 
 -- some of it is done
 abbrev pub TouchesOn : {Plan V C X : Type 0} → Rules Plan → Numbers V C → Settings → (Setting Plan → Ports → Place → List VertexRecord → Machine → Course X) → Place → CornerList (Vertex V) → CornerList (Vertex V) → Result (Unit {0}) Halt → Hand Plan V C → Hand Plan V C → Type 0
@@ -115,7 +116,7 @@ pub record HasLast {Plan V C : Type 0} (settings : Settings) (cell : WalkedCell)
 -- the corners before them may be loaded
 pub record MayLoad {Plan V C : Type 0} (rules : Rules Plan) (numbers : Numbers V C) (settings : Settings) (cell : WalkedCell) (corners : CornerList (Vertex V)) (hand : Hand Plan V C) : Type 0 where
   pub here : HasLast settings cell corners hand
-  pub kinds : GiveKinds hand.held.dim settings.traversal cell.place (seen_corners numbers.vertex hand.parents) cell.marks
+  pub kinds : GiveKinds hand.held.dim settings.traversal cell.place (corner_records numbers.vertex hand.parents) cell.ages
   pub fits : MayGo rules numbers settings (left_of loads_left numbers settings cell.place corners) hand
 
 -- and they themselves stored

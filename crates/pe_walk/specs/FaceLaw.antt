@@ -18,17 +18,17 @@ use Rattle.pe_base.specs.Walk.Walk as model
 use Rattle.pe_access.specs.declared.state.CellState.{CellState}
 use Rattle.pe_access.specs.States.{StandsFor}
 use Rattle.pe_stacks.specs.Grid.{input_stack, cell_input_stack}
-use Rattle.pe_mapping.specs.Held.{Told, AddsPart}
-use Rattle.pe_mapping.specs.Moments.{IsTraversal}
-use Rattle.pe_hang.specs.Follows.{Found, Failure, halted, unwritten, wanting, unheard_of, IsOverfull, Does, FailsToTell}
+use Rattle.pe_base.specs.Calls.Told.{Told, AddsPart, FailsToTell}
+use Rattle.pe_base.specs.Acts.Moments.{IsTraversal}
+use Rattle.pe_base.specs.Calls.Follows.{BeforeCall, Failure, halted, unwritten, wanting, unheard_of, IsOverfull, Does}
 use Rattle.pe_walk.specs.Machine.{Machine, Ports, with_parents}
 use Rattle.pe_walk.specs.Machine as machine
-use Rattle.pe_walk.specs.Tokens.{Tokens}
-use Rattle.pe_walk.specs.Takings.{loads_of, takes, gives, cell_takes, cell_gives, met_after, Due, MayBegin, HasEnded}
+use Rattle.pe_order.specs.Tokens.{Tokens}
+use Rattle.pe_order.specs.Takings.{loads_of, takes, gives, cell_takes, cell_gives, met_after, Due, MayBegin, HasEnded}
 use Rattle.pe_walk.specs.Standing.{Outset, Stage, Holds, IsOutset, IsStage}
 use Rattle.pe_walk.specs.Images.{image_of}
 use Rattle.pe_walk.specs.Gridded.{MachineMayTraverse, ports_of}
-use Rattle.pe_walk.specs.CellTraffic.{CellTraffic, CountsAreFew}
+use Rattle.pe_order.specs.CellTraffic.{CellTraffic, CountsAreFew}
 use Rattle.pe_walk.specs.Traversing.{Stores}
 
 -- Where a traversal stands as a cell is to be walked: what is fixed for it, which cells are walked, the stage, how many
@@ -127,14 +127,14 @@ pub record WalksCell {Plan V C : Type 0} (set : Setting Plan) (at : Moment) (cou
   pub few : CountsAreFew set.max_cells m.tally after.vertices after.cells
 
 -- a part of the text was added, and there was no memory: of a mapping that is sure, some push had no room
-pub record WantsBriefRoom {Plan : Type 0} (set : Setting Plan) (at : Moment) (course : Course Working) (old : Found) (new : Told) : Type 0 where
+pub record WantsBriefRoom {Plan : Type 0} (set : Setting Plan) (at : Moment) (course : Course Working) (old : BeforeCall) (new : Told) : Type 0 where
   pub told : AddsPart old.told course.text new
   pub room : old.sure ≡ true → (push : Push) × IsBrief set at push × IsOverfull old push
 
-abbrev pub CellAnswers : {Plan A V C : Type 0} → Setting Plan → Moment → Course Working → Result A Failure → Found → Stores V C → Tally → Told → Stores V C → Machine → Type 0
+abbrev pub CellAnswers : {Plan A V C : Type 0} → Setting Plan → Moment → Course Working → Result A Failure → BeforeCall → Stores V C → Tally → Told → Stores V C → Machine → Type 0
 CellAnswers set at course (Ok it) old before tally new after m = WalksCell set at course old.told new before tally after m
 CellAnswers set at course (Err (halted cause)) old before tally new after m = Does course (halts cause) old.told new
-CellAnswers set at course (Err unwritten) old before tally new after m = FailsToTell course old.told new
+CellAnswers set at course (Err unwritten) old before tally new after m = FailsToTell course.text old.told new
 CellAnswers set at course (Err wanting) old before tally new after m = WantsBriefRoom set at course old new
 CellAnswers set at course (Err unheard_of) old before tally new after m = ⊥
 

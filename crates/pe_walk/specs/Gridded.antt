@@ -2,38 +2,32 @@
 use Rattle.std.specs.Prelude.{◌≡◌, ◌≢◌, ◌⊎◌, ℕ, ◌+◌, ◌-◌, ◌*◌, ◌^◌, ◌≤◌, ◌<◌, Bool, not, ◌==◌, [], map, length, if◌then◌else◌}
 use Rattle.std.specs.List.{flat_map, AllByRecursion}
 use Rattle.pe_base.specs.declared.tally.Tally.{Tally}
-use Rattle.pe_base.specs.Acts.Effects.{VertexRecord, AreLawful}
+use Rattle.pe_base.specs.Acts.Effects.{AreLawful}
+use Rattle.pe_base.specs.Limits.{most_cells}
 use Rattle.pe_base.specs.Tree.Places.{root}
 use Rattle.pe_base.specs.Tree.Ways.{way_of}
 use Rattle.pe_base.specs.Tree.Curve.{children}
 use Rattle.pe_base.specs.Walk.Course.{Ending, done, halts, stuck, Push, Course}
 use Rattle.pe_base.specs.Walk.Core.{Setting}
 use Rattle.pe_base.specs.Walk.Working.{no_tally}
-use Rattle.pe_base.specs.Walk.Grids.{Grid, StoredVertex, IsWellFormed}
+use Rattle.pe_base.specs.Walk.Grids.{Grid, IsWellFormed}
 use Rattle.pe_base.specs.Walk.Foreseen.{next_traversal, walks}
 use Rattle.pe_base.specs.Walk.Streams.{walked_cells, vertex_stream, cell_stream}
 use Rattle.pe_base.specs.Walk.Walk as model
-use Rattle.pe_stacks.specs.Holdings.{stack_count, items_at, CountsWithin}
+use Rattle.pe_stacks.specs.Holdings.{CountsWithin}
 use Rattle.pe_stacks.specs.Grid.{input_stack, cell_input_stack}
+use Rattle.pe_stacks.specs.StreamsHeld.{Streams, DepotsHold}
 use Rattle.pe_walk.specs.Machine.{Machine, Ports}
 use Rattle.pe_walk.specs.Machine as machine
-use Rattle.pe_walk.specs.Outlooks.{IsNew}
+use Rattle.pe_order.specs.Outlooks.{IsNew}
 
--- of a record on a stream what is stored: its kind means nothing between two traversals
-abbrev pub stored_of : VertexRecord → StoredVertex
-stored_of it = record { state = it.state; numbers = it.numbers }
+-- a grid as its streams
+abbrev pub streams_of : Grid → Streams
+streams_of grid = record { vertices = vertex_stream grid; cells = cell_stream grid; root = grid.root; list = grid.list }
 
--- The input stacks hold a grid's streams, and nothing else lies anywhere or is out; the root's numbers and the mapping's
--- list are in hand.
-pub record HoldsGrid (grid : Grid) (swapped : Bool) (m : Machine) : Type 0 where
-  pub stacks : stack_count m.vertices ≡ 10
-  pub cell_stacks : stack_count m.cells ≡ 2
-  pub vertices : (s : ℕ) → map stored_of (items_at m.vertices s) ≡ (if s == input_stack swapped then vertex_stream grid else [])
-  pub cells : (s : ℕ) → items_at m.cells s ≡ (if s == cell_input_stack swapped then cell_stream grid else [])
-  pub none_out : m.vertices.out ≡ 0
-  pub no_cell_out : m.cells.out ≡ 0
-  pub root : m.family.parent ≡ grid.root
-  pub list : m.family.list ≡ grid.list
+-- the machine's stacks hold a grid
+abbrev pub HoldsGrid : Grid → Bool → Machine → Type 0
+HoldsGrid grid swapped m = DepotsHold (streams_of grid) swapped m.vertices m.cells m.family.parent m.family.list
 
 -- what is set fits the grid
 pub record IsTraversalOf {Plan : Type 0} (set : Setting Plan) (grid : Grid) : Type 0 where
@@ -42,7 +36,7 @@ pub record IsTraversalOf {Plan : Type 0} (set : Setting Plan) (grid : Grid) : Ty
   pub greatest : set.rules.greatest set.plan ≡ grid.greatest
   pub start_level : set.start_level ≤ grid.greatest
   pub traversal : set.traversal ≡ grid.finished + 1
-  pub max_cells : set.max_cells ≤ 4194304
+  pub max_cells : set.max_cells ≤ most_cells
 
 -- a traversal may begin
 pub record MachineMayTraverse {Plan : Type 0} (set : Setting Plan) (grid : Grid) (swapped : Bool) (m : Machine) : Type 0 where

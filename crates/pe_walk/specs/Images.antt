@@ -8,7 +8,7 @@ use Rattle.pe_base.specs.Walk.Core.{Setting}
 use Rattle.pe_base.specs.Walk.Working.{Working, vertex_at, cell_at, family_of}
 use Rattle.pe_hang.specs.InHand.{map_holdings}
 use Rattle.pe_walk.specs.Machine.{Machine}
-use Rattle.pe_walk.specs.Tokens.{Tokens}
+use Rattle.pe_order.specs.Tokens.{Tokens}
 use Rattle.pe_walk.specs.Standing.{Outset}
 
 module _ {Plan : Type 0} (set : Setting Plan) (e : Outset) where

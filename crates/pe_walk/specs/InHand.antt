@@ -11,9 +11,9 @@ use Rattle.pe_stacks.specs.declared.record.CellRec.{CellRec}
 use Rattle.pe_stacks.specs.Corners.{CornerList}
 use Rattle.pe_stacks.specs.Holdings.{Holdings}
 use Rattle.pe_mapping.specs.Held.{Held}
-use Rattle.pe_mapping.specs.Sights.{Numbers, seen_cell}
+use Rattle.pe_stacks.specs.Sights.{Numbers, seen_cell}
 use Rattle.pe_hang.specs.InHand.{setting_of, family_in_hand, vertices_on_stacks, cells_on_stacks}
-use Rattle.pe_hang.specs.Follows.{Failure}
+use Rattle.pe_base.specs.Calls.Follows.{Failure}
 use Rattle.pe_adapt.specs.declared.stop.Halt.{Halt}
 use Rattle.pe_adapt.specs.Stops.{failure_of_halt}
 use Rattle.pe_walk.specs.declared.settings.Settings.{Settings}

@@ -12,11 +12,11 @@ use Rattle.pe_base.specs.Tree.Places.{root, corner}
 use Rattle.pe_base.specs.Tree.Curve.{children}
 use Rattle.pe_base.specs.Steps.Routes.{stack_in, stack_out}
 use Rattle.pe_base.specs.Acts.Effects.{VertexRecord}
-use Rattle.pe_base.specs.Walk.Course.{Course, ends, stuck, halts, limit_at, at_once, and_then, course_map, each}
+use Rattle.pe_base.specs.Walk.Course.{Course, ends, stuck, halts, limit_at, at_once, and_then, course_map, each, allowed}
 use Rattle.pe_base.specs.Walk.Core.{Setting, way, Family, Own, fresh_vertex, plain_event, enter_touch, leave_touch}
 use Rattle.pe_base.specs.Walk.Touches.{tally_load, tally_store, tally_cell, kind_below}
 use Rattle.pe_stacks.specs.Holdings.{Holdings}
-use Rattle.pe_hang.specs.Moves.{allowed, may_rise, lend, give_up, pop, push}
+use Rattle.pe_hang.specs.Moves.{may_rise, lend, give_up, pop, push}
 use Rattle.pe_adapt.specs.Touches.{Desk, kind_in_hand}
 use Rattle.pe_adapt.specs.Touches as corners
 

@@ -23,15 +23,15 @@ use Rattle.pe_base.specs.Walk.Touches.{kind_of_vertex}
 use Rattle.pe_stacks.specs.Holdings.{stack_at, items_at, len_at, stack_count}
 use Rattle.pe_stacks.specs.Grid.{input_stack, output_stack, cell_input_stack}
 use Rattle.pe_adapt.specs.Touches.{kind_in_hand}
-use Rattle.pe_walk.specs.Laws.{IsCell}
-use Rattle.pe_walk.specs.Tokens.{Outlook, Tokens, cells_before}
-use Rattle.pe_walk.specs.Takings.{Grown}
+use Rattle.pe_order.specs.Laws.{IsCell}
+use Rattle.pe_order.specs.Tokens.{Outlook, Tokens, cells_before}
+use Rattle.pe_order.specs.Takings.{Grown}
 use Rattle.pe_walk.specs.CoreKeeps.{IsFinest}
-use Rattle.pe_walk.specs.CellsAhead.{CellsAhead}
-use Rattle.pe_walk.specs.Apart.{IsApart, lies, occurs}
-use Rattle.pe_walk.specs.Traffic.{OnlyCounting}
-use Rattle.pe_walk.specs.Outlooks.{was_stored}
-pub use Rattle.pe_walk.specs.CellsAhead.{times, CellsAhead}
+use Rattle.pe_order.specs.CellsAhead.{CellsAhead}
+use Rattle.pe_order.specs.Apart.{IsApart, lies, occurs}
+use Rattle.pe_order.specs.Traffic.{OnlyCounting}
+use Rattle.pe_order.specs.Outlooks.{was_stored}
+pub use Rattle.pe_order.specs.CellsAhead.{times, CellsAhead}
 
 -- What is foreseen of each place: kinds, and old and new from the first touch to the last, of vertices; the kind of the
 -- children of cells; and what the working state holds of a vertex before the first touch.

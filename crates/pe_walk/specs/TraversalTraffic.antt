@@ -8,9 +8,9 @@ use Rattle.pe_base.specs.Walk.Walk as model
 use Rattle.pe_stacks.specs.Holdings.{RaisesCounts}
 use Rattle.pe_walk.specs.Machine.{Machine}
 use Rattle.pe_walk.specs.Machine as machine
-use Rattle.pe_walk.specs.Outlooks.{outlook}
-use Rattle.pe_walk.specs.FewCells.{most_cells}
-use Rattle.pe_walk.specs.Tallies.{foreseen_tally, ExactTraffic}
+use Rattle.pe_order.specs.Outlooks.{outlook}
+use Rattle.pe_order.specs.FewCells.{most_cells}
+use Rattle.pe_order.specs.Tallies.{foreseen_tally, ExactTraffic}
 use Rattle.pe_walk.specs.Gridded.{MachineMayTraverse, ports_of}
 
 -- The walk by address counts what is foreseen.

@@ -5,6 +5,7 @@
 --     unwritten    a part of its text was added, and the sink failed
 --     wanting      a part of its text was added; of a mapping that is sure, some stack lacked room
 use Rattle.std.specs.Prelude.{◌≡◌, ◌≢◌, ◌⊎◌, ℕ, ◌+◌, ◌*◌, ◌^◌, ◌<◌, ◌≤◌, Bool, true, not, [], if◌then◌else◌, Result, Ok, Err}
+use Rattle.pe_base.specs.Limits.{most_cells, most_traversals}
 use Rattle.pe_base.specs.declared.tally.Tally.{Tally}
 use Rattle.pe_base.specs.Walk.Course.{done, halts, Course}
 use Rattle.pe_base.specs.Walk.Core.{Setting}
@@ -15,13 +16,14 @@ use Rattle.pe_stacks.specs.declared.record.CellRec.{CellRec}
 use Rattle.pe_stacks.specs.declared.grid.Grid.{Grid as Handle}
 use Rattle.pe_stacks.specs.Holdings.{Holdings, stack_count, items_at, RaisesCounts}
 use Rattle.pe_stacks.specs.Grid.{input_stack, cell_input_stack}
-use Rattle.pe_mapping.specs.Held.{Held, Told, AddsPart}
-use Rattle.pe_mapping.specs.Sights.{Numbers}
-use Rattle.pe_hang.specs.Follows.{Found, Failure, halted, unwritten, wanting, unheard_of, Does, FailsToTell}
+use Rattle.pe_mapping.specs.Held.{Held}
+use Rattle.pe_base.specs.Calls.Told.{Told, AddsPart, FailsToTell}
+use Rattle.pe_stacks.specs.Sights.{Numbers}
+use Rattle.pe_base.specs.Calls.Follows.{BeforeCall, Failure, halted, unwritten, wanting, unheard_of, Does}
 use Rattle.pe_walk.specs.Gridded.{HoldsGrid, size}
-use Rattle.pe_walk.specs.Outlooks.{IsNew, outlook}
-use Rattle.pe_walk.specs.FewCells.{most_cells}
-use Rattle.pe_walk.specs.Tallies.{ExactTraffic}
+use Rattle.pe_order.specs.Outlooks.{IsNew, outlook}
+use Rattle.pe_order.specs.FewCells.{most_cells}
+use Rattle.pe_order.specs.Tallies.{ExactTraffic}
 use Rattle.pe_walk.specs.InHand.{machine_between}
 
 -- what depots hold
@@ -59,7 +61,7 @@ HoldAGrid numbers mapping levels depots handle = (grid : Grid) × MayTraverse nu
 
 -- Some stack, which is no input, holds fewer records without asking for memory than the traversal walks cells, and than it
 -- may have corners.
-pub record LacksRoom {Plan : Type 0} (set : Setting Plan) (grid : Grid) (swapped : Bool) (found : Found) : Type 0 where
+pub record LacksRoom {Plan : Type 0} (set : Setting Plan) (grid : Grid) (swapped : Bool) (found : BeforeCall) : Type 0 where
   pub of_cell : Bool
   pub stack : ℕ
   pub there : stack < (if of_cell then 2 else 10)
@@ -81,22 +83,22 @@ pub record Traverses {Plan V C : Type 0} (numbers : Numbers V C) (set : Setting 
   pub cells_rise : RaisesCounts before.cells after.cells (64 * (answer.1.cells + 1))
 
 -- a part of the text was added, and there was no memory
-pub record WantsRoom {Plan : Type 0} (set : Setting Plan) (grid : Grid) (swapped : Bool) (course : Course (Grid × Tally)) (old : Found) (new : Told) : Type 0 where
+pub record WantsRoom {Plan : Type 0} (set : Setting Plan) (grid : Grid) (swapped : Bool) (course : Course (Grid × Tally)) (old : BeforeCall) (new : Told) : Type 0 where
   pub told : AddsPart old.told course.text new
   pub room : old.sure ≡ true → LacksRoom set grid swapped old
 
 -- how far a traversal raises the counts of a depot at most: by 64 for each cell that may be walked, and once more
 abbrev pub most_rise : ℕ
-most_rise = 64 * (4194304 + 1)
+most_rise = 64 * (most_cells + 1)
 
 -- So the counts of depots that were new are within what a traversal asks for, for a billion traversals.
 abbrev pub CountsStay : Type 0
-CountsStay = (finished cells : ℕ) → finished ≤ 1000000000 → cells ≤ 4194304
+CountsStay = (finished cells : ℕ) → finished ≤ most_traversals → cells ≤ most_cells
     → (most_rise * finished ≤ 2 ^ 60) × (most_rise * finished + 64 * (cells + 1) ≤ most_rise * (finished + 1))
 
-abbrev pub Answers : {Plan V C : Type 0} → Numbers V C → Setting Plan → Grid → Bool → Course (Grid × Tally) → Result (Handle C × Tally) Failure → Found → Stores V C → Held Plan → Stores V C → Type 0
+abbrev pub Answers : {Plan V C : Type 0} → Numbers V C → Setting Plan → Grid → Bool → Course (Grid × Tally) → Result (Handle C × Tally) Failure → BeforeCall → Stores V C → Held Plan → Stores V C → Type 0
 Answers numbers set grid swapped course (Ok answer) old before mapping after = Traverses numbers set grid swapped course old.told before mapping after answer
 Answers numbers set grid swapped course (Err (halted cause)) old before mapping after = Does course (halts cause) old.told mapping.told
-Answers numbers set grid swapped course (Err unwritten) old before mapping after = FailsToTell course old.told mapping.told
+Answers numbers set grid swapped course (Err unwritten) old before mapping after = FailsToTell course.text old.told mapping.told
 Answers numbers set grid swapped course (Err wanting) old before mapping after = WantsRoom set grid swapped course old mapping.told
 Answers numbers set grid swapped course (Err unheard_of) old before mapping after = ⊥

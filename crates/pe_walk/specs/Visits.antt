@@ -12,10 +12,11 @@ use Rattle.pe_stacks.specs.declared.record.Vertex.{Vertex}
 use Rattle.pe_stacks.specs.declared.record.CellRec.{CellRec}
 use Rattle.pe_stacks.specs.Corners.{CornerList, IsFull}
 use Rattle.pe_stacks.specs.Holdings.{Holdings}
-use Rattle.pe_mapping.specs.Held.{Held}
-use Rattle.pe_mapping.specs.Sights.{Numbers}
+use Rattle.pe_mapping.specs.Held.{Held, found_of}
+use Rattle.pe_stacks.specs.Sights.{Numbers}
 use Rattle.pe_hang.specs.InHand.{cells_on_stacks, Stays}
-use Rattle.pe_hang.specs.Follows.{Found, Follows, Fits, Left, read_by, found_of, held_by}
+use Rattle.pe_base.specs.Calls.Follows.{BeforeCall, Follows, Fits, read_by}
+use Rattle.pe_stacks.specs.RecordsOut.{RecordsOut, held_by}
 use Rattle.pe_adapt.specs.declared.stop.Halt.{Halt}
 use Rattle.pe_walk.specs.declared.settings.Settings.{Settings}
 use Rattle.pe_walk.specs.declared.progress.Progress.{Progress}
@@ -74,7 +75,7 @@ hands_of held vertices room cells cell_room parents parent progress =
 abbrev pub machine_of : {Plan V C : Type 0} → Numbers V C → Hands Plan V C → Machine
 machine_of numbers hands = machine_in_hand numbers hands.vertices (cells_on_stacks numbers hands.cells) hands.parents hands.parent hands.held.list hands.progress.tally
 
-abbrev pub found_in : {Plan V C : Type 0} → Hands Plan V C → Found
+abbrev pub found_in : {Plan V C : Type 0} → Hands Plan V C → BeforeCall
 found_in hands = found_of hands.held (held_by hands.vertices hands.room) (held_by hands.cells hands.cell_room)
 
 -- A call may walk cells as the machine walks them: they are of a level, or so many levels below it at most.
@@ -94,7 +95,7 @@ Walks rules numbers settings course after result old new = Follows
 -- What a call that walks cells leaves, whatever its answer: no other record is out or in, no more cells are made than are counted,
 -- so many of them ahead of the call, and what no event changes stays.
 pub record WalkLeft {Plan V C : Type 0} (numbers : Numbers V C) (settings : Settings) (ahead : ℕ) (result : Result (Unit {0}) Halt) (old new : Hands Plan V C) : Type 0 where
-  pub vertices : Left 0 0 old.vertices old.room new.vertices new.room (is_err result)
-  pub cells : Left 0 0 old.cells old.cell_room new.cells new.cell_room (is_err result)
+  pub vertices : RecordsOut 0 0 old.vertices old.room new.vertices new.room (is_err result)
+  pub cells : RecordsOut 0 0 old.cells old.cell_room new.cells new.cell_room (is_err result)
   pub counts : CountsCells settings.setup.max_cells ahead old.progress old.cells new.progress new.cells (is_err result)
   pub stays : Stays numbers.vertex old.held new.held old.parents new.parents

@@ -2,8 +2,8 @@
 ghost use Rattle.std.specs.Prelude.{◌≡◌, suc, ◌+◌, ◌≤◌, ◌<◌};
 ghost use Rattle.pe_base.specs.declared.place.Place.{Place as APlace};
 ghost use Rattle.pe_stacks.specs.Corners.{no_vertices};
-ghost use Rattle.pe_mapping.specs.Sights.{seen_corners};
-ghost use Rattle.pe_adapt.specs.Marked.{AreMarksOf, GiveKinds};
+ghost use Rattle.pe_stacks.specs.Sights.{corner_records};
+ghost use Rattle.pe_adapt.specs.Ages.{AreAgesOf, GiveKinds};
 ghost use Rattle.pe_walk.specs.Machine.{kind_among, walk_cell};
 ghost use Rattle.pe_walk.specs.InHand.{ports_of, IsWalked};
 ghost use Rattle.pe_walk.specs.Children.{IsAbove};
@@ -37,8 +37,8 @@ pub(crate) fn walk_cell<M: Mapping, DV: Depot<Vertex<M::V>>, DC: Depot<CellRec<M
         (λ set. walk_cell set (ports_of settings.now) (suc levels) cell.now.place)
         (hands_of (M.held m.old) (DV.holds dv.old) (DV.room dv.old) (DC.holds dc.old) (DC.room dc.old) parents.old parent.old progress.old) }
     requires walked { IsWalked (M.held m.old).dim settings.now cell.now }
-    requires kinds { GiveKinds (M.held m.old).dim settings.now.traversal cell.now.place (seen_corners M.numbers.vertex parents.old) cell.now.marks }
-    requires kind { kind_among settings.now.traversal cell.now.place (seen_corners M.numbers.vertex parents.old) ≡ kind }
+    requires kinds { GiveKinds (M.held m.old).dim settings.now.traversal cell.now.place (corner_records M.numbers.vertex parents.old) cell.now.ages }
+    requires kind { kind_among settings.now.traversal cell.now.place (corner_records M.numbers.vertex parents.old) ≡ kind }
     requires empty { corners.old ≡ no_vertices (M.held m.old).dim }
     ensures follows { Walks M.rules M.numbers settings.now
         (λ set. walk_cell set (ports_of settings.now) (suc levels) cell.now.place)
@@ -81,8 +81,8 @@ pub(crate) fn walk_children<M: Mapping, DV: Depot<Vertex<M::V>>, DC: Depot<CellR
         (hands_of (M.held m.old) (DV.holds dv.old) (DV.room dv.old) (DC.holds dc.old) (DC.room dc.old) parents.old parent.old progress.old) }
     requires above { IsAbove (M.held m.old).dim settings.now above.now }
     requires some { 0 < levels }
-    requires marked { AreMarksOf (M.held m.old).dim (seen_corners M.numbers.vertex parents.old) above.now.marks }
-    requires kind { (cell : APlace) → cell.level ≡ above.now.place.level + 1 → kind_among settings.now.traversal cell (seen_corners M.numbers.vertex parents.old) ≡ kind }
+    requires aged { AreAgesOf (M.held m.old).dim (corner_records M.numbers.vertex parents.old) above.now.ages }
+    requires kind { (cell : APlace) → cell.level ≡ above.now.place.level + 1 → kind_among settings.now.traversal cell (corner_records M.numbers.vertex parents.old) ≡ kind }
     ensures follows { Walks M.rules M.numbers settings.now
         (λ set. walk_children set (ports_of settings.now) levels above.now.place)
         (λ machine. machine) result

@@ -3,9 +3,9 @@ ghost use Rattle.std.specs.Prelude.{◌≡◌, suc, ◌+◌, ◌≤◌, ◌<◌}
 ghost use Rattle.pe_base.specs.declared.place.Place.{Place as APlace};
 ghost use Rattle.pe_base.specs.Walk.Core.{Family};
 ghost use Rattle.pe_stacks.specs.Corners.{IsFull, no_vertices};
-ghost use Rattle.pe_mapping.specs.Sights.{seen_corners};
+ghost use Rattle.pe_stacks.specs.Sights.{corner_records};
 ghost use Rattle.pe_hang.specs.InHand.{own_in_hand, CornersStay};
-ghost use Rattle.pe_adapt.specs.Marked.{AreMarksOf, GiveKinds};
+ghost use Rattle.pe_adapt.specs.Ages.{AreAgesOf, GiveKinds};
 ghost use Rattle.pe_walk.specs.Machine.{kind_among, walk_cell};
 ghost use Rattle.pe_walk.specs.InHand.{ports_of, IsWalked};
 ghost use Rattle.pe_walk.specs.Children.{IsAbove};
@@ -19,7 +19,7 @@ use crate::progress::Progress;
 use crate::settings::{Settings, cursor_in};
 use crate::visit::{enter_cell, leave_cell};
 use crate::walked::WalkedCell;
-use pe_adapt::{Halt, marks_of};
+use pe_adapt::{Halt, ages_of};
 use pe_base::{Digits, Kind};
 use pe_mapping::Mapping;
 use pe_stacks::{CellRec, Corners, Depot, Vertex};
@@ -50,8 +50,8 @@ pub(crate) fn walk_cell<
         (λ set. walk_cell set (ports_of settings.now) (suc levels) cell.now.place)
         (hands_of (M.held m.old) (DV.holds dv.old) (DV.room dv.old) (DC.holds dc.old) (DC.room dc.old) parents.old parent.old progress.old) }
     requires walked { IsWalked (M.held m.old).dim settings.now cell.now }
-    requires kinds { GiveKinds (M.held m.old).dim settings.now.traversal cell.now.place (seen_corners M.numbers.vertex parents.old) cell.now.marks }
-    requires kind { kind_among settings.now.traversal cell.now.place (seen_corners M.numbers.vertex parents.old) ≡ kind }
+    requires kinds { GiveKinds (M.held m.old).dim settings.now.traversal cell.now.place (corner_records M.numbers.vertex parents.old) cell.now.ages }
+    requires kind { kind_among settings.now.traversal cell.now.place (corner_records M.numbers.vertex parents.old) ≡ kind }
     requires empty { corners.old ≡ no_vertices (M.held m.old).dim }
     ensures follows { Walks M.rules M.numbers settings.now
         (λ set. walk_cell set (ports_of settings.now) (suc levels) cell.now.place)
@@ -102,14 +102,14 @@ fn visit_cell<const AXES: u8, M: Mapping, DV: Depot<Vertex<M::V>>, DC: Depot<Cel
 ) -> Result<(), Halt>
     requires axes { settings.now.setup.dim ≡ AXES }
     requires may { MayWalkCells M.rules M.numbers settings.now cell.now.place.level levels
-        (λ set. visit_cell set (ports_of settings.now) levels cell.now.place (seen_corners M.numbers.vertex corners.old))
+        (λ set. visit_cell set (ports_of settings.now) levels cell.now.place (corner_records M.numbers.vertex corners.old))
         (hands_of (M.held m.old) (DV.holds dv.old) (DV.room dv.old) (DC.holds dc.old) (DC.room dc.old) parents.old parent.old progress.old) }
     requires walked { IsWalked (M.held m.old).dim settings.now cell.now }
-    requires kind { kind_among settings.now.traversal cell.now.place (seen_corners M.numbers.vertex parents.old) ≡ kind }
+    requires kind { kind_among settings.now.traversal cell.now.place (corner_records M.numbers.vertex parents.old) ≡ kind }
     requires own_full { IsFull (M.held m.old).dim corners.old }
     ensures follows { Walks M.rules M.numbers settings.now
-        (λ set. visit_cell set (ports_of settings.now) levels cell.now.place (seen_corners M.numbers.vertex corners.old))
-        (λ machine. (seen_corners M.numbers.vertex corners.new, machine)) result
+        (λ set. visit_cell set (ports_of settings.now) levels cell.now.place (corner_records M.numbers.vertex corners.old))
+        (λ machine. (corner_records M.numbers.vertex corners.new, machine)) result
         (hands_of (M.held m.old) (DV.holds dv.old) (DV.room dv.old) (DC.holds dc.old) (DC.room dc.old) parents.old parent.old progress.old)
         (hands_of (M.held m.new) (DV.holds dv.new) (DV.room dv.new) (DC.holds dc.new) (DC.room dc.new) parents.new parent.new progress.new) }
     ensures left { WalkLeft M.numbers settings.now 1 result
@@ -169,8 +169,8 @@ fn walk_below<const AXES: u8, M: Mapping, DV: Depot<Vertex<M::V>>, DC: Depot<Cel
     if levels == 0 {
         return Ok(());
     }
-    let marks = marks_of(settings.setup.dim, corners);
-    let (old, new) = marks.any();
+    let ages = ages_of(settings.setup.dim, corners);
+    let (old, new) = ages.any();
     let kind = kind_of(old, new);
     match kind {
         Kind::Hanging => Ok(()),
@@ -178,7 +178,7 @@ fn walk_below<const AXES: u8, M: Mapping, DV: Depot<Vertex<M::V>>, DC: Depot<Cel
             let above = Above {
                 place: cell.place,
                 state: cell.state,
-                marks,
+                ages,
             };
             walk_children::<AXES, M, DV, DC>(
                 settings, &above, kind, levels, progress, m, dv, dc, corners, own,
@@ -212,8 +212,8 @@ pub(crate) fn walk_children<
         (hands_of (M.held m.old) (DV.holds dv.old) (DV.room dv.old) (DC.holds dc.old) (DC.room dc.old) parents.old parent.old progress.old) }
     requires above { IsAbove (M.held m.old).dim settings.now above.now }
     requires some { 0 < levels }
-    requires marked { AreMarksOf (M.held m.old).dim (seen_corners M.numbers.vertex parents.old) above.now.marks }
-    requires kind { (cell : APlace) → cell.level ≡ above.now.place.level + 1 → kind_among settings.now.traversal cell (seen_corners M.numbers.vertex parents.old) ≡ kind }
+    requires aged { AreAgesOf (M.held m.old).dim (corner_records M.numbers.vertex parents.old) above.now.ages }
+    requires kind { (cell : APlace) → cell.level ≡ above.now.place.level + 1 → kind_among settings.now.traversal cell (corner_records M.numbers.vertex parents.old) ≡ kind }
     ensures follows { Walks M.rules M.numbers settings.now
         (λ set. walk_children set (ports_of settings.now) levels above.now.place)
         (λ machine. machine) result

@@ -4,8 +4,8 @@ ghost use Rattle.pe_base.specs.Tree.Dim.{IsDim};
 ghost use Rattle.pe_base.specs.Tree.Places.{IsCellPlace, IsDigits, child_at};
 ghost use Rattle.pe_base.specs.declared.place.Digits.{Digits as SomeDigits};
 ghost use Rattle.pe_base.specs.Acts.Effects.{VertexRecord};
-ghost use Rattle.pe_states.specs.Sides.{IsRow as IsRowOfMarks};
-ghost use Rattle.pe_adapt.specs.Marked.{AreMarksOf, GiveKinds};
+ghost use Rattle.pe_states.specs.Sides.{IsRow as IsRowOfAges};
+ghost use Rattle.pe_adapt.specs.Ages.{AreAgesOf, GiveKinds};
 ghost use Rattle.pe_walk.specs.Children.{IsAbove, IsChild, AreInOneRow};
 
 use crate::settings::{Settings, dim_in};
@@ -13,7 +13,7 @@ use crate::walked::WalkedCell;
 use pe_access::{CellState, Row};
 use pe_base::{Digits, Place};
 use pe_curve::child_at;
-use pe_states::Marks;
+use pe_states::Ages;
 
 /// What is known of a cell whose children are walked.
 #[derive(Clone, Copy)]
@@ -23,7 +23,7 @@ pub(crate) struct Above {
     /// Its state.
     pub state: CellState,
     /// Which of its corners are old, and which are new.
-    pub marks: Marks,
+    pub ages: Ages,
 }
 
 /// A child of a cell, and what it shares with the others of its row.
@@ -33,32 +33,32 @@ pub(crate) struct Child {
     pub cell: WalkedCell,
     /// Its digits.
     pub digits: Digits,
-    /// The part of its marks that is the same along the row.
-    pub row_marks: Marks,
+    /// The part of its ages that is the same along the row.
+    pub row_ages: Ages,
     /// The turns of the last axis, which are the same along the row.
     pub turns: u8,
 }
 
-// The marks of a child's corners.
+// The ages of a child's corners.
 #[inline(always)]
-fn child_marks<const AXES: u8>(
+fn child_ages<const AXES: u8>(
     settings: &Settings,
     above: &Above,
-    row_marks: Marks,
+    row_ages: Ages,
     digits: Digits,
-) -> Marks
+) -> Ages
     requires axes { settings.now.setup.dim ≡ AXES }
     requires above { IsAbove settings.now.setup.dim settings.now above.now }
     requires digits { IsDigits settings.now.setup.dim digits }
-    requires row { IsRowOfMarks settings.now.setup.dim digits above.now.marks row_marks }
-    ensures { (its : List VertexRecord) → AreMarksOf settings.now.setup.dim its above.now.marks
+    requires row { IsRowOfAges settings.now.setup.dim digits above.now.ages row_ages }
+    ensures { (its : List VertexRecord) → AreAgesOf settings.now.setup.dim its above.now.ages
         → GiveKinds settings.now.setup.dim settings.now.traversal (child_at above.now.place digits) its result }
 {
     let dim = dim_in::<AXES>(settings);
     if above.place.level == 0 {
-        Marks::level_one(dim, digits, settings.traversal)
+        Ages::level_one(dim, digits, settings.traversal)
     } else {
-        row_marks.of_row(dim, digits)
+        row_ages.of_row(dim, digits)
     }
 }
 
@@ -76,10 +76,10 @@ fn turn_to<const AXES: u8>(settings: &Settings, above: &Above, child: &mut Child
     child.cell.state = above.state.child(AXES, digits);
     child.cell.state.set_row(AXES, &mut child.cell.row);
     child.turns = above.state.row_turns(AXES, digits);
-    let row_marks = above.marks.row(dim, digits);
-    child.row_marks = row_marks;
-    let marks = child_marks::<AXES>(settings, above, row_marks, digits);
-    child.cell.marks = marks;
+    let row_ages = above.ages.row(dim, digits);
+    child.row_ages = row_ages;
+    let ages = child_ages::<AXES>(settings, above, row_ages, digits);
+    child.cell.ages = ages;
     child.digits = digits;
 }
 
@@ -96,10 +96,10 @@ pub(crate) fn child_of<const AXES: u8>(settings: &Settings, above: &Above, digit
             place: above.place,
             state: above.state,
             row: Row::empty(),
-            marks: above.marks,
+            ages: above.ages,
         },
         digits,
-        row_marks: above.marks,
+        row_ages: above.ages,
         turns: 0,
     };
     turn_to::<AXES>(settings, above, &mut child, digits);
@@ -137,7 +137,7 @@ fn step_to<const AXES: u8>(settings: &Settings, above: &Above, child: &mut Child
         digits,
     );
     step_place::<AXES>(&above.place, &mut child.cell.place, digits);
-    child.cell.marks = child_marks::<AXES>(settings, above, child.row_marks, digits);
+    child.cell.ages = child_ages::<AXES>(settings, above, child.row_ages, digits);
     child.digits = digits;
 }
 

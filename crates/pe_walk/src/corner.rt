@@ -1,8 +1,8 @@
 // A corner of the cell that is walked, loaded and stored in its slot.
 ghost use Rattle.std.specs.Prelude.{◌≡◌, ◌<◌, ◌^◌, None, IsSome, OnOk, OnErr};
 ghost use Rattle.pe_stacks.specs.Corners.{IsFull};
-ghost use Rattle.pe_mapping.specs.Sights.{seen_corners};
-ghost use Rattle.pe_adapt.specs.Marked.{GiveKinds};
+ghost use Rattle.pe_stacks.specs.Sights.{corner_records};
+ghost use Rattle.pe_adapt.specs.Ages.{GiveKinds};
 ghost use Rattle.pe_adapt.specs.Slots.{seen_slot};
 ghost use Rattle.pe_walk.specs.Machine.{load_corner, store_corner};
 ghost use Rattle.pe_walk.specs.InHand.{IsWalked, ports_of};
@@ -33,7 +33,7 @@ pub(crate) fn load_corner<M: Mapping, DV: Depot<Vertex<M::V>>>(
 ) -> Result<(), Halt>
     requires walked { IsWalked (M.held m.old).dim settings.now cell.now }
     requires corner { k < 2 ^ (M.held m.old).dim }
-    requires kinds { GiveKinds (M.held m.old).dim settings.now.traversal cell.now.place (seen_corners M.numbers.vertex parents.old) cell.now.marks }
+    requires kinds { GiveKinds (M.held m.old).dim settings.now.traversal cell.now.place (corner_records M.numbers.vertex parents.old) cell.now.ages }
     requires full { IsFull (M.held m.old).dim parents.old }
     requires empty { slot.old ≡ None }
     requires fits { MayGo M.rules M.numbers settings.now (λ set. load_corner set (ports_of settings.now) cell.now.place k)
@@ -45,7 +45,7 @@ pub(crate) fn load_corner<M: Mapping, DV: Depot<Vertex<M::V>>>(
     ensures loaded { OnOk result (IsSome slot.new) }
     ensures emptied { OnErr result (slot.new ≡ None) }
 {
-    let (old, new) = cell.marks.at(k);
+    let (old, new) = cell.ages.at(k);
     if !old && !new {
         return load_hanging(settings, cell, k, progress, slot, m, dv, parents, parent);
     }

@@ -2,10 +2,12 @@
 ghost use Rattle.std.specs.Prelude.{◌≡◌, ℕ, ℤ, ◌≤◌, ◌^◌, false, [], List, is_err, None, Option, OnOk, OnErr};
 ghost use Rattle.pe_stacks.specs.Corners.{IsFull, no_vertices};
 ghost use Rattle.pe_stacks.specs.Holdings.{Holdings};
-ghost use Rattle.pe_mapping.specs.Sights.{seen_corners};
+ghost use Rattle.pe_stacks.specs.Sights.{corner_records};
 ghost use Rattle.pe_hang.specs.InHand.{Stays};
-ghost use Rattle.pe_hang.specs.Follows.{Follows, Fits, Left, read_by, found_of, held_by};
-ghost use Rattle.pe_adapt.specs.Marked.{GiveKinds};
+ghost use Rattle.pe_base.specs.Calls.Follows.{Follows, Fits, read_by};
+ghost use Rattle.pe_stacks.specs.RecordsOut.{RecordsOut, held_by};
+ghost use Rattle.pe_mapping.specs.Held.{found_of};
+ghost use Rattle.pe_adapt.specs.Ages.{GiveKinds};
 ghost use Rattle.pe_walk.specs.Machine.{load_all, store_all};
 ghost use Rattle.pe_walk.specs.InHand.{IsWalked, setting_in, ports_of, machine_in_hand, failure_in};
 ghost use Rattle.pe_walk.specs.Corners.{MayGo, GoesAlong, AreOf, hand_of, filled_in, filled_in_corners, seen_slots};
@@ -22,7 +24,7 @@ use pe_stacks::{CellRec, Corners, Depot, Vertex};
 // Gives up what is in a slot, if it is filled.
 fn give_up_slot<X, D: Depot<X>>(d: &mut D, slot: &mut Option<X>)
     requires out { filled_in slot.old ≤ (D.holds d.old).out }
-    ensures left { Left (filled_in slot.old) 0 (D.holds d.old) (D.room d.old) (D.holds d.new) (D.room d.new) false }
+    ensures left { RecordsOut (filled_in slot.old) 0 (D.holds d.old) (D.room d.old) (D.holds d.new) (D.room d.new) false }
     ensures emptied { slot.new ≡ None }
 {
     match slot.take() {
@@ -37,7 +39,7 @@ fn give_up_slot<X, D: Depot<X>>(d: &mut D, slot: &mut Option<X>)
 fn give_up_filled<V, D: Depot<Vertex<V>>>(dim: Dim, d: &mut D, corners: &mut Corners<V>)
     requires corners { AreOf dim corners.old }
     requires out { filled_in_corners corners.old ≤ (D.holds d.old).out }
-    ensures left { Left (filled_in_corners corners.old) 0 (D.holds d.old) (D.room d.old) (D.holds d.new) (D.room d.new) false }
+    ensures left { RecordsOut (filled_in_corners corners.old) 0 (D.holds d.old) (D.room d.old) (D.holds d.new) (D.room d.new) false }
     ensures emptied { corners.new ≡ no_vertices dim }
 {
     for k in 0..dim.corners() {
@@ -60,7 +62,7 @@ fn load_quads<const AXES: u8, M: Mapping, DV: Depot<Vertex<M::V>>>(
     requires axes { settings.now.setup.dim ≡ AXES }
     requires dim { (M.held m.old).dim ≡ settings.now.setup.dim }
     requires walked { IsWalked (M.held m.old).dim settings.now cell.now }
-    requires kinds { GiveKinds (M.held m.old).dim settings.now.traversal cell.now.place (seen_corners M.numbers.vertex parents.old) cell.now.marks }
+    requires kinds { GiveKinds (M.held m.old).dim settings.now.traversal cell.now.place (corner_records M.numbers.vertex parents.old) cell.now.ages }
     requires full { IsFull (M.held m.old).dim parents.old }
     requires empty { corners.old ≡ no_vertices (M.held m.old).dim }
     requires fits { MayGo M.rules M.numbers settings.now (λ set. load_all set (ports_of settings.now) cell.now.place (2 ^ (M.held m.old).dim) [])
@@ -126,7 +128,7 @@ pub(crate) fn load_corners<const AXES: u8, M: Mapping, DV: Depot<Vertex<M::V>>>(
     requires axes { settings.now.setup.dim ≡ AXES }
     requires dim { (M.held m.old).dim ≡ settings.now.setup.dim }
     requires walked { IsWalked (M.held m.old).dim settings.now cell.now }
-    requires kinds { GiveKinds (M.held m.old).dim settings.now.traversal cell.now.place (seen_corners M.numbers.vertex parents.old) cell.now.marks }
+    requires kinds { GiveKinds (M.held m.old).dim settings.now.traversal cell.now.place (corner_records M.numbers.vertex parents.old) cell.now.ages }
     requires full { IsFull (M.held m.old).dim parents.old }
     requires empty { corners.old ≡ no_vertices (M.held m.old).dim }
     requires fits { (cells : Holdings (List ℤ)) → Fits
@@ -135,9 +137,9 @@ pub(crate) fn load_corners<const AXES: u8, M: Mapping, DV: Depot<Vertex<M::V>>>(
     ensures follows { (cells : Holdings (List ℤ)) (room : ℕ → ℕ) → Follows
         (load_all (setting_in M.rules (M.held m.old) settings.now) (ports_of settings.now) cell.now.place (2 ^ (M.held m.old).dim) []
         (machine_in_hand M.numbers (DV.holds dv.old) cells parents.old parent.old (M.held m.old).list progress.old.tally))
-        (λ done. (seen_corners M.numbers.vertex corners.new, machine_in_hand M.numbers (DV.holds dv.new) cells parents.new parent.new (M.held m.new).list progress.new.tally))
+        (λ done. (corner_records M.numbers.vertex corners.new, machine_in_hand M.numbers (DV.holds dv.new) cells parents.new parent.new (M.held m.new).list progress.new.tally))
         (read_by (failure_in progress.new) result) (found_of (M.held m.old) (held_by (DV.holds dv.old) (DV.room dv.old)) room) (M.held m.new).told }
-    ensures left { Left 0 (2 ^ (M.held m.old).dim) (DV.holds dv.old) (DV.room dv.old) (DV.holds dv.new) (DV.room dv.new) (is_err result) }
+    ensures left { RecordsOut 0 (2 ^ (M.held m.old).dim) (DV.holds dv.old) (DV.room dv.old) (DV.holds dv.new) (DV.room dv.new) (is_err result) }
     ensures stays { Stays M.numbers.vertex (M.held m.old) (M.held m.new) parents.old parents.new }
     ensures counted { progress.new.tally.cells ≡ progress.old.tally.cells }
     ensures loaded { OnOk result (IsFull (M.held m.old).dim corners.new) }
@@ -172,14 +174,14 @@ pub(crate) fn store_corners<const AXES: u8, M: Mapping, DV: Depot<Vertex<M::V>>>
     requires loaded { IsFull (M.held m.old).dim corners.old }
     requires out { 2 ^ (M.held m.old).dim ≤ (DV.holds dv.old).out }
     requires fits { (cells : Holdings (List ℤ)) → Fits
-        (store_all (setting_in M.rules (M.held m.old) settings.now) (ports_of settings.now) cell.now.place 0 (seen_corners M.numbers.vertex corners.old)
+        (store_all (setting_in M.rules (M.held m.old) settings.now) (ports_of settings.now) cell.now.place 0 (corner_records M.numbers.vertex corners.old)
         (machine_in_hand M.numbers (DV.holds dv.old) cells parents.old parent.old (M.held m.old).list progress.old.tally)) }
     ensures follows { (cells : Holdings (List ℤ)) (room : ℕ → ℕ) → Follows
-        (store_all (setting_in M.rules (M.held m.old) settings.now) (ports_of settings.now) cell.now.place 0 (seen_corners M.numbers.vertex corners.old)
+        (store_all (setting_in M.rules (M.held m.old) settings.now) (ports_of settings.now) cell.now.place 0 (corner_records M.numbers.vertex corners.old)
         (machine_in_hand M.numbers (DV.holds dv.old) cells parents.old parent.old (M.held m.old).list progress.old.tally))
         (λ done. machine_in_hand M.numbers (DV.holds dv.new) cells parents.new parent.new (M.held m.new).list progress.new.tally)
         (read_by (failure_in progress.new) result) (found_of (M.held m.old) (held_by (DV.holds dv.old) (DV.room dv.old)) room) (M.held m.new).told }
-    ensures left { Left (2 ^ (M.held m.old).dim) 0 (DV.holds dv.old) (DV.room dv.old) (DV.holds dv.new) (DV.room dv.new) (is_err result) }
+    ensures left { RecordsOut (2 ^ (M.held m.old).dim) 0 (DV.holds dv.old) (DV.room dv.old) (DV.holds dv.new) (DV.room dv.new) (is_err result) }
     ensures stays { Stays M.numbers.vertex (M.held m.old) (M.held m.new) parents.old parents.new }
     ensures counted { progress.new.tally.cells ≡ progress.old.tally.cells }
     ensures emptied { corners.new ≡ no_vertices (M.held m.old).dim }

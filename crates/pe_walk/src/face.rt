@@ -4,15 +4,16 @@ ghost use Rattle.pe_base.specs.declared.place.Place.{Place as APlace};
 ghost use Rattle.pe_base.specs.Tree.Dim.{IsDim};
 ghost use Rattle.pe_base.specs.Acts.Effects.{VertexRecord};
 ghost use Rattle.pe_stacks.specs.Corners.{IsFull};
-ghost use Rattle.pe_mapping.specs.Held.{max_level};
-ghost use Rattle.pe_mapping.specs.Sights.{seen_corners};
+ghost use Rattle.pe_mapping.specs.Held.{max_level, found_of};
+ghost use Rattle.pe_stacks.specs.Sights.{corner_records};
 ghost use Rattle.pe_hang.specs.InHand.{setting_of, cells_on_stacks, Stays};
-ghost use Rattle.pe_hang.specs.Follows.{Left, read_by, found_of, held_by};
+ghost use Rattle.pe_stacks.specs.RecordsOut.{RecordsOut, held_by};
+ghost use Rattle.pe_base.specs.Calls.Follows.{read_by};
 ghost use Rattle.pe_adapt.specs.Stops.{failure_of};
-ghost use Rattle.pe_adapt.specs.Marked.{AreMarksOf, GiveKinds};
+ghost use Rattle.pe_adapt.specs.Ages.{AreAgesOf, GiveKinds};
 ghost use Rattle.pe_walk.specs.Machine.{kind_among};
 ghost use Rattle.pe_walk.specs.InHand.{IsWalked, machine_in_hand};
-ghost use Rattle.pe_walk.specs.CellTraffic.{CountsAreFew};
+ghost use Rattle.pe_order.specs.CellTraffic.{CountsAreFew};
 ghost use Rattle.pe_walk.specs.FaceLaw.{Moment, IsCalledAt, MayCall, CellAnswers, by_address};
 
 use crate::axes;
@@ -21,16 +22,16 @@ use crate::root::kind_of_children;
 use crate::settings::{Settings, settings_at};
 use crate::walked::WalkedCell;
 use pe_access::CellState;
-use pe_adapt::{WalkStop, corner_marks, marks_of};
+use pe_adapt::{WalkStop, corner_ages, ages_of};
 use pe_base::{Digits, Kind, Place, Setup, Tally};
 use pe_mapping::Mapping;
 use pe_stacks::{CellRec, Corners, Depot, Vertex};
-use pe_states::{Marks, kind_of};
+use pe_states::{Ages, kind_of};
 
-// The kind of a cell of a level, by the marks of its parent's corners.
-fn kind_at(traversal: u64, level: u8, parents: Marks) -> Kind
+// The kind of a cell of a level, by the ages of its parent's corners.
+fn kind_at(traversal: u64, level: u8, parents: Ages) -> Kind
     requires { 1 ≤ level }
-    ensures { (axes : ℕ) (cell : APlace) (its : List VertexRecord) → IsDim axes → cell.level ≡ level → length its ≡ 2 ^ axes → AreMarksOf axes its parents
+    ensures { (axes : ℕ) (cell : APlace) (its : List VertexRecord) → IsDim axes → cell.level ≡ level → length its ≡ 2 ^ axes → AreAgesOf axes its parents
         → kind_among traversal cell its ≡ result }
 {
     if level == 1 {
@@ -47,20 +48,20 @@ fn walked_cell(
     digits: Digits,
     at: &Place,
     state: &CellState,
-    parents: Marks,
+    parents: Ages,
 ) -> WalkedCell
     requires called { IsCalledAt settings.now.setup.dim settings.now.traversal at.now digits state.now }
     ensures walked { IsWalked settings.now.setup.dim settings.now result }
     ensures place { result.place ≡ at.now }
-    ensures kinds { (its : List VertexRecord) → AreMarksOf settings.now.setup.dim its parents
-        → GiveKinds settings.now.setup.dim settings.now.traversal at.now its result.marks }
+    ensures kinds { (its : List VertexRecord) → AreAgesOf settings.now.setup.dim its parents
+        → GiveKinds settings.now.setup.dim settings.now.traversal at.now its result.ages }
 {
     let dim = settings.setup.dim;
     WalkedCell {
         place: *at,
         state: *state,
         row: state.row(),
-        marks: corner_marks(dim, at.level, digits, settings.traversal, parents),
+        ages: corner_ages(dim, at.level, digits, settings.traversal, parents),
     }
 }
 
@@ -104,14 +105,14 @@ pub fn walk_cell<M: Mapping, DV: Depot<Vertex<M::V>>, DC: Depot<CellRec<M::C>>>(
         (read_by failure_of result) (found_of (M.held m.old) (held_by (DV.holds dv.old) (DV.room dv.old)) (held_by (DC.holds dc.old) (DC.room dc.old)))
         (record { vertices = DV.holds dv.old; cells = DC.holds dc.old }) tally.old (M.held m.new).told (record { vertices = DV.holds dv.new; cells = DC.holds dc.new })
         (machine_in_hand M.numbers (DV.holds dv.new) (cells_on_stacks M.numbers (DC.holds dc.new)) parents.new parent.new (M.held m.new).list tally.new) }
-    ensures left { Left 0 0 (DV.holds dv.old) (DV.room dv.old) (DV.holds dv.new) (DV.room dv.new) (is_err result) }
-    ensures cells_left { Left 0 0 (DC.holds dc.old) (DC.room dc.old) (DC.holds dc.new) (DC.room dc.new) (is_err result) }
+    ensures left { RecordsOut 0 0 (DV.holds dv.old) (DV.room dv.old) (DV.holds dv.new) (DV.room dv.new) (is_err result) }
+    ensures cells_left { RecordsOut 0 0 (DC.holds dc.old) (DC.room dc.old) (DC.holds dc.new) (DC.room dc.new) (is_err result) }
     ensures stays { Stays M.numbers.vertex (M.held m.old) (M.held m.new) parents.old parents.new }
 {
     let settings = settings_at(setup, traversal, input, cell_input);
-    let marks = marks_of(setup.dim, parents);
-    let cell = walked_cell(&settings, digits, at, state, marks);
-    let kind = kind_at(traversal, at.level, marks);
+    let ages = ages_of(setup.dim, parents);
+    let cell = walked_cell(&settings, digits, at, state, ages);
+    let kind = kind_at(traversal, at.level, ages);
     let levels = setup.max_level - at.level;
     let mut progress = Progress {
         tally: *tally,

@@ -21,4 +21,5 @@ mod visit;
 mod walked;
 mod whole;
 
+pub use pe_adapt::WalkStop;
 pub use traversal::traverse;

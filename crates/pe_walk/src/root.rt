@@ -5,10 +5,11 @@ ghost use Rattle.pe_base.specs.declared.event.Sort.TheVariants.{Plain};
 ghost use Rattle.pe_base.specs.Acts.Events.{sort_of};
 ghost use Rattle.pe_base.specs.Walk.Core.{plain_event};
 ghost use Rattle.pe_stacks.specs.Corners.{IsFull, no_vertices};
-ghost use Rattle.pe_mapping.specs.Held.{Keeps};
-ghost use Rattle.pe_mapping.specs.Sights.{seen_corners};
+ghost use Rattle.pe_mapping.specs.Held.{Keeps, found_of};
+ghost use Rattle.pe_stacks.specs.Sights.{corner_records};
 ghost use Rattle.pe_hang.specs.InHand.{vertices_on_stacks, cells_on_stacks};
-ghost use Rattle.pe_hang.specs.Follows.{Follows, Fits, Left, wanting, read_by, found_of, held_by};
+ghost use Rattle.pe_base.specs.Calls.Follows.{Follows, Fits, wanting, read_by};
+ghost use Rattle.pe_stacks.specs.RecordsOut.{RecordsOut, held_by};
 ghost use Rattle.pe_walk.specs.Machine.{Machine as AMachine, root_corners, traverse};
 ghost use Rattle.pe_walk.specs.InHand.{setting_in, ports_of, machine_in_hand, machine_between, failure_in};
 ghost use Rattle.pe_walk.specs.Visits.{walk_root, with_vertices, CountsCells, Walks, WalkLeft, hands_of};
@@ -19,7 +20,7 @@ use crate::hand::give_up_from;
 use crate::progress::Progress;
 use crate::settings::Settings;
 use pe_access::CellState;
-use pe_adapt::{Halt, marks_of};
+use pe_adapt::{Halt, ages_of};
 use pe_base::{Event, Kind, Place, State};
 use pe_mapping::Mapping;
 use pe_stacks::{CellRec, Corners, Depot, Vertex};
@@ -46,9 +47,9 @@ fn lend_corners<M: Mapping, DV: Depot<Vertex<M::V>>>(
     ensures follows { (rest : AMachine) (cells : ℕ → ℕ) → Follows
         (root_corners (setting_in M.rules (M.held m.old) settings.now) (ports_of settings.now) (2 ^ (M.held m.old).dim) []
         (with_vertices (vertices_on_stacks M.numbers (DV.holds dv.old)) (M.held m.old).list rest))
-        (λ done. (seen_corners M.numbers.vertex corners.new, with_vertices (vertices_on_stacks M.numbers (DV.holds dv.new)) (M.held m.new).list rest))
+        (λ done. (corner_records M.numbers.vertex corners.new, with_vertices (vertices_on_stacks M.numbers (DV.holds dv.new)) (M.held m.new).list rest))
         (read_by (λ error. wanting) result) (found_of (M.held m.old) (held_by (DV.holds dv.old) (DV.room dv.old)) cells) (M.held m.new).told }
-    ensures left { Left 0 (2 ^ settings.now.setup.dim) (DV.holds dv.old) (DV.room dv.old) (DV.holds dv.new) (DV.room dv.new) (is_err result) }
+    ensures left { RecordsOut 0 (2 ^ settings.now.setup.dim) (DV.holds dv.old) (DV.room dv.old) (DV.holds dv.new) (DV.room dv.new) (is_err result) }
     ensures keeps { Keeps (M.held m.old) (M.held m.new) }
     ensures loaded { OnOk result (IsFull settings.now.setup.dim corners.new) }
     ensures emptied { OnErr result (corners.new ≡ no_vertices settings.now.setup.dim) }
@@ -136,7 +137,7 @@ fn walk_root<M: Mapping, DV: Depot<Vertex<M::V>>, DC: Depot<CellRec<M::C>>>(
     let above = Above {
         place: ROOT,
         state: CellState::root(settings.setup.dim, settings.way),
-        marks: marks_of(settings.setup.dim, corners),
+        ages: ages_of(settings.setup.dim, corners),
     };
     let kind = kind_of_children(settings.traversal);
     let levels = settings.setup.max_level;
@@ -168,8 +169,8 @@ pub(crate) fn walk_stacks<M: Mapping, DV: Depot<Vertex<M::V>>, DC: Depot<CellRec
         (λ done. machine_between M.numbers (DV.holds dv.new) (DC.holds dc.new) root.new (M.held m.new).list progress.new.tally)
         (read_by (failure_in progress.new) result)
         (found_of (M.held m.old) (held_by (DV.holds dv.old) (DV.room dv.old)) (held_by (DC.holds dc.old) (DC.room dc.old))) (M.held m.new).told }
-    ensures left { Left 0 0 (DV.holds dv.old) (DV.room dv.old) (DV.holds dv.new) (DV.room dv.new) (is_err result) }
-    ensures cells_left { Left 0 0 (DC.holds dc.old) (DC.room dc.old) (DC.holds dc.new) (DC.room dc.new) (is_err result) }
+    ensures left { RecordsOut 0 0 (DV.holds dv.old) (DV.room dv.old) (DV.holds dv.new) (DV.room dv.new) (is_err result) }
+    ensures cells_left { RecordsOut 0 0 (DC.holds dc.old) (DC.room dc.old) (DC.holds dc.new) (DC.room dc.new) (is_err result) }
     ensures counts { CountsCells settings.now.setup.max_cells 0 progress.old (DC.holds dc.old) progress.new (DC.holds dc.new) (is_err result) }
     ensures keeps { Keeps (M.held m.old) (M.held m.new) }
 {

@@ -3,7 +3,7 @@ ghost use Rattle.pe_base.specs.Tree.Dim.{IsDim};
 ghost use Rattle.pe_base.specs.Tree.Ways.{way_of};
 ghost use Rattle.pe_base.specs.Tree.Places.{IsDigits, bits};
 ghost use Rattle.pe_base.specs.Tree.Curve.{child_digits};
-ghost use Rattle.pe_mapping.specs.Moments.{IsTraversal};
+ghost use Rattle.pe_base.specs.Acts.Moments.{IsTraversal};
 ghost use Rattle.pe_walk.specs.Streams.{AreStreams};
 
 use pe_base::{Dim, Setup, Way};

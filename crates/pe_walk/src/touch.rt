@@ -5,7 +5,7 @@ ghost use Rattle.pe_base.specs.Tree.Ways.{way_of};
 ghost use Rattle.pe_base.specs.declared.kind.Kind.TheVariants.{Hanging};
 ghost use Rattle.pe_base.specs.Steps.Routes.{stack_in, stack_out};
 ghost use Rattle.pe_stacks.specs.Corners.{IsFull};
-ghost use Rattle.pe_mapping.specs.Sights.{seen_corners};
+ghost use Rattle.pe_stacks.specs.Sights.{corner_records};
 ghost use Rattle.pe_adapt.specs.Slots.{seen_slot};
 ghost use Rattle.pe_adapt.specs.Touches.{kind_in_hand};
 ghost use Rattle.pe_walk.specs.Machine.{load_corner, store_corner};
@@ -36,7 +36,7 @@ pub(crate) fn load_hanging<M: Mapping, DV: Depot<Vertex<M::V>>>(
 ) -> Result<(), Halt>
     requires walked { IsWalked (M.held m.old).dim settings.now cell.now }
     requires corner { k < 2 ^ (M.held m.old).dim }
-    requires hangs { kind_in_hand (setting_in M.rules (M.held m.old) settings.now) cell.now.place (seen_corners M.numbers.vertex parents.old)
+    requires hangs { kind_in_hand (setting_in M.rules (M.held m.old) settings.now) cell.now.place (corner_records M.numbers.vertex parents.old)
         (corner (M.held m.old).dim cell.now.place k) ≡ Hanging }
     requires full { IsFull (M.held m.old).dim parents.old }
     requires empty { slot.old ≡ None }
@@ -76,7 +76,7 @@ pub(crate) fn load_first<M: Mapping, DV: Depot<Vertex<M::V>>>(
 ) -> Result<(), Halt>
     requires walked { IsWalked (M.held m.old).dim settings.now cell.now }
     requires corner { k < 2 ^ (M.held m.old).dim }
-    requires kind { kind ≡ kind_in_hand (setting_in M.rules (M.held m.old) settings.now) cell.now.place (seen_corners M.numbers.vertex parents.old)
+    requires kind { kind ≡ kind_in_hand (setting_in M.rules (M.held m.old) settings.now) cell.now.place (corner_records M.numbers.vertex parents.old)
         (corner (M.held m.old).dim cell.now.place k) }
     requires counts { kind ≡ Hanging → ⊥ }
     requires first { stack_in (M.held m.old).dim (way_of settings.now.traversal) (corner (M.held m.old).dim cell.now.place k) cell.now.place ≡ None }

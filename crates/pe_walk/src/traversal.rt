@@ -2,9 +2,10 @@ ghost use Rattle.std.specs.Prelude.{◌≡◌, ◌+◌, ◌^◌, ◌<◌, ◌≤
 ghost use Rattle.pe_base.specs.Walk.Grids.{Grid as AGrid};
 ghost use Rattle.pe_base.specs.Walk.Walk.{traverse};
 ghost use Rattle.pe_stacks.specs.Holdings.{CountsWithin};
-ghost use Rattle.pe_mapping.specs.Held.{Keeps, max_level};
+ghost use Rattle.pe_mapping.specs.Held.{Keeps, max_level, found_of};
 ghost use Rattle.pe_hang.specs.InHand.{setting_of};
-ghost use Rattle.pe_hang.specs.Follows.{Left, read_by, found_of, held_by};
+ghost use Rattle.pe_stacks.specs.RecordsOut.{RecordsOut, held_by};
+ghost use Rattle.pe_base.specs.Calls.Follows.{read_by};
 ghost use Rattle.pe_adapt.specs.Stops.{failure_of};
 ghost use Rattle.pe_walk.specs.Traversing.{IsAdvanced, MayTraverse, HoldAGrid, Answers};
 
@@ -47,8 +48,8 @@ pub fn traverse<M: Mapping, DV: Depot<Vertex<M::V>>, DC: Depot<CellRec<M::C>>>(
     ensures goes_on { IfOk result (λ answer. HoldAGrid M.numbers (M.held m.new) setup.now.max_level (record { vertices = DV.holds dv.new; cells = DC.holds dc.new }) answer.0) }
     ensures few { IfOk result (λ answer. answer.1.cells ≤ setup.now.max_cells) }
     ensures advanced { IfOk result (λ answer. IsAdvanced grid answer.0) }
-    ensures left { Left 0 0 (DV.holds dv.old) (DV.room dv.old) (DV.holds dv.new) (DV.room dv.new) (is_err result) }
-    ensures cells_left { Left 0 0 (DC.holds dc.old) (DC.room dc.old) (DC.holds dc.new) (DC.room dc.new) (is_err result) }
+    ensures left { RecordsOut 0 0 (DV.holds dv.old) (DV.room dv.old) (DV.holds dv.new) (DV.room dv.new) (is_err result) }
+    ensures cells_left { RecordsOut 0 0 (DC.holds dc.old) (DC.room dc.old) (DC.holds dc.new) (DC.room dc.new) (is_err result) }
     ensures keeps { Keeps (M.held m.old) (M.held m.new) }
 {
     traverse_stacks(grid, setup, m, dv, dc)

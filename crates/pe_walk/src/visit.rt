@@ -8,10 +8,12 @@ ghost use Rattle.pe_base.specs.Walk.Core.{cell_event, enter_touch, leave_touch};
 ghost use Rattle.pe_stacks.specs.declared.record.Vertex.{Vertex as AVertex};
 ghost use Rattle.pe_stacks.specs.Corners.{IsFull};
 ghost use Rattle.pe_stacks.specs.Holdings.{Holdings, lent};
-ghost use Rattle.pe_mapping.specs.Sights.{seen_corners};
-ghost use Rattle.pe_mapping.specs.Moments.{IsBelowRoot};
+ghost use Rattle.pe_stacks.specs.Sights.{corner_records};
+ghost use Rattle.pe_base.specs.Acts.Moments.{IsBelowRoot};
 ghost use Rattle.pe_hang.specs.InHand.{family_in_hand, own_in_hand, cells_on_stacks, CornersStay, Stays};
-ghost use Rattle.pe_hang.specs.Follows.{Follows, Fits, Left, read_by, found_of, held_by};
+ghost use Rattle.pe_base.specs.Calls.Follows.{Follows, Fits, read_by};
+ghost use Rattle.pe_stacks.specs.RecordsOut.{RecordsOut, held_by};
+ghost use Rattle.pe_mapping.specs.Held.{found_of};
 ghost use Rattle.pe_walk.specs.Machine.{kind_among, enter_cell, leave_cell};
 ghost use Rattle.pe_walk.specs.InHand.{setting_in, ports_of, machine_in_hand, failure_in};
 
@@ -23,7 +25,7 @@ use pe_mapping::Mapping;
 use pe_stacks::{CellRec, Corners, Depot};
 
 // Fires an event of a cell.
-#[tactic(auto, using(pe_hang::proofs::Marked::marks_triggered))]
+#[tactic(auto, using(pe_hang::proofs::Ages::ages_triggered))]
 fn fire_cell<M: Mapping>(
     event: Event,
     settings: &Settings,
@@ -87,7 +89,7 @@ fn enter_found<M: Mapping, DC: Depot<CellRec<M::C>>>(
         (λ cell. (own_in_hand M.numbers cell corners.new, family_in_hand M.numbers parents.new parent.new (M.held m.new).list))
         (read_by (failure_in progress.new) result) (found_of (M.held m.old) vertices cells) (M.held m.new).told }
     ensures holds { OnOk result (DC.holds dc.new ≡ DC.holds dc.old) }
-    ensures left { Left 1 1 (DC.holds dc.old) (DC.room dc.old) (DC.holds dc.new) (DC.room dc.new) (is_err result) }
+    ensures left { RecordsOut 1 1 (DC.holds dc.old) (DC.room dc.old) (DC.holds dc.new) (DC.room dc.new) (is_err result) }
     ensures fresh { (DC.holds dc.new).fresh ≡ (DC.holds dc.old).fresh }
     ensures stays { Stays M.numbers.vertex (M.held m.old) (M.held m.new) parents.old parents.new }
     ensures own { CornersStay M.numbers.vertex (M.held m.old).dim corners.old corners.new }
@@ -122,12 +124,12 @@ fn enter_born<M: Mapping, DC: Depot<CellRec<M::C>>>(
     requires own_full { IsFull (M.held m.old).dim corners.old }
     requires count { (DC.holds dc.old).fresh < 2 ^ 63 }
     ensures follows { (vertices cells : ℕ → ℕ) → Follows
-        (enter_touch (setting_in M.rules (M.held m.old) settings.now) Born [] at.now (seen_corners M.numbers.vertex corners.old)
+        (enter_touch (setting_in M.rules (M.held m.old) settings.now) Born [] at.now (corner_records M.numbers.vertex corners.old)
         (family_in_hand M.numbers parents.old parent.old (M.held m.old).list))
         (λ cell. (own_in_hand M.numbers cell corners.new, family_in_hand M.numbers parents.new parent.new (M.held m.new).list))
         (read_by (failure_in progress.new) result) (found_of (M.held m.old) vertices cells) (M.held m.new).told }
     ensures holds { OnOk result (DC.holds dc.new ≡ lent (DC.holds dc.old)) }
-    ensures left { Left 0 1 (DC.holds dc.old) (DC.room dc.old) (DC.holds dc.new) (DC.room dc.new) (is_err result) }
+    ensures left { RecordsOut 0 1 (DC.holds dc.old) (DC.room dc.old) (DC.holds dc.new) (DC.room dc.new) (is_err result) }
     ensures fresh { (DC.holds dc.new).fresh ≤ (DC.holds dc.old).fresh + 1 }
     ensures stays { Stays M.numbers.vertex (M.held m.old) (M.held m.new) parents.old parents.new }
     ensures own { CornersStay M.numbers.vertex (M.held m.old).dim corners.old corners.new }
@@ -165,21 +167,21 @@ pub(crate) fn enter_cell<M: Mapping, DC: Depot<CellRec<M::C>>>(
     parent: &mut CellRec<M::C>,
 ) -> Result<CellRec<M::C>, Halt>
     requires place { IsBelowRoot at.now }
-    requires kind { kind_among settings.now.traversal at.now (seen_corners M.numbers.vertex parents.old) ≡ kind }
+    requires kind { kind_among settings.now.traversal at.now (corner_records M.numbers.vertex parents.old) ≡ kind }
     requires full { IsFull (M.held m.old).dim parents.old }
     requires own_full { IsFull (M.held m.old).dim corners.old }
     requires fits { (vertices : Holdings (AVertex M.V)) × Fits
-        (enter_cell (setting_in M.rules (M.held m.old) settings.now) (ports_of settings.now) at.now (seen_corners M.numbers.vertex corners.old)
+        (enter_cell (setting_in M.rules (M.held m.old) settings.now) (ports_of settings.now) at.now (corner_records M.numbers.vertex corners.old)
         (machine_in_hand M.numbers vertices (cells_on_stacks M.numbers (DC.holds dc.old)) parents.old parent.old (M.held m.old).list progress.old.tally)) }
     ensures follows { (vertices : Holdings (AVertex M.V)) (room : ℕ → ℕ) → Follows
-        (enter_cell (setting_in M.rules (M.held m.old) settings.now) (ports_of settings.now) at.now (seen_corners M.numbers.vertex corners.old)
+        (enter_cell (setting_in M.rules (M.held m.old) settings.now) (ports_of settings.now) at.now (corner_records M.numbers.vertex corners.old)
         (machine_in_hand M.numbers vertices (cells_on_stacks M.numbers (DC.holds dc.old)) parents.old parent.old (M.held m.old).list progress.old.tally))
         (λ cell. (
           own_in_hand M.numbers cell corners.new,
           machine_in_hand M.numbers vertices (cells_on_stacks M.numbers (DC.holds dc.new)) parents.new parent.new (M.held m.new).list progress.new.tally,
         ))
         (read_by (failure_in progress.new) result) (found_of (M.held m.old) room (held_by (DC.holds dc.old) (DC.room dc.old))) (M.held m.new).told }
-    ensures left { Left 0 1 (DC.holds dc.old) (DC.room dc.old) (DC.holds dc.new) (DC.room dc.new) (is_err result) }
+    ensures left { RecordsOut 0 1 (DC.holds dc.old) (DC.room dc.old) (DC.holds dc.new) (DC.room dc.new) (is_err result) }
     ensures fresh { (DC.holds dc.new).fresh ≤ (DC.holds dc.old).fresh + 1 }
     ensures stays { Stays M.numbers.vertex (M.held m.old) (M.held m.new) parents.old parents.new }
     ensures own { CornersStay M.numbers.vertex (M.held m.old).dim corners.old corners.new }
@@ -251,7 +253,7 @@ pub(crate) fn leave_cell<M: Mapping, DC: Depot<CellRec<M::C>>>(
     parent: &mut CellRec<M::C>,
 ) -> Result<(), Halt>
     requires place { IsBelowRoot at.now }
-    requires kind { kind_among settings.now.traversal at.now (seen_corners M.numbers.vertex parents.old) ≡ kind }
+    requires kind { kind_among settings.now.traversal at.now (corner_records M.numbers.vertex parents.old) ≡ kind }
     requires full { IsFull (M.held m.old).dim parents.old }
     requires own_full { IsFull (M.held m.old).dim corners.old }
     requires out { 0 < (DC.holds dc.old).out }
@@ -266,11 +268,11 @@ pub(crate) fn leave_cell<M: Mapping, DC: Depot<CellRec<M::C>>>(
           machine_in_hand M.numbers vertices (cells_on_stacks M.numbers (DC.holds dc.old)) parents.old parent.old (M.held m.old).list progress.old.tally,
         ))
         (λ done. (
-          seen_corners M.numbers.vertex corners.new,
+          corner_records M.numbers.vertex corners.new,
           machine_in_hand M.numbers vertices (cells_on_stacks M.numbers (DC.holds dc.new)) parents.new parent.new (M.held m.new).list progress.new.tally,
         ))
         (read_by (failure_in progress.new) result) (found_of (M.held m.old) room (held_by (DC.holds dc.old) (DC.room dc.old))) (M.held m.new).told }
-    ensures left { Left 1 0 (DC.holds dc.old) (DC.room dc.old) (DC.holds dc.new) (DC.room dc.new) (is_err result) }
+    ensures left { RecordsOut 1 0 (DC.holds dc.old) (DC.room dc.old) (DC.holds dc.new) (DC.room dc.new) (is_err result) }
     ensures fresh { (DC.holds dc.new).fresh ≡ (DC.holds dc.old).fresh }
     ensures stays { Stays M.numbers.vertex (M.held m.old) (M.held m.new) parents.old parents.new }
     ensures own { CornersStay M.numbers.vertex (M.held m.old).dim corners.old corners.new }

@@ -1,6 +1,6 @@
 use pe_access::{CellState, Row};
 use pe_base::Place;
-use pe_states::Marks;
+use pe_states::Ages;
 
 /// What is known of the cell that is walked, beside its records.
 #[derive(Clone, Copy, Debug, PartialEq, Eq)]
@@ -11,6 +11,6 @@ pub(crate) struct WalkedCell {
     pub state: CellState,
     /// The routes of the row of children that it is in.
     pub row: Row,
-    /// The marks that give the kinds of its corners.
-    pub marks: Marks,
+    /// The ages that give the kinds of its corners.
+    pub ages: Ages,
 }

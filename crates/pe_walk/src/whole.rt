@@ -2,9 +2,10 @@
 ghost use Rattle.std.specs.Prelude.{◌≡◌, ◌+◌, ◌^◌, ◌<◌, ◌≤◌, is_err, IfOk};
 ghost use Rattle.pe_base.specs.Walk.Working.{no_tally};
 ghost use Rattle.pe_stacks.specs.Holdings.{CountsWithin};
-ghost use Rattle.pe_mapping.specs.Held.{Keeps};
+ghost use Rattle.pe_mapping.specs.Held.{Keeps, found_of};
 ghost use Rattle.pe_hang.specs.InHand.{setting_of};
-ghost use Rattle.pe_hang.specs.Follows.{Follows, Fits, Left, read_by, found_of, held_by};
+ghost use Rattle.pe_base.specs.Calls.Follows.{Follows, Fits, read_by};
+ghost use Rattle.pe_stacks.specs.RecordsOut.{RecordsOut, held_by};
 ghost use Rattle.pe_adapt.specs.Stops.{failure_of};
 ghost use Rattle.pe_walk.specs.Machine.{traverse};
 ghost use Rattle.pe_walk.specs.Gridded.{ports_of};
@@ -68,8 +69,8 @@ pub(crate) fn traverse_stacks<M: Mapping, DV: Depot<Vertex<M::V>>, DC: Depot<Cel
         (machine_between M.numbers (DV.holds dv.old) (DC.holds dc.old) grid.root (M.held m.old).list (no_tally (grid.finished + 1))))
         (λ answer. machine_between M.numbers (DV.holds dv.new) (DC.holds dc.new) answer.0.root (M.held m.new).list answer.1)
         (read_by failure_of result) (found_of (M.held m.old) (held_by (DV.holds dv.old) (DV.room dv.old)) (held_by (DC.holds dc.old) (DC.room dc.old))) (M.held m.new).told }
-    ensures left { Left 0 0 (DV.holds dv.old) (DV.room dv.old) (DV.holds dv.new) (DV.room dv.new) (is_err result) }
-    ensures cells_left { Left 0 0 (DC.holds dc.old) (DC.room dc.old) (DC.holds dc.new) (DC.room dc.new) (is_err result) }
+    ensures left { RecordsOut 0 0 (DV.holds dv.old) (DV.room dv.old) (DV.holds dv.new) (DV.room dv.new) (is_err result) }
+    ensures cells_left { RecordsOut 0 0 (DC.holds dc.old) (DC.room dc.old) (DC.holds dc.new) (DC.room dc.new) (is_err result) }
     ensures few { IfOk result (λ answer. answer.1.cells ≤ setup.now.max_cells) }
     ensures keeps { Keeps (M.held m.old) (M.held m.new) }
     ensures advanced { IfOk result (λ answer. IsAdvanced grid answer.0) }

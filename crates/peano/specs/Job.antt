@@ -3,16 +3,17 @@ use Rattle.std.specs.Prelude.{◌≡◌, ◌≢◌, ℕ, List, Option}
 use Rattle.std.specs.declared.io.Error.{Error}
 use Rattle.std.specs.declared.io.ErrorKind.TheVariants.{InvalidData}
 use Rattle.std.specs.IoError.{error_kind}
-use Rattle.pe_io.specs.Counters.{Rises}
+use Rattle.pe_base.specs.Calls.Counters.{Rises}
+use Rattle.pe_base.specs.Calls.Told.{Told, SinkFailed}
 use Rattle.pe_io.specs.Shelf.{Contents, FailedCall}
 use Rattle.pe_run.specs.Run.{IsShelfCause, IsComplete}
 
 -- Of the run of a job, once: why the shelf or the sink ended it, and what it is where nothing failed. `before` and
--- `after` are the shelf's counts of faults, `quiet` and `loud` the sink's, and `old` and `new` the sink's text.
-pub record IsJob (job : Option (List ℕ)) (told : Option Contents) (before after : ℕ) (last : Option FailedCall) (quiet loud : ℕ) (old new : Option (List ℕ)) (status : ℕ) : Type 0 where
+-- `after` are the shelf's counts of faults, and `old` and `new` what the sink tells.
+pub record IsJob (job : Option (List ℕ)) (told : Option Contents) (before after : ℕ) (last : Option FailedCall) (old new : Told) (status : ℕ) : Type 0 where
   pub shelf_cause : status ≡ 6 → IsShelfCause job told before after last
-  pub sink_cause : status ≡ 7 → Rises quiet loud
-  pub completeness : ¬ Rises before after → ¬ Rises quiet loud → IsComplete job told old new status
+  pub sink_cause : status ≡ 7 → SinkFailed old new
+  pub completeness : ¬ Rises before after → ¬ SinkFailed old new → IsComplete job told old new status
 
 -- The status where the words cannot be had: 2 where one is no text, and else want of memory.
 pub record Refuses (fault : Error) (status : ℕ) : Type 0 where

@@ -5,7 +5,7 @@ use Rattle.std.specs.Option.{option_map}
 use Rattle.pe_base.specs.declared.kind.Kind.{Kind}
 use Rattle.pe_base.specs.declared.state.State.{State}
 use Rattle.pe_base.specs.Life.States.{refined_state, erased_state}
-use Rattle.pe_base.specs.Acts.Effects.{VertexRecord, Seen, Outcome, Fault, Overflow, Fresh, Rules}
+use Rattle.pe_base.specs.Acts.Effects.{SeenVertex, Seen, Outcome, Fault, Overflow, Fresh, Rules}
 use Rattle.traversals.specs.declared.planned.Plan.{Plan}
 
 -- the number that follows another, up to the greatest one
@@ -25,7 +25,7 @@ met_state plan number level kind state =
     else if number == plan.erased then erased_state kind state
     else state
 
-abbrev pub met : Plan → ℕ → ℕ → VertexRecord → VertexRecord
+abbrev pub met : Plan → ℕ → ℕ → SeenVertex → SeenVertex
 met plan number level vertex = record vertex { state = met_state plan number level vertex.kind vertex.state }
 
 abbrev pub leaving : ℕ → Seen → Option Fault → Outcome

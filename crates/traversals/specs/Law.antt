@@ -6,8 +6,8 @@ use Rattle.std.proofs.lemmas.List.Elements.{All-cons}
 use Rattle.pe_base.specs.declared.kind.Kind.{Kind}
 use Rattle.pe_base.specs.declared.state.State.{State}
 use Rattle.pe_base.specs.Life.States.{refined_state, erased_state}
-use Rattle.pe_base.specs.Acts.Effects.{VertexRecord, Seen, Overflow, MayBecome, IsTriggeredIfAny, MayLeave, AreLawful}
-use Rattle.pe_mapping.proofs.Lawful.{all_triggered_same, both_same, leaves_same}
+use Rattle.pe_base.specs.Acts.Effects.{SeenVertex, Seen, Overflow, MayBecome, IsTriggeredIfAny, MayLeave, AreLawful}
+use Rattle.pe_base.proofs.Lawful.{all_triggered_same, both_same, leaves_same}
 use Rattle.traversals.specs.declared.planned.Plan.{Plan}
 use Rattle.traversals.specs.Effects.{number_in, met_state, met, leaving, happening, planned_rules}
 
@@ -21,7 +21,7 @@ state-lawful plan number level kind state =
       ]
     ]
 
-pub met_lawful : (plan : Plan) (number level : ℕ) (vertex : Option VertexRecord) → IsTriggeredIfAny plan.greatest level vertex (option_map (met plan number level) vertex)
+pub met_lawful : (plan : Plan) (number level : ℕ) (vertex : Option SeenVertex) → IsTriggeredIfAny plan.greatest level vertex (option_map (met plan number level) vertex)
 met_lawful plan number level None = tt
 met_lawful plan number level (Some vertex) = record { kind = refl; state = state-lawful plan number level vertex.kind vertex.state }
 

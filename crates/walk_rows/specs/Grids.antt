@@ -12,9 +12,9 @@ use Rattle.pe_base.specs.Steps.Faces.{Face, face_on}
 use Rattle.pe_base.specs.Walk.Maps.{Map, nothing, put}
 use Rattle.pe_base.specs.Walk.Grids.{Grid, StoredVertex}
 use Rattle.pe_stacks.specs.Holdings.{Holdings, new_stack, new_holdings}
-use Rattle.pe_walk.specs.Tokens.{Tokens, traverse}
-use Rattle.pe_walk.specs.Outlooks.{outlook}
-use Rattle.pe_walk.specs.Tallies.{foreseen_tally}
+use Rattle.pe_order.specs.Tokens.{Tokens, traverse}
+use Rattle.pe_order.specs.Outlooks.{outlook}
+use Rattle.pe_order.specs.Tallies.{foreseen_tally}
 
 abbrev pub is_between : ℕ → ℕ → ℕ → Bool
 is_between low high x = nat_le low x && nat_le x high
@@ -36,8 +36,8 @@ everywhere vertex =
     let high = if vertex.level == 1 then 2 else 8 in
     is_between 1 high (slice_index vertex.pos 0) && is_between 1 high (slice_index vertex.pos 1) && is_between 1 high (slice_index vertex.pos 2)
 
-abbrev pub mark : ℕ → ℕ → ℕ → Place
-mark level x y = at level (x ∷ y ∷ [])
+abbrev pub point : ℕ → ℕ → ℕ → Place
+point level x y = at level (x ∷ y ∷ [])
 
 -- the lists of the nine cells of level 1 on one stack, in the order of the walk: those that arrive, or those that are left
 abbrev pub on_stack : (ℕ → Way → (Place → Bool) → ℕ → Face → Place → List Place) → Way → (Place → Bool) → ℕ → ℕ → List (List Place)
@@ -45,14 +45,14 @@ on_stack lists way counts axis parity = map (λ cell. lists 2 way counts 1 (face
 
 -- places by numbers of three digits: the level, and the position
 abbrev pub place_of : ℕ → Place
-place_of n = mark (n / 100) (n / 10 % 10) (n % 10)
+place_of n = point (n / 100) (n / 10 % 10) (n % 10)
 
 abbrev pub places : List ℕ → List Place
 places ns = map place_of ns
 
 -- the vertices and the cells of the square of level 2 from one position to another
 abbrev pub square : ℕ → ℕ → ℕ → ℕ → List Place
-square x y width height = flat_map (λ i. map (λ j. mark 2 (x + i) (y + j)) (range_with_len 0 height)) (range_with_len 0 width)
+square x y width height = flat_map (λ i. map (λ j. point 2 (x + i) (y + j)) (range_with_len 0 height)) (range_with_len 0 width)
 
 abbrev pub put_vertices : State → List Place → Map StoredVertex → Map StoredVertex
 put_vertices state [] m = m

@@ -2,68 +2,67 @@
 //! load of a vertex, the cell before it around the vertex, and for each store the cell behind it.
 ghost use Rattle.std.specs.Prelude.{◌≡◌, [], ◌∷◌, map, false};
 ghost use Rattle.pe_base.specs.declared.way.Way.TheVariants.{Forward, Inverted};
-ghost use Rattle.pe_base.specs.Tree.Places.{at};
+ghost use Rattle.pe_base.specs.Tree.Places.{at, root};
 ghost use Rattle.pe_base.specs.Steps.Faces.{arriving, leaving, face_on};
-ghost use Rattle.pe_base.specs.Tree.Places.{root};
-ghost use Rattle.pe_walk.specs.Takings.{reads_of, writes_of};
-ghost use Rattle.pe_walk.specs.Outlooks.{outlook};
-ghost use Rattle.walk_rows.specs.Grids.{half_erased, half_erased_streams, half_kept, half_kept_streams, after_traversal, on_outputs, counted_of, regular, refined_once, everywhere, mark, on_stack};
+ghost use Rattle.pe_order.specs.Takings.{reads_of, writes_of};
+ghost use Rattle.pe_order.specs.Outlooks.{outlook};
+ghost use Rattle.walk_rows.specs.Grids.{half_erased, half_erased_streams, half_kept, half_kept_streams, after_traversal, on_outputs, counted_of, regular, refined_once, everywhere, point, on_stack};
 
 fn whole_grid_forward()
     ensures arriving_0 { on_stack arriving Forward regular 0 0 ≡
-        [] ∷ [] ∷ [] ∷ [] ∷ [] ∷ [] ∷ (mark 1 2 1 ∷ mark 2 6 1 ∷ mark 2 6 2 ∷ mark 2 6 3 ∷ [])
-        ∷ (mark 1 2 2 ∷ mark 2 6 4 ∷ mark 2 6 5 ∷ mark 2 6 6 ∷ []) ∷ (mark 2 6 7 ∷ mark 2 6 8 ∷ []) ∷ [] }
+        [] ∷ [] ∷ [] ∷ [] ∷ [] ∷ [] ∷ (point 1 2 1 ∷ point 2 6 1 ∷ point 2 6 2 ∷ point 2 6 3 ∷ [])
+        ∷ (point 1 2 2 ∷ point 2 6 4 ∷ point 2 6 5 ∷ point 2 6 6 ∷ []) ∷ (point 2 6 7 ∷ point 2 6 8 ∷ []) ∷ [] }
     ensures leaving_0 { on_stack leaving Forward regular 0 0 ≡
-        [] ∷ [] ∷ [] ∷ (mark 2 6 7 ∷ mark 2 6 8 ∷ []) ∷ (mark 1 2 2 ∷ mark 2 6 4 ∷ mark 2 6 5 ∷ mark 2 6 6 ∷ [])
-        ∷ (mark 1 2 1 ∷ mark 2 6 1 ∷ mark 2 6 2 ∷ mark 2 6 3 ∷ []) ∷ [] ∷ [] ∷ [] ∷ [] }
+        [] ∷ [] ∷ [] ∷ (point 2 6 7 ∷ point 2 6 8 ∷ []) ∷ (point 1 2 2 ∷ point 2 6 4 ∷ point 2 6 5 ∷ point 2 6 6 ∷ [])
+        ∷ (point 1 2 1 ∷ point 2 6 1 ∷ point 2 6 2 ∷ point 2 6 3 ∷ []) ∷ [] ∷ [] ∷ [] ∷ [] }
     ensures arriving_1 { on_stack arriving Forward regular 0 1 ≡
-        [] ∷ [] ∷ [] ∷ (mark 1 1 2 ∷ mark 2 3 8 ∷ mark 2 3 7 ∷ mark 2 3 6 ∷ [])
-        ∷ (mark 1 1 1 ∷ mark 2 3 5 ∷ mark 2 3 4 ∷ mark 2 3 3 ∷ []) ∷ (mark 2 3 2 ∷ mark 2 3 1 ∷ []) ∷ [] ∷ []
+        [] ∷ [] ∷ [] ∷ (point 1 1 2 ∷ point 2 3 8 ∷ point 2 3 7 ∷ point 2 3 6 ∷ [])
+        ∷ (point 1 1 1 ∷ point 2 3 5 ∷ point 2 3 4 ∷ point 2 3 3 ∷ []) ∷ (point 2 3 2 ∷ point 2 3 1 ∷ []) ∷ [] ∷ []
         ∷ [] ∷ [] }
     ensures leaving_1 { on_stack leaving Forward regular 0 1 ≡
-        (mark 2 3 2 ∷ mark 2 3 1 ∷ []) ∷ (mark 1 1 1 ∷ mark 2 3 5 ∷ mark 2 3 4 ∷ mark 2 3 3 ∷ [])
-        ∷ (mark 1 1 2 ∷ mark 2 3 8 ∷ mark 2 3 7 ∷ mark 2 3 6 ∷ []) ∷ [] ∷ [] ∷ [] ∷ [] ∷ [] ∷ [] ∷ [] }
+        (point 2 3 2 ∷ point 2 3 1 ∷ []) ∷ (point 1 1 1 ∷ point 2 3 5 ∷ point 2 3 4 ∷ point 2 3 3 ∷ [])
+        ∷ (point 1 1 2 ∷ point 2 3 8 ∷ point 2 3 7 ∷ point 2 3 6 ∷ []) ∷ [] ∷ [] ∷ [] ∷ [] ∷ [] ∷ [] ∷ [] }
     ensures arriving_2 { on_stack arriving Forward regular 1 0 ≡
-        [] ∷ [] ∷ (mark 1 1 2 ∷ mark 2 1 6 ∷ mark 2 2 6 ∷ mark 2 3 6 ∷ []) ∷ []
-        ∷ (mark 1 2 2 ∷ mark 1 1 2 ∷ mark 2 6 6 ∷ mark 2 5 6 ∷ mark 2 4 6 ∷ mark 2 3 6 ∷ []) ∷ [] ∷ [] ∷ []
-        ∷ (mark 1 2 2 ∷ mark 2 7 6 ∷ mark 2 6 6 ∷ mark 2 8 6 ∷ []) ∷ [] }
+        [] ∷ [] ∷ (point 1 1 2 ∷ point 2 1 6 ∷ point 2 2 6 ∷ point 2 3 6 ∷ []) ∷ []
+        ∷ (point 1 2 2 ∷ point 1 1 2 ∷ point 2 6 6 ∷ point 2 5 6 ∷ point 2 4 6 ∷ point 2 3 6 ∷ []) ∷ [] ∷ [] ∷ []
+        ∷ (point 1 2 2 ∷ point 2 7 6 ∷ point 2 6 6 ∷ point 2 8 6 ∷ []) ∷ [] }
     ensures leaving_2 { on_stack leaving Forward regular 1 0 ≡
-        [] ∷ (mark 1 1 2 ∷ mark 2 1 6 ∷ mark 2 2 6 ∷ mark 2 3 6 ∷ []) ∷ []
-        ∷ (mark 1 2 2 ∷ mark 1 1 2 ∷ mark 2 6 6 ∷ mark 2 5 6 ∷ mark 2 4 6 ∷ mark 2 3 6 ∷ []) ∷ [] ∷ [] ∷ []
-        ∷ (mark 1 2 2 ∷ mark 2 7 6 ∷ mark 2 6 6 ∷ mark 2 8 6 ∷ []) ∷ [] ∷ [] }
+        [] ∷ (point 1 1 2 ∷ point 2 1 6 ∷ point 2 2 6 ∷ point 2 3 6 ∷ []) ∷ []
+        ∷ (point 1 2 2 ∷ point 1 1 2 ∷ point 2 6 6 ∷ point 2 5 6 ∷ point 2 4 6 ∷ point 2 3 6 ∷ []) ∷ [] ∷ [] ∷ []
+        ∷ (point 1 2 2 ∷ point 2 7 6 ∷ point 2 6 6 ∷ point 2 8 6 ∷ []) ∷ [] ∷ [] }
     ensures arriving_3 { on_stack arriving Forward regular 1 1 ≡
-        [] ∷ (mark 1 1 1 ∷ mark 2 3 3 ∷ mark 2 2 3 ∷ mark 2 1 3 ∷ []) ∷ [] ∷ [] ∷ []
-        ∷ (mark 1 2 1 ∷ mark 1 1 1 ∷ mark 2 4 3 ∷ mark 2 3 3 ∷ mark 2 5 3 ∷ mark 2 6 3 ∷ []) ∷ []
-        ∷ (mark 1 2 1 ∷ mark 2 8 3 ∷ mark 2 7 3 ∷ mark 2 6 3 ∷ []) ∷ [] ∷ [] }
+        [] ∷ (point 1 1 1 ∷ point 2 3 3 ∷ point 2 2 3 ∷ point 2 1 3 ∷ []) ∷ [] ∷ [] ∷ []
+        ∷ (point 1 2 1 ∷ point 1 1 1 ∷ point 2 4 3 ∷ point 2 3 3 ∷ point 2 5 3 ∷ point 2 6 3 ∷ []) ∷ []
+        ∷ (point 1 2 1 ∷ point 2 8 3 ∷ point 2 7 3 ∷ point 2 6 3 ∷ []) ∷ [] ∷ [] }
     ensures leaving_3 { on_stack leaving Forward regular 1 1 ≡
-        (mark 1 1 1 ∷ mark 2 3 3 ∷ mark 2 2 3 ∷ mark 2 1 3 ∷ []) ∷ [] ∷ [] ∷ []
-        ∷ (mark 1 2 1 ∷ mark 1 1 1 ∷ mark 2 4 3 ∷ mark 2 3 3 ∷ mark 2 5 3 ∷ mark 2 6 3 ∷ []) ∷ []
-        ∷ (mark 1 2 1 ∷ mark 2 8 3 ∷ mark 2 7 3 ∷ mark 2 6 3 ∷ []) ∷ [] ∷ [] ∷ [] }
+        (point 1 1 1 ∷ point 2 3 3 ∷ point 2 2 3 ∷ point 2 1 3 ∷ []) ∷ [] ∷ [] ∷ []
+        ∷ (point 1 2 1 ∷ point 1 1 1 ∷ point 2 4 3 ∷ point 2 3 3 ∷ point 2 5 3 ∷ point 2 6 3 ∷ []) ∷ []
+        ∷ (point 1 2 1 ∷ point 2 8 3 ∷ point 2 7 3 ∷ point 2 6 3 ∷ []) ∷ [] ∷ [] ∷ [] }
 {}
 
 fn refined_grid_inverted()
     ensures arriving_0 { on_stack arriving Inverted refined_once 0 0 ≡
-        [] ∷ [] ∷ [] ∷ (mark 1 2 1 ∷ []) ∷ (mark 1 2 2 ∷ []) ∷ [] ∷ [] ∷ [] ∷ [] ∷ [] }
+        [] ∷ [] ∷ [] ∷ (point 1 2 1 ∷ []) ∷ (point 1 2 2 ∷ []) ∷ [] ∷ [] ∷ [] ∷ [] ∷ [] }
     ensures leaving_0 { on_stack leaving Inverted refined_once 0 0 ≡
-        [] ∷ (mark 1 2 2 ∷ []) ∷ (mark 1 2 1 ∷ []) ∷ [] ∷ [] ∷ [] ∷ [] ∷ [] ∷ [] ∷ [] }
+        [] ∷ (point 1 2 2 ∷ []) ∷ (point 1 2 1 ∷ []) ∷ [] ∷ [] ∷ [] ∷ [] ∷ [] ∷ [] ∷ [] }
     ensures arriving_1 { on_stack arriving Inverted refined_once 0 1 ≡
-        [] ∷ [] ∷ [] ∷ [] ∷ [] ∷ [] ∷ (mark 1 1 2 ∷ [])
-        ∷ (mark 1 1 1 ∷ mark 2 3 5 ∷ mark 2 3 4 ∷ mark 2 3 3 ∷ []) ∷ (mark 2 3 2 ∷ mark 2 3 1 ∷ []) ∷ [] }
+        [] ∷ [] ∷ [] ∷ [] ∷ [] ∷ [] ∷ (point 1 1 2 ∷ [])
+        ∷ (point 1 1 1 ∷ point 2 3 5 ∷ point 2 3 4 ∷ point 2 3 3 ∷ []) ∷ (point 2 3 2 ∷ point 2 3 1 ∷ []) ∷ [] }
     ensures leaving_1 { on_stack leaving Inverted refined_once 0 1 ≡
-        [] ∷ [] ∷ [] ∷ (mark 2 3 2 ∷ mark 2 3 1 ∷ []) ∷ (mark 1 1 1 ∷ mark 2 3 5 ∷ mark 2 3 4 ∷ mark 2 3 3 ∷ [])
-        ∷ (mark 1 1 2 ∷ []) ∷ [] ∷ [] ∷ [] ∷ [] }
+        [] ∷ [] ∷ [] ∷ (point 2 3 2 ∷ point 2 3 1 ∷ []) ∷ (point 1 1 1 ∷ point 2 3 5 ∷ point 2 3 4 ∷ point 2 3 3 ∷ [])
+        ∷ (point 1 1 2 ∷ []) ∷ [] ∷ [] ∷ [] ∷ [] }
     ensures arriving_2 { on_stack arriving Inverted refined_once 1 0 ≡
-        [] ∷ (mark 1 2 2 ∷ []) ∷ [] ∷ [] ∷ [] ∷ (mark 1 2 2 ∷ mark 1 1 2 ∷ []) ∷ [] ∷ (mark 1 1 2 ∷ []) ∷ []
+        [] ∷ (point 1 2 2 ∷ []) ∷ [] ∷ [] ∷ [] ∷ (point 1 2 2 ∷ point 1 1 2 ∷ []) ∷ [] ∷ (point 1 1 2 ∷ []) ∷ []
         ∷ [] }
     ensures leaving_2 { on_stack leaving Inverted refined_once 1 0 ≡
-        (mark 1 2 2 ∷ []) ∷ [] ∷ [] ∷ [] ∷ (mark 1 2 2 ∷ mark 1 1 2 ∷ []) ∷ [] ∷ (mark 1 1 2 ∷ []) ∷ [] ∷ []
+        (point 1 2 2 ∷ []) ∷ [] ∷ [] ∷ [] ∷ (point 1 2 2 ∷ point 1 1 2 ∷ []) ∷ [] ∷ (point 1 1 2 ∷ []) ∷ [] ∷ []
         ∷ [] }
     ensures arriving_3 { on_stack arriving Inverted refined_once 1 1 ≡
-        [] ∷ [] ∷ (mark 1 2 1 ∷ []) ∷ [] ∷ (mark 1 2 1 ∷ mark 1 1 1 ∷ mark 2 4 3 ∷ mark 2 3 3 ∷ mark 2 5 3 ∷ [])
-        ∷ [] ∷ [] ∷ [] ∷ (mark 1 1 1 ∷ mark 2 3 3 ∷ mark 2 2 3 ∷ mark 2 1 3 ∷ []) ∷ [] }
+        [] ∷ [] ∷ (point 1 2 1 ∷ []) ∷ [] ∷ (point 1 2 1 ∷ point 1 1 1 ∷ point 2 4 3 ∷ point 2 3 3 ∷ point 2 5 3 ∷ [])
+        ∷ [] ∷ [] ∷ [] ∷ (point 1 1 1 ∷ point 2 3 3 ∷ point 2 2 3 ∷ point 2 1 3 ∷ []) ∷ [] }
     ensures leaving_3 { on_stack leaving Inverted refined_once 1 1 ≡
-        [] ∷ (mark 1 2 1 ∷ []) ∷ [] ∷ (mark 1 2 1 ∷ mark 1 1 1 ∷ mark 2 4 3 ∷ mark 2 3 3 ∷ mark 2 5 3 ∷ []) ∷ []
-        ∷ [] ∷ [] ∷ (mark 1 1 1 ∷ mark 2 3 3 ∷ mark 2 2 3 ∷ mark 2 1 3 ∷ []) ∷ [] ∷ [] }
+        [] ∷ (point 1 2 1 ∷ []) ∷ [] ∷ (point 1 2 1 ∷ point 1 1 1 ∷ point 2 4 3 ∷ point 2 3 3 ∷ point 2 5 3 ∷ []) ∷ []
+        ∷ [] ∷ [] ∷ (point 1 1 1 ∷ point 2 3 3 ∷ point 2 2 3 ∷ point 2 1 3 ∷ []) ∷ [] ∷ [] }
 {}
 
 // A cell of space, at its face in the plane 1 of axis 1 and at that in the plane 2 of that axis.

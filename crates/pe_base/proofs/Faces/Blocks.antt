@@ -9,9 +9,8 @@ use Rattle.pe_base.specs.declared.place.Place.{Place}
 use Rattle.pe_base.specs.Tree.Curve.{digit_lists}
 use Rattle.pe_base.specs.Steps.Faces.{Stretch, StretchesApart}
 use Rattle.pe_base.proofs.Lists.{Each-weaker, Each-reverse, Each-filter, map-map, flat_map_same, flat_map_none, filter-map, filter_none, map-reverse, reverse-cons, Each-both, filter_all}
-use Rattle.pe_base.proofs.Tree.Mirrors.{Digits3, complement, digit_lists_below, reverse-digit_lists}
+use Rattle.pe_base.proofs.Tree.Mirrors.{Digits3, complement, digit_lists_below, reverse-digit_lists, Each-digits}
 use Rattle.pe_base.proofs.Tree.Ranks.{value, Rising, Rising-above, digit_lists_rise}
-use Rattle.pe_base.proofs.Tree.Mirrors.{Each-digits}
 use Rattle.pe_base.proofs.Faces.Quiet.{value-below}
 
 -- a greater first digit makes a greater number

@@ -11,13 +11,12 @@ use Rattle.pe_base.specs.Tree.Places.{finer, is_same}
 use Rattle.pe_base.specs.Tree.Curve.{digit_lists, flip, children}
 use Rattle.pe_base.specs.Steps.Faces.{Stretches, Stretches, Face, Stretch, StretchesApart, across, face_on, is_touched, loads, corner_touches, comes_across, goes_across, at_face, arriving, leaving, in_corners, out_corners, child_stretch, corner_stretch, cell_stretches}
 use Rattle.pe_base.proofs.Lists.{In, In-map, Each-In, Each-left, Each-right, Each-parts, list_any_none, none_Each, Each-weaker, Each-reverse, Each-filter, map-map, flat_map_same, filter_same, filter-map, filter-reverse}
-use Rattle.pe_base.proofs.Tree.Mirrors.{Digits3, complement, digit_lists_below, reverse-digit_lists, turned_complement}
+use Rattle.pe_base.proofs.Tree.Mirrors.{Digits3, complement, digit_lists_below, reverse-digit_lists, turned_complement, Each-digits}
 use Rattle.pe_base.specs.Steps.Routes.{way_turns}
 use Rattle.pe_base.proofs.Tree.Children.{Pairs-range, flips_in, length-flips, child_of, child_ks, child_index, children_are}
 use Rattle.pe_base.proofs.Tree.Corners.{own_corners}
 use Rattle.pe_base.proofs.Faces.FaceLists.{face_of, is_child_at, at_face_parts, leaving_is}
 use Rattle.pe_base.proofs.Tree.Ranks.{value, rank, rank_of, rank-child, child_four}
-use Rattle.pe_base.proofs.Tree.Mirrors.{Each-digits}
 use Rattle.pe_base.proofs.Faces.Quiet.{later_child, earlier_child, still_child, arriving_none, leaving_none, later_or_earlier, across_child, rank-parent, less_below, value-below}
 use Rattle.pe_base.proofs.Faces.Blocks.{Touching, Meet, Untouched, Untouched-append, Untouched-flat_map, Free, Apart, meet_behind, OneWay, blocks, outer_takes, outer_gives, StretchesApart-append}
 use Rattle.pe_base.proofs.Faces.Waits.{InTree, child_in_tree, digits_in, arriving_apart, leaving_apart, deeper_arriving, deeper_leaving}

@@ -6,11 +6,10 @@ use Rattle.pe_base.specs.declared.place.Place.{Place}
 use Rattle.pe_base.specs.declared.way.Way.{Way}
 use Rattle.pe_base.specs.Tree.Curve.{mirrored}
 use Rattle.pe_base.specs.Steps.Faces.{across, face_on, is_touched, arriving, leaving, child_stretch}
-use Rattle.pe_base.proofs.Tree.Mirrors.{Digits3, complement, complement_below, mirrored_even, mirrored_odd, even_or_odd, turns_at, turned-at, turned_next-even, turned_next-odd}
+use Rattle.pe_base.proofs.Tree.Mirrors.{Digits3, complement, complement_below, mirrored_even, mirrored_odd, even_or_odd, turns_at, turned-at, turned_next-even, turned_next-odd, Each-digits}
 use Rattle.pe_base.proofs.Tree.Children.{flips_in, length-flips, child_of, child_ks, child_index}
 use Rattle.pe_base.proofs.Faces.FaceLists.{face_of, up_cell, is_child_at, across-up, leaving-up, leaving-down}
 use Rattle.pe_base.proofs.Tree.Ranks.{value, rank_of, rank-child, child_four}
-use Rattle.pe_base.proofs.Tree.Mirrors.{Each-digits}
 use Rattle.pe_base.proofs.Faces.Quiet.{Earlier, arriving_none, leaving_none, value-below}
 use Rattle.pe_base.proofs.Faces.Blocks.{Lists, Touching, Meet}
 use Rattle.pe_base.proofs.Faces.Waits.{InTree, child_in_tree, arriving_apart, leaving_apart}

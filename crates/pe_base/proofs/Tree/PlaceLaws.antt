@@ -9,6 +9,7 @@ use Rattle.std.proofs.lemmas.Bool.{cases_lt}
 use Rattle.std.proofs.lemmas.Nat.{shr-shr}
 use Rattle.pe_base.specs.declared.place.Place.{Place}
 use Rattle.pe_base.specs.declared.place.Digits.{Digits}
+use Rattle.pe_base.specs.Limits.{most_levels}
 use Rattle.pe_base.specs.Tree.Places.{IsPosition, IsCellPlace, IsDigits, padded, finer, child_at, bits, moved}
 
 -- the padding is 0 everywhere
@@ -103,7 +104,7 @@ IsPosition-finer axes bound pos ks h d =
     }
 
 -- a child's place is a cell's place
-pub IsCellPlace-child_at : (axes : ℕ) (parent : Place) (digits : Digits) → IsCellPlace axes parent → parent.level < 20 → IsDigits axes digits → IsCellPlace axes (child_at parent digits)
+pub IsCellPlace-child_at : (axes : ℕ) (parent : Place) (digits : Digits) → IsCellPlace axes parent → parent.level < most_levels → IsDigits axes digits → IsCellPlace axes (child_at parent digits)
 IsCellPlace-child_at axes parent digits h level d = record {
   level = omega arith;
   pos =

@@ -7,7 +7,7 @@ use Rattle.pe_base.specs.declared.kind.Kind.{Kind}
 use Rattle.pe_base.specs.declared.kind.Kind.TheVariants.{Kept, Born, Dying, Hanging}
 use Rattle.pe_base.specs.Life.States.{is_old, is_new, is_stored, refined_state, erased_state}
 use Rattle.pe_base.specs.Life.Table.{last_touch, is_settled}
-use Rattle.pe_base.specs.Walk.Laws.{KeepsMarks, FirstTouchKeepsOld, LastTouchSettles}
+use Rattle.pe_base.specs.Walk.Laws.{KeepsAges, FirstTouchKeepsOld, LastTouchSettles}
 
 refine_keeps : (test : (State → Bool)) (b : Bool) → test RefinementTriggered ≡ test Unrefined → test (if b then RefinementTriggered else Unrefined) ≡ test Unrefined
 refine_keeps test true h = h
@@ -52,13 +52,13 @@ erased-new Dying state = refl
 erased-new Hanging state = refl
 
 -- a trigger changes neither old nor new
-pub keeps_marks : KeepsMarks
-keeps_marks greatest level kind before after (inl same) = record { old = ap is_old same; new = ap is_new same }
-keeps_marks greatest level kind before after (inr (inl refined)) = record {
+pub keeps_ages : KeepsAges
+keeps_ages greatest level kind before after (inl same) = record { old = ap is_old same; new = ap is_new same }
+keeps_ages greatest level kind before after (inr (inl refined)) = record {
   old = ap is_old refined ∙ refined-old level greatest kind before;
   new = ap is_new refined ∙ refined-new level greatest kind before;
 }
-keeps_marks greatest level kind before after (inr (inr erased)) = record {
+keeps_ages greatest level kind before after (inr (inr erased)) = record {
   old = ap is_old erased ∙ erased-old kind before;
   new = ap is_new erased ∙ erased-new kind before;
 }

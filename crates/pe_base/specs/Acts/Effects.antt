@@ -7,27 +7,58 @@
 --     plain      the root's       none     none   none      none      no numbers
 --     vertex     the vertex's     it       none   none      2^d       its numbers
 --     cell       the cell's       none     it     2^d       2^d       its numbers
-use Rattle.std.specs.Prelude.{◌≡◌, ◌⊎◌, ℕ, ℤ, pos, ◌-◌, List, [], ◌∷◌, All, Option, Some, None}
+use Rattle.std.specs.Prelude.{◌≡◌, ◌⊎◌, ℕ, ℤ, pos, ◌-◌, List, [], ◌∷◌, map, All, Option, Some, None}
 use Rattle.pe_base.specs.declared.place.Place.{Place}
+use Rattle.pe_base.specs.Tree.Places.{root}
 use Rattle.pe_base.specs.declared.state.State.{State}
 use Rattle.pe_base.specs.declared.kind.Kind.{Kind}
 use Rattle.pe_base.specs.declared.event.Event.{Event}
 use Rattle.pe_base.specs.Life.States.{refined_state, erased_state}
 
 -- a vertex as events see it
+pub record SeenVertex : Type 0 where
+  pub state : State
+  pub kind : Kind
+  pub numbers : List ℤ
+
+-- a vertex as it is kept, on a stack or under its place: what is kept beside what events see, no event sees or changes
 pub record VertexRecord : Type 0 where
   pub state : State
   pub kind : Kind
   pub numbers : List ℤ
 
+-- what an event sees of it, and of several
+abbrev pub seen_of : VertexRecord → SeenVertex
+seen_of it = record { state = it.state; kind = it.kind; numbers = it.numbers }
+
+abbrev pub all_seen : List VertexRecord → List SeenVertex
+all_seen = map seen_of
+
+-- a vertex as an event has left it
+abbrev pub as_seen : SeenVertex → VertexRecord
+as_seen seen = record { state = seen.state; kind = seen.kind; numbers = seen.numbers }
+
+abbrev pub as_left : VertexRecord → SeenVertex → VertexRecord
+as_left it seen = as_seen seen
+
+-- several, one by one
+abbrev pub as_all_left : List VertexRecord → List SeenVertex → List VertexRecord
+as_all_left its [] = []
+as_all_left [] (seen ∷ seens) = as_seen seen ∷ as_all_left [] seens
+as_all_left (it ∷ its) (seen ∷ seens) = as_left it seen ∷ as_all_left its seens
+
 -- what an event sees
 pub record Seen : Type 0 where
   pub place : Place
-  pub vertex : Option VertexRecord
+  pub vertex : Option SeenVertex
   pub cell : Option (List ℤ)
-  pub corners : List VertexRecord
-  pub parents : List VertexRecord
+  pub corners : List SeenVertex
+  pub parents : List SeenVertex
   pub parent : List ℤ
+
+-- what a plain event sees: nothing
+abbrev pub plain_sight : Seen
+plain_sight = record { place = root; vertex = None; cell = None; corners = []; parents = []; parent = [] }
 
 -- why the program of an event may stop
 pub data Fault : Type 0 where
@@ -69,19 +100,19 @@ MayBecome greatest level kind before after =
     (after ≡ before) ⊎ (after ≡ refined_state level greatest kind before) ⊎ (after ≡ erased_state kind before)
 
 -- a vertex after an event: of the same kind, and of a state that it may become
-pub record IsTriggered (greatest level : ℕ) (before after : VertexRecord) : Type 0 where
+pub record IsTriggered (greatest level : ℕ) (before after : SeenVertex) : Type 0 where
   pub kind : after.kind ≡ before.kind
   pub state : MayBecome greatest level before.kind before.state after.state
 
 -- vertices after an event, one by one
-abbrev pub AreTriggered : ℕ → ℕ → List VertexRecord → List VertexRecord → Type 0
+abbrev pub AreTriggered : ℕ → ℕ → List SeenVertex → List SeenVertex → Type 0
 AreTriggered greatest level [] [] = Unit {0}
 AreTriggered greatest level [] (after ∷ afters) = ⊥
 AreTriggered greatest level (before ∷ befores) [] = ⊥
 AreTriggered greatest level (before ∷ befores) (after ∷ afters) = IsTriggered greatest level before after × AreTriggered greatest level befores afters
 
 -- the vertex of an event, if there is one
-abbrev pub IsTriggeredIfAny : ℕ → ℕ → Option VertexRecord → Option VertexRecord → Type 0
+abbrev pub IsTriggeredIfAny : ℕ → ℕ → Option SeenVertex → Option SeenVertex → Type 0
 IsTriggeredIfAny greatest level None None = Unit {0}
 IsTriggeredIfAny greatest level None (Some after) = ⊥
 IsTriggeredIfAny greatest level (Some before) None = ⊥

@@ -9,6 +9,7 @@ use Rattle.std.specs.List.{range_with_len}
 use Rattle.std.specs.Cmp.Lexicographic.{pointwise}
 use Rattle.pe_base.specs.declared.place.Place.{Place}
 use Rattle.pe_base.specs.declared.place.Digits.{Digits}
+use Rattle.pe_base.specs.Limits.{most_levels}
 
 -- four numbers, of which those on the grid's axes are below the bound and the others are 0
 pub record IsPosition (axes bound : ℕ) (pos : List ℕ) : Type 0 where
@@ -18,7 +19,7 @@ pub record IsPosition (axes bound : ℕ) (pos : List ℕ) : Type 0 where
 
 -- a cell's place
 pub record IsCellPlace (axes : ℕ) (place : Place) : Type 0 where
-  pub level : place.level ≤ 20
+  pub level : place.level ≤ most_levels
   pub pos : IsPosition axes (3 ^ place.level) place.pos
 
 -- a child's digits
@@ -86,6 +87,6 @@ parent_of cell = record { level = cell.level - 1; pos = map (λ x. x / 3) cell.p
 
 -- a vertex's place strictly inside the root cube
 pub record IsInside (axes : ℕ) (place : Place) : Type 0 where
-  pub level : place.level ≤ 20
+  pub level : place.level ≤ most_levels
   pub pos : IsPosition axes (3 ^ place.level) place.pos
   pub above : (axis : ℕ) → axis < axes → 0 < slice_index place.pos axis

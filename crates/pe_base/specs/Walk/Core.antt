@@ -12,7 +12,7 @@
 --     leave    all                leave_cell
 --              dying              destroy_cell
 use Rattle.std.specs.Prelude.{ℕ, ℤ, Bool, true, false, List, [], Option, Some, None}
-use Rattle.std.specs.Option.{unwrap_or}
+use Rattle.std.specs.Option.{option_map_or, unwrap_or}
 use Rattle.pe_base.specs.declared.place.Place.{Place}
 use Rattle.pe_base.specs.declared.way.Way.{Way}
 use Rattle.pe_base.specs.declared.state.State.{State}
@@ -23,7 +23,7 @@ use Rattle.pe_base.specs.declared.event.Event.{Event}
 use Rattle.pe_base.specs.declared.event.Event.TheVariants.{TouchVertexFirstTime, TouchVertexLastTime, CreateInnerVertex, CreateHangingVertex, DestroyVertex, DestroyHangingVertex, CreateCell, DestroyCell, EnterCell, LeaveCell}
 use Rattle.pe_base.specs.Tree.Places.{root}
 use Rattle.pe_base.specs.Tree.Ways.{way_of}
-use Rattle.pe_base.specs.Acts.Effects.{VertexRecord, Seen, Fault, Outcome, Rules}
+use Rattle.pe_base.specs.Acts.Effects.{VertexRecord, seen_of, all_seen, as_left, as_all_left, Seen, Fault, Outcome, Rules, plain_sight}
 use Rattle.pe_base.specs.Life.Table.{first_touch, last_touch, start_state}
 use Rattle.pe_base.specs.Walk.Course.{fault_at, Ending, done, halts, Course, at_once, and_then, course_map}
 
@@ -64,24 +64,25 @@ module _ {Plan : Type 0} (set : Setting Plan) where
       record { text = outcome.text; log = []; ending = ended_by event seen.place outcome.fault outcome }
 
   -- the family after an event
-  abbrev pub family_after : Outcome → Family
-  family_after outcome = record { parents = outcome.seen.parents; parent = outcome.seen.parent; list = outcome.list }
+  abbrev pub family_after : Family → Outcome → Family
+  family_after family outcome = record { parents = as_all_left family.parents outcome.seen.parents; parent = outcome.seen.parent; list = outcome.list }
 
   -- an event of no vertex and no cell: the mapping's list after it
   abbrev pub plain_event : Event → List ℤ → Course (List ℤ)
   plain_event event list =
       course_map (λ outcome. outcome.list)
-      (fire event list (record { place = root; vertex = None; cell = None; corners = []; parents = []; parent = [] }))
+      (fire event list plain_sight)
 
   abbrev pub vertex_event : Event → Place → VertexRecord × Family → Course (VertexRecord × Family)
   vertex_event event place it =
-      course_map (λ outcome. (unwrap_or outcome.seen.vertex it.0, family_after outcome))
-      (fire event it.1.list (record { place = place; vertex = Some it.0; cell = None; corners = []; parents = it.1.parents; parent = it.1.parent }))
+      course_map (λ outcome. (option_map_or (as_left it.0) outcome.seen.vertex it.0, family_after it.1 outcome))
+      (fire event it.1.list (record { place = place; vertex = Some (seen_of it.0); cell = None; corners = []; parents = all_seen it.1.parents; parent = it.1.parent }))
 
   abbrev pub cell_event : Event → Place → Own × Family → Course (Own × Family)
   cell_event event place it =
-      course_map (λ outcome. (record { cell = unwrap_or outcome.seen.cell it.0.cell; corners = outcome.seen.corners }, family_after outcome))
-      (fire event it.1.list (record { place = place; vertex = None; cell = Some it.0.cell; corners = it.0.corners; parents = it.1.parents; parent = it.1.parent }))
+      course_map
+      (λ outcome. (record { cell = unwrap_or outcome.seen.cell it.0.cell; corners = as_all_left it.0.corners outcome.seen.corners }, family_after it.1 outcome))
+      (fire event it.1.list (record { place = place; vertex = None; cell = Some it.0.cell; corners = all_seen it.0.corners; parents = all_seen it.1.parents; parent = it.1.parent }))
 
   -- the state of a fresh vertex
   abbrev pub fresh_state : Kind → Place → State

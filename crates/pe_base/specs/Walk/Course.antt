@@ -2,7 +2,7 @@
 --
 -- A move adds text, and may log pushes on stacks. It is done with a result, or halts the walk, or is stuck, which no
 -- walk ever is.
-use Rattle.std.specs.Prelude.{ℕ, Bool, List, [], ◌∷◌, ◌++◌}
+use Rattle.std.specs.Prelude.{ℕ, Bool, true, false, List, [], ◌∷◌, ◌++◌}
 use Rattle.pe_base.specs.declared.place.Place.{Place}
 use Rattle.pe_base.specs.declared.event.Event.{Event}
 use Rattle.pe_base.specs.Acts.Effects.{Fault}
@@ -59,3 +59,8 @@ module _ {X Y : Type 0} where
 abbrev pub each : {A X : Type 0} → (A → X → Course X) → List A → X → Course X
 each step [] x = at_once x
 each step (a ∷ as') x = and_then (step a x) (each step as')
+
+-- a move that may be made only where a test passes
+abbrev pub allowed : {X : Type 0} → Bool → Course X → Course X
+allowed true course = course
+allowed false course = ends stuck

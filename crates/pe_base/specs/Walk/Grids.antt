@@ -12,6 +12,7 @@ use Rattle.pe_base.specs.Life.Table.{is_settled}
 use Rattle.pe_base.specs.Life.Kinds.{is_inside}
 use Rattle.pe_base.specs.Life.Carriers.{passes, is_carried}
 use Rattle.pe_base.specs.Walk.Maps.{Map, nothing, at}
+use Rattle.pe_base.specs.Limits.{most_levels}
 
 -- what is stored of a vertex
 pub record StoredVertex : Type 0 where
@@ -62,7 +63,7 @@ is_stored_cell axes state_at cell = is_cell axes cell && (cell.level == 1 || is_
 pub record IsWellFormed (grid : Grid) : Type 0 where
   pub axes : IsDim grid.axes
   pub some_level : 1 ≤ grid.greatest
-  pub few_levels : grid.greatest ≤ 20
+  pub few_levels : grid.greatest ≤ most_levels
   pub finished : 1 ≤ grid.finished
   pub vertices : (vertex : Place) → is_some (at grid.vertices vertex) ≡ is_stored_vertex grid.axes (state_in grid) vertex
   pub cells : (cell : Place) → is_some (at grid.cells cell) ≡ is_stored_cell grid.axes (state_in grid) cell

@@ -42,13 +42,13 @@ CarriersAreParents = (axes : ℕ) (cell : Place) (k : ℕ) → IsDim axes → k 
     → AllByRecursion (IsCornerOf axes (parent_of cell)) (carriers (corner axes cell k))
 
 -- two states are alike as far as old and new go
-pub record AreMarkedAlike (before after : State) : Type 0 where
+pub record HaveOneAge (before after : State) : Type 0 where
   pub old : is_old after ≡ is_old before
   pub new : is_new after ≡ is_new before
 
 -- An event changes neither old nor new.
-abbrev pub KeepsMarks : Type 0
-KeepsMarks = (greatest level : ℕ) (kind : Kind) (before after : State) → MayBecome greatest level kind before after → AreMarkedAlike before after
+abbrev pub KeepsAges : Type 0
+KeepsAges = (greatest level : ℕ) (kind : Kind) (before after : State) → MayBecome greatest level kind before after → HaveOneAge before after
 
 -- The first touch of a vertex that is stored keeps old, and its last touch turns new into old and leaves nothing refining
 -- or erasing. No more is rested on the state table.

@@ -10,10 +10,10 @@ use Rattle.pe_base.proofs.Steps.VertexTouches.{is_same_itself}
 use Rattle.pe_base.proofs.Tree.Ranks.{same_places}
 use Rattle.pe_stacks.specs.Holdings.{Stack, Holdings, new_stack, stack_at, stack_count, items_at}
 use Rattle.pe_hang.specs.InHand.{map_stack, map_holdings}
-use Rattle.pe_walk.specs.CellsAhead.{times}
-use Rattle.pe_walk.specs.Gridded.{stored_of}
-use Rattle.pe_walk.proofs.Tokens.Apart.{one_if}
-use Rattle.pe_walk.proofs.Tokens.CountLists.{count-cons}
+use Rattle.pe_order.specs.CellsAhead.{times}
+use Rattle.pe_stacks.specs.StreamsHeld.{stored_of}
+use Rattle.pe_order.proofs.Tokens.Apart.{one_if}
+use Rattle.pe_order.proofs.Tokens.CountLists.{count-cons}
 
 -- # Stacks with other items
 module _ {X : Type 0} where

@@ -16,24 +16,24 @@ use Rattle.pe_base.specs.Walk.Working.{Working, no_vertex, record_at, records_of
 use Rattle.pe_base.specs.Walk.Touches.{kind_below, kind_of_children}
 use Rattle.pe_base.proofs.Walk.Families.{Each-range}
 use Rattle.pe_base.proofs.Walk.Slots.{is_hung}
-use Rattle.pe_walk.specs.Tokens.{Outlook, Tokens}
+use Rattle.pe_order.specs.Tokens.{Outlook, Tokens}
 use Rattle.pe_walk.specs.Standing.{Foresight, Foresees, Outset, Stage, IsStage, Holds, IsOutset, IsFair, IsIdle}
 use Rattle.pe_walk.proofs.Simulation.LoadedKinds.{found_stored, idle_if}
 
--- a record's marks are those foreseen of a vertex
-pub record IsMarked (f : Foresight) (vertex : Place) (it : VertexRecord) : Type 0 where
+-- a record's ages are those foreseen of a vertex
+pub record HasAges (f : Foresight) (vertex : Place) (it : VertexRecord) : Type 0 where
   pub old : is_old it.state ≡ f.old vertex
   pub new : is_new it.state ≡ f.new vertex
 
 module _ {Plan : Type 0} (set : Setting Plan) (o : Outlook) (f : Foresight) (see : Foresees set o f) where
   -- a corner in hand: fair where it counts, and idle where it does not
-  pub corner_marked : (greatest : ℕ) (w : Working) (cell : Place) (k : ℕ)
+  pub corner_aged : (greatest : ℕ) (w : Working) (cell : Place) (k : ℕ)
       → (o.counts (corner set.axes cell k) ≡ true → (is_hung w cell k ≡ false) × IsFair f greatest (corner set.axes cell k) (at w.vertices (corner set.axes cell k)))
       → (o.counts (corner set.axes cell k) ≡ false → IsIdle (record_at set.axes w cell k))
-      → IsMarked f (corner set.axes cell k) (record_at set.axes w cell k)
-  corner_marked greatest w cell k on off = by (o.counts (corner set.axes cell k)) refl
+      → HasAges f (corner set.axes cell k) (record_at set.axes w cell k)
+  corner_aged greatest w cell k on off = by (o.counts (corner set.axes cell k)) refl
     where
-      by : (b : Bool) → o.counts (corner set.axes cell k) ≡ b → IsMarked f (corner set.axes cell k) (record_at set.axes w cell k)
+      by : (b : Bool) → o.counts (corner set.axes cell k) ≡ b → HasAges f (corner set.axes cell k) (record_at set.axes w cell k)
       by true counts =
           let here = on counts in
           let found : record_at set.axes w cell k ≡ here.1.it = found_stored set.axes w cell k here.0 ∙ ap (λ x. unwrap_or x no_vertex) here.1.there in
@@ -43,12 +43,12 @@ module _ {Plan : Type 0} (set : Setting Plan) (o : Outlook) (f : Foresight) (see
           let none = idle_if set o f see (corner set.axes cell k) hangs in
           record { old = here.old ∙ sym none.1; new = here.new ∙ sym none.2 }
 
-  -- the kind of the children, by the marks of all corners
-  pub below_by_marks : (w : Working) (cell : Place) → 1 ≤ cell.level → ((k : ℕ) → k < 2 ^ set.axes → IsMarked f (corner set.axes cell k) (record_at set.axes w cell k))
+  -- the kind of the children, by the ages of all corners
+  pub below_by_ages : (w : Working) (cell : Place) → 1 ≤ cell.level → ((k : ℕ) → k < 2 ^ set.axes → HasAges f (corner set.axes cell k) (record_at set.axes w cell k))
       → kind_below (records_of set.axes w cell) ≡ f.below cell
-  below_by_marks w cell deep marked =
-      ap₂ kind_from (olds (range_with_len 0 (2 ^ set.axes)) (Each-range (λ k. is_old (record_at set.axes w cell k).state ≡ f.old (corner set.axes cell k)) 0 (2 ^ set.axes) (λ k from to. (marked k (omega arith)).old)))
-      (news (range_with_len 0 (2 ^ set.axes)) (Each-range (λ k. is_new (record_at set.axes w cell k).state ≡ f.new (corner set.axes cell k)) 0 (2 ^ set.axes) (λ k from to. (marked k (omega arith)).new)))
+  below_by_ages w cell deep aged =
+      ap₂ kind_from (olds (range_with_len 0 (2 ^ set.axes)) (Each-range (λ k. is_old (record_at set.axes w cell k).state ≡ f.old (corner set.axes cell k)) 0 (2 ^ set.axes) (λ k from to. (aged k (omega arith)).old)))
+      (news (range_with_len 0 (2 ^ set.axes)) (Each-range (λ k. is_new (record_at set.axes w cell k).state ≡ f.new (corner set.axes cell k)) 0 (2 ^ set.axes) (λ k from to. (aged k (omega arith)).new)))
       ∙ sym (see.cell_below cell deep)
     where
       olds : (ks : List ℕ) → Each (λ k. is_old (record_at set.axes w cell k).state ≡ f.old (corner set.axes cell k)) ks
@@ -62,18 +62,18 @@ module _ {Plan : Type 0} (set : Setting Plan) (o : Outlook) (f : Foresight) (see
       news (k ∷ ks) h = ap₂ (λ a b. a || b) h.0 (news ks h.1)
 
 module _ {Plan : Type 0} (set : Setting Plan) (e : Outset) (walked : Place → Bool) (is : IsOutset set e walked) (st : Stage) (w : Working) (t : Tokens) (h : Holds set e st w t) where
-  -- the corners of the parent are marked as foreseen
-  pub parents_marked : (k : ℕ) → k < 2 ^ set.axes → IsMarked e.foresight (corner set.axes st.parent k) (record_at set.axes w st.parent k)
-  parents_marked k small =
-      corner_marked set e.outlook e.foresight is.foresees (set.rules.greatest set.plan) w st.parent k
+  -- the corners of the parent have the ages that are foreseen
+  pub parents_aged : (k : ℕ) → k < 2 ^ set.axes → HasAges e.foresight (corner set.axes st.parent k) (record_at set.axes w st.parent k)
+  parents_aged k small =
+      corner_aged set e.outlook e.foresight is.foresees (set.rules.greatest set.plan) w st.parent k
       (λ on. (h.fair.parent_flags k small ∙ ap not on, h.fair.live (corner set.axes st.parent k) on (inl (h.stands.parents k small on))))
       (h.fair.parents k small)
 
   -- and so are the cell's own corners in hand
-  pub mine_marked : IsStage set.axes e.outlook st → (k : ℕ) → st.from ≤ k → k < 2 ^ set.axes → is_hung w st.cell k ≡ not (e.outlook.counts (corner set.axes st.cell k))
-      → IsMarked e.foresight (corner set.axes st.cell k) (record_at set.axes w st.cell k)
-  mine_marked stage k from small flag =
-      corner_marked set e.outlook e.foresight is.foresees (set.rules.greatest set.plan) w st.cell k
+  pub mine_aged : IsStage set.axes e.outlook st → (k : ℕ) → st.from ≤ k → k < 2 ^ set.axes → is_hung w st.cell k ≡ not (e.outlook.counts (corner set.axes st.cell k))
+      → HasAges e.foresight (corner set.axes st.cell k) (record_at set.axes w st.cell k)
+  mine_aged stage k from small flag =
+      corner_aged set e.outlook e.foresight is.foresees (set.rules.greatest set.plan) w st.cell k
       (λ on. (flag ∙ ap not on, h.fair.live (corner set.axes st.cell k) on (inl (h.stands.mine k from small on).0)))
       (h.fair.mine k from small)
 
@@ -101,7 +101,7 @@ module _ {Plan : Type 0} (set : Setting Plan) (e : Outset) (walked : Place → B
       by_level true q = sym (is.foresees.root_below st.parent (eqb-true st.parent.level 0 q))
       by_level false q =
           let other = eqb-false st.parent.level 0 q in
-          below_by_marks set e.outlook e.foresight is.foresees w st.parent (deep st.parent.level other) parents_marked
+          below_by_ages set e.outlook e.foresight is.foresees w st.parent (deep st.parent.level other) parents_aged
         where
           deep : (n : ℕ) → n ≢ 0 → 1 ≤ n
           deep n other = omega (arith, other)

@@ -4,15 +4,15 @@ use Rattle.std.specs.Prelude.{nat_lt}
 use Rattle.std.proofs.lemmas.Bool.{lt-ltb, ltb-false, and_from}
 use Rattle.pe_base.specs.declared.place.Place.{Place}
 use Rattle.pe_base.specs.declared.tally.Tally.{Tally}
-use Rattle.pe_base.specs.Walk.Course.{Push, Course, halts, limit_at, ends, at_once}
+use Rattle.pe_base.specs.Walk.Course.{Push, Course, halts, limit_at, ends, at_once, allowed}
 use Rattle.pe_base.specs.Walk.Core.{Setting, plain_event}
 use Rattle.pe_base.specs.Walk.Working.{Working}
 use Rattle.pe_base.specs.Walk.Touches.{tally_cell, count_cell, within_limit}
 use Rattle.pe_base.specs.Walk.Walk.{plain}
-use Rattle.pe_hang.specs.Moves.{allowed, may_rise}
+use Rattle.pe_hang.specs.Moves.{may_rise}
 use Rattle.pe_walk.specs.Machine.{Machine, tally_may_rise}
 use Rattle.pe_walk.specs.Machine as machine
-use Rattle.pe_walk.specs.Tokens.{Tokens}
+use Rattle.pe_order.specs.Tokens.{Tokens}
 use Rattle.pe_walk.specs.Standing.{Outset, Stage, per_cell, Owes, Holds, IsOutset, Fair}
 use Rattle.pe_walk.proofs.Simulation.Matching.{Alike, some_same, done_same, core-matches, mapped-done}
 use Rattle.pe_walk.proofs.Simulation.Silent.{plain-silent}

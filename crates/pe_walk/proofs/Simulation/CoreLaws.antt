@@ -1,7 +1,7 @@
 -- What the core keeps of the records in hand: kinds, and old and new.
 use Rattle.std.proofs.Common.{◌≡◌, ℕ, ℤ, suc, ◌-◌, ◌≤◌, Bool, true, false, ◌&&◌, List, [], ◌∷◌, length, Option, Some, None, refl, sym, ap, subst, ◌∙◌, inl, inr}
 use Rattle.std.specs.Prelude.{nat_lt, if◌then◌else◌}
-use Rattle.std.specs.Option.{unwrap_or}
+use Rattle.std.specs.Option.{option_map_or, unwrap_or}
 use Rattle.std.proofs.lemmas.Bool.{le-ltb}
 use Rattle.std.proofs.Math.Bool.{and-false}
 use Rattle.pe_base.specs.declared.place.Place.{Place}
@@ -12,10 +12,10 @@ use Rattle.pe_base.specs.declared.event.Event.TheVariants.{TouchVertexFirstTime,
 use Rattle.pe_base.specs.declared.state.State.{State}
 use Rattle.pe_base.specs.declared.state.State.TheVariants.{Unrefined, RefinementTriggered}
 use Rattle.pe_base.specs.Life.States.{is_stored, refined_state, erased_state}
-use Rattle.pe_base.specs.Acts.Effects.{VertexRecord, Seen, Fault, Outcome, MayBecome, IsTriggered, AreTriggered, IsTriggeredIfAny, MayLeave, AreLawful}
+use Rattle.pe_base.specs.Acts.Effects.{SeenVertex, VertexRecord, seen_of, all_seen, as_left, as_all_left, Seen, Fault, Outcome, MayBecome, IsTriggered, AreTriggered, IsTriggeredIfAny, MayLeave, AreLawful}
 use Rattle.pe_base.specs.Walk.Course.{done, and_then, course_map}
 use Rattle.pe_base.specs.Walk.Core.{Setting, Family, Own, ended_by, fire, family_after, vertex_event, cell_event, fresh_vertex, read_vertex, load_touch, given_up, written, store_of, store_touch, enter_touch, leave_touch}
-use Rattle.pe_base.proofs.Walk.TableLaws.{keeps_marks}
+use Rattle.pe_base.proofs.Walk.TableLaws.{keeps_ages}
 use Rattle.pe_walk.specs.CoreKeeps.{IsFinest, IsAlike, AreAlike, loaded, stays, stored_as, IsStoredAlike, KeepsParents, CoreKeeps}
 use Rattle.pe_walk.proofs.Simulation.Matching.{done_same, mapped-done, then-done}
 
@@ -61,18 +61,18 @@ module _ (greatest level : ℕ) where
   triggered-finest kind before after (inr (inl refined)) h finest = refined ∙ ap (refined_state level greatest kind) (h finest) ∙ refined-finest kind finest
   triggered-finest kind before after (inr (inr erased)) h finest = erased ∙ ap (erased_state kind) (h finest) ∙ erased-finest kind
 
-  triggered-alike : (before after : VertexRecord) → IsTriggered greatest level before after → IsAlike greatest level before after
+  triggered-alike : (before : VertexRecord) (after : SeenVertex) → IsTriggered greatest level (seen_of before) after → IsAlike greatest level before (as_left before after)
   triggered-alike before after h =
-      let marks = keeps_marks greatest level before.kind before.state after.state h.state in
-      record { kind = h.kind; old = marks.old; new = marks.new; finest = triggered-finest before.kind before.state after.state h.state }
+      let ages = keeps_ages greatest level before.kind before.state after.state h.state in
+      record { kind = h.kind; old = ages.old; new = ages.new; finest = triggered-finest before.kind before.state after.state h.state }
 
-  all_triggered-alike : (befores afters : List VertexRecord) → AreTriggered greatest level befores afters → AreAlike greatest level befores afters
+  all_triggered-alike : (befores : List VertexRecord) (afters : List SeenVertex) → AreTriggered greatest level (all_seen befores) afters → AreAlike greatest level befores (as_all_left befores afters)
   all_triggered-alike [] [] h = tt
   all_triggered-alike [] (a ∷ afters) h = absurd h
   all_triggered-alike (b ∷ befores) [] h = absurd h
   all_triggered-alike (b ∷ befores) (a ∷ afters) h = (triggered-alike b a h.0, all_triggered-alike befores afters h.1)
 
-  vertex-alike : (before : VertexRecord) (after : Option VertexRecord) → IsTriggeredIfAny greatest level (Some before) after → IsAlike greatest level before (unwrap_or after before)
+  vertex-alike : (before : VertexRecord) (after : Option SeenVertex) → IsTriggeredIfAny greatest level (Some (seen_of before)) after → IsAlike greatest level before (option_map_or (as_left before) after before)
   vertex-alike before None h = absurd h
   vertex-alike before (Some after) h = triggered-alike before after h
 
@@ -102,8 +102,8 @@ module _ {Plan : Type 0} (set : Setting Plan) (lawful : AreLawful set.rules) whe
 
   pub vertex_event-leaves : (event : Event) (place : Place) (it after : VertexRecord × Family) → (vertex_event set event place it).ending ≡ done after → LeavesVertex place it after
   vertex_event-leaves event place it after h =
-      let seen : Seen = record { place = place; vertex = Some it.0; cell = None; corners = []; parents = it.1.parents; parent = it.1.parent } in
-      let at = mapped-done (fire set event it.1.list seen) (λ outcome. (unwrap_or outcome.seen.vertex it.0, family_after set outcome)) after h in
+      let seen : Seen = record { place = place; vertex = Some (seen_of it.0); cell = None; corners = []; parents = all_seen it.1.parents; parent = it.1.parent } in
+      let at = mapped-done (fire set event it.1.list seen) (λ outcome. (option_map_or (as_left it.0) outcome.seen.vertex it.0, family_after set it.1 outcome)) after h in
       let leaves = fire-leaves event it.1.list seen at.0 at.1 in
       subst (LeavesVertex place it) (sym at.2) (record {
         vertex = vertex-alike (set.rules.greatest set.plan) place.level it.0 at.0.seen.vertex leaves.vertex;
@@ -123,8 +123,8 @@ module _ {Plan : Type 0} (set : Setting Plan) (lawful : AreLawful set.rules) whe
 
   pub cell_event-leaves : (event : Event) (place : Place) (it after : Own × Family) → (cell_event set event place it).ending ≡ done after → LeavesCell place it after
   cell_event-leaves event place it after h =
-      let seen : Seen = record { place = place; vertex = None; cell = Some it.0.cell; corners = it.0.corners; parents = it.1.parents; parent = it.1.parent } in
-      let at = mapped-done (fire set event it.1.list seen) (λ outcome. (record { cell = unwrap_or outcome.seen.cell it.0.cell; corners = outcome.seen.corners }, family_after set outcome)) after h in
+      let seen : Seen = record { place = place; vertex = None; cell = Some it.0.cell; corners = all_seen it.0.corners; parents = all_seen it.1.parents; parent = it.1.parent } in
+      let at = mapped-done (fire set event it.1.list seen) (λ outcome. (record { cell = unwrap_or outcome.seen.cell it.0.cell; corners = as_all_left it.0.corners outcome.seen.corners }, family_after set it.1 outcome)) after h in
       let leaves = fire-leaves event it.1.list seen at.0 at.1 in
       subst (LeavesCell place it) (sym at.2) (record {
         corners = all_triggered-alike (set.rules.greatest set.plan) place.level it.0.corners at.0.seen.corners leaves.corners;

@@ -3,18 +3,18 @@ use Rattle.std.proofs.Common.{◌≡◌, suc, ◌^◌, true, refl, sym, ap, subs
 use Rattle.std.proofs.Math.Nat.{mul-le-mul_left}
 use Rattle.pe_base.specs.Walk.Course.{Ending, done, halts, stuck}
 use Rattle.pe_base.specs.Tree.Dim.{IsDim}
-use Rattle.pe_hang.specs.Follows.{is_fit}
+use Rattle.pe_base.specs.Calls.Follows.{is_fit}
 use Rattle.pe_base.specs.Walk.Core.{Setting}
 use Rattle.pe_base.specs.Walk.Working.{Working}
 use Rattle.pe_base.specs.Walk.Walk as model
 use Rattle.pe_walk.specs.Machine.{Machine}
 use Rattle.pe_walk.specs.Machine as machine
 use Rattle.pe_walk.specs.Gridded.{ports_of}
-use Rattle.pe_walk.specs.Laws.{IsCell}
+use Rattle.pe_order.specs.Laws.{IsCell}
 use Rattle.pe_walk.specs.Standing.{HasRoom}
 use Rattle.pe_walk.specs.FaceLaw.{Moment, MayWalk, HasWalked, CellEndsAlike, IsBrief, IsCellWalked}
-use Rattle.pe_walk.proofs.Tests.{some_power, times_one}
-use Rattle.pe_walk.proofs.Tokens.Traversals.{walk_of_a_cell}
+use Rattle.pe_order.proofs.Tests.{some_power, times_one}
+use Rattle.pe_order.proofs.Tokens.Traversals.{walk_of_a_cell}
 use Rattle.pe_walk.proofs.Simulation.Matching.{ending_map}
 use Rattle.pe_walk.proofs.Simulation.Unstuck.{walk-fits}
 use Rattle.pe_walk.proofs.Simulation.Cells.Simulated.{cell_simulated}

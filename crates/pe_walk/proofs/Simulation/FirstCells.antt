@@ -20,18 +20,18 @@ use Rattle.pe_stacks.specs.Holdings.{items_at}
 use Rattle.pe_stacks.specs.Grid.{input_stack, cell_input_stack}
 use Rattle.pe_walk.specs.Machine.{Machine}
 use Rattle.pe_walk.specs.Machine as machine
-use Rattle.pe_walk.specs.Tokens.{Outlook, Tokens}
-use Rattle.pe_walk.specs.Takings.{loads_of, takes, gives, cell_takes, cell_gives, Due, Grown}
-use Rattle.pe_walk.specs.Outlooks.{outlook}
+use Rattle.pe_order.specs.Tokens.{Outlook, Tokens}
+use Rattle.pe_order.specs.Takings.{loads_of, takes, gives, cell_takes, cell_gives, Due, Grown}
+use Rattle.pe_order.specs.Outlooks.{outlook}
 use Rattle.pe_walk.specs.Standing.{Outset, Stage, IsStage, IsOutset, Holds}
 use Rattle.pe_walk.specs.Images.{image_of}
 use Rattle.pe_walk.specs.Gridded.{MachineMayTraverse, ports_of}
 use Rattle.pe_walk.specs.FaceLaw.{Moment, MayCall, begins, InTurn, ComeAfter, FirstCellMayBeWalked, NextCellMayBeWalked}
-use Rattle.pe_walk.proofs.Trees.{root_is_cell}
-use Rattle.pe_walk.proofs.Tokens.Loads.{due-split}
-use Rattle.pe_walk.proofs.Tokens.Passages.{token_stretch}
-use Rattle.pe_walk.proofs.Tokens.Walks.{cell_stretch}
-use Rattle.pe_walk.proofs.Tokens.Traversals.{RootBegins, root_passage, root_cell_passage, root_begins}
+use Rattle.pe_order.proofs.Trees.{root_is_cell}
+use Rattle.pe_order.proofs.Tokens.Loads.{due-split}
+use Rattle.pe_order.proofs.Tokens.Passages.{token_stretch}
+use Rattle.pe_order.proofs.Tokens.Walks.{cell_stretch}
+use Rattle.pe_order.proofs.Tokens.Traversals.{RootBegins, root_passage, root_cell_passage, root_begins}
 use Rattle.pe_walk.proofs.Simulation.Matching.{Alike, ending_map, done_same}
 use Rattle.pe_walk.proofs.Simulation.CellsCounted.{plain_leaf}
 use Rattle.pe_walk.proofs.Simulation.Cells.Corners.{stage_of}

@@ -16,9 +16,9 @@ use Rattle.pe_base.specs.Walk.Walk as walks
 use Rattle.pe_base.specs.Walk.Streams.{walked_cells}
 use Rattle.pe_walk.specs.Machine.{Machine, Ports}
 use Rattle.pe_walk.specs.Machine as machine
-use Rattle.pe_walk.specs.Tokens.{Tokens, each_some}
+use Rattle.pe_order.specs.Tokens.{Tokens, each_some}
 use Rattle.pe_walk.specs.Gridded.{ports_of}
-use Rattle.pe_walk.specs.Tokens as tokens
+use Rattle.pe_order.specs.Tokens as tokens
 use Rattle.pe_walk.specs.Standing.{Outset, Stage, per_cell, Holds, IsStage}
 pub use Rattle.pe_walk.specs.Images.{record_of, image_of}
 use Rattle.pe_walk.proofs.Simulation.Matching.{Sim}

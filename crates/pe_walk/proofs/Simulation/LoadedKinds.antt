@@ -19,10 +19,10 @@ use Rattle.pe_base.specs.Walk.Touches.{kind_of_vertex}
 use Rattle.pe_base.proofs.Walk.CarrierLaws.{carriers_are_parents}
 use Rattle.pe_base.proofs.Walk.Slots.{read, slot_if, is_hung, record_at-is}
 use Rattle.pe_adapt.specs.Touches.{state_in_hand, kind_in_hand}
-use Rattle.pe_walk.specs.Laws.{IsCell}
-use Rattle.pe_walk.specs.Tokens.{Outlook, Tokens}
-use Rattle.pe_walk.proofs.Trees.{cell_position}
-use Rattle.pe_walk.proofs.Unwalked.{cell_four}
+use Rattle.pe_order.specs.Laws.{IsCell}
+use Rattle.pe_order.specs.Tokens.{Outlook, Tokens}
+use Rattle.pe_order.proofs.Trees.{cell_position}
+use Rattle.pe_order.proofs.Unwalked.{cell_four}
 use Rattle.pe_walk.specs.Standing.{Foresight, Foresees, IsForeseen, Stage, Stands, Fair, IsFair, IsIdle, KindsAreFound}
 use Rattle.pe_walk.proofs.Simulation.FoundKinds.{kind_by-foreseen, state_in_hand-corner}
 

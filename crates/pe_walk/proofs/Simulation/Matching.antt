@@ -6,7 +6,7 @@ use Rattle.std.specs.Option.{option_and_then}
 use Rattle.std.proofs.lemmas.List.{append_assoc, append-nil}
 use Rattle.pe_base.proofs.Lists.{Each-append}
 pub use Rattle.pe_base.proofs.Walk.Courses.{done_same, mapped-done, then-done}
-use Rattle.pe_walk.specs.Tokens.{each_some}
+use Rattle.pe_order.specs.Tokens.{each_some}
 use Rattle.pe_base.specs.Walk.Course.{Ending, done, halts, stuck, Push, Course, ends, at_once, behind, from, and_then, course_map, each}
 
 -- an ending with its result turned

@@ -20,18 +20,18 @@ use Rattle.pe_base.specs.Walk.Core.{Setting, way}
 use Rattle.pe_base.specs.Walk.Grids.{Grid, StoredVertex, state_in, is_stored_vertex}
 use Rattle.pe_base.specs.Walk.Foreseen.{next_traversal, was, touched_state, will_on, will, kind_foreseen, old_foreseen, new_foreseen, below}
 use Rattle.pe_base.proofs.Lists.{Each-weaker, Each-all, Each-In, list_any_none, list_any_same}
-use Rattle.pe_walk.specs.Laws.{IsCell}
-use Rattle.pe_walk.specs.Outlooks.{outlook, was_stored}
+use Rattle.pe_order.specs.Laws.{IsCell}
+use Rattle.pe_order.specs.Outlooks.{outlook, was_stored}
 use Rattle.pe_walk.specs.Standing.{Foresight, IsForeseen, StartsFinest, Foresees}
 use Rattle.pe_walk.specs.Gridded.{IsTraversalOf}
 use Rattle.pe_base.specs.Tree.Curve.{order}
 use Rattle.pe_base.specs.Tree.Ways.{way_of}
 use Rattle.pe_base.proofs.Steps.VertexTouches.{OnGrid}
 use Rattle.pe_base.proofs.Steps.CornerPlaces.{corner_on_grid}
-use Rattle.pe_walk.proofs.GridCells.{was-from, will-from}
-use Rattle.pe_walk.proofs.Steps.{order_on_grid}
-use Rattle.pe_walk.proofs.Unwalked.{contains_in}
-use Rattle.pe_walk.proofs.Forecasts.{Sound, old_stored, carrier_levels, counts_inside, two_or_deeper}
+use Rattle.pe_order.proofs.GridCells.{was-from, will-from}
+use Rattle.pe_order.proofs.Steps.{order_on_grid}
+use Rattle.pe_order.proofs.Unwalked.{contains_in}
+use Rattle.pe_order.proofs.Forecasts.{Sound, old_stored, carrier_levels, counts_inside, two_or_deeper}
 use Rattle.pe_walk.proofs.Simulation.Carried.{carried_inside}
 
 -- a stored vertex as the working state has it before its first touch

@@ -17,8 +17,8 @@ use Rattle.pe_base.proofs.Walk.Slots.{Slot, stored, hangs, write, is_slot, slot_
 use Rattle.pe_base.proofs.Walk.Families.{slots, slots_from, put_records-is, hangs-put_records, beside-put_records, family_of-put_family, Each-slots}
 use Rattle.pe_stacks.specs.Holdings.{Holdings, Stack}
 use Rattle.pe_hang.specs.InHand.{map_stack, map_holdings}
-use Rattle.pe_walk.specs.Apart.{lies}
-use Rattle.pe_walk.proofs.Tokens.Apart.{one_if}
+use Rattle.pe_order.specs.Apart.{lies}
+use Rattle.pe_order.proofs.Tokens.Apart.{one_if}
 
 -- what the map of vertices has at a place after a slot was written
 at-write : (s : Slot) (it : VertexRecord) (w : Working) (q : Place) → is_slot s (stored q) ≡ false → at (write s it w).vertices q ≡ at w.vertices q

@@ -12,7 +12,7 @@ use Rattle.pe_base.specs.declared.kind.Kind.TheVariants.{Hanging}
 use Rattle.pe_base.specs.Tree.Places.{root, corner}
 use Rattle.pe_base.specs.Acts.Effects.{VertexRecord}
 use Rattle.pe_base.specs.Walk.Maps.{at_corner}
-use Rattle.pe_base.specs.Walk.Course.{at_once, and_then}
+use Rattle.pe_base.specs.Walk.Course.{at_once, and_then, allowed}
 use Rattle.pe_base.specs.Walk.Core.{Setting, fresh_vertex}
 use Rattle.pe_base.specs.Walk.Working.{Working, vertex_at, record_at, family_of}
 use Rattle.pe_base.specs.Walk.Walk as model
@@ -21,7 +21,6 @@ use Rattle.pe_base.proofs.Walk.MapLaws.{found-changed}
 use Rattle.pe_base.proofs.Walk.Slots.{is_hung}
 use Rattle.pe_base.proofs.Walk.Families.{Each-range}
 use Rattle.pe_stacks.specs.Holdings.{Holdings, lent}
-use Rattle.pe_hang.specs.Moves.{allowed}
 use Rattle.pe_walk.specs.Machine.{Machine, Ports}
 use Rattle.pe_walk.specs.Machine as machine
 use Rattle.pe_walk.specs.Standing.{IsIdle}

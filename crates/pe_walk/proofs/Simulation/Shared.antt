@@ -12,7 +12,7 @@ use Rattle.pe_base.specs.declared.tally.Tally.{Tally}
 use Rattle.pe_base.specs.Tree.Places.{corner, is_same}
 use Rattle.pe_base.specs.Acts.Effects.{VertexRecord}
 use Rattle.pe_base.specs.Walk.Maps.{at}
-use Rattle.pe_base.specs.Walk.Course.{done, at_once}
+use Rattle.pe_base.specs.Walk.Course.{done, at_once, allowed}
 use Rattle.pe_base.specs.Walk.Core.{Setting, Family}
 use Rattle.pe_base.specs.Walk.Working.{Working, no_vertex, cell_at, put_cell, record_at, records_of, family_of, put_family}
 use Rattle.pe_base.proofs.Walk.MapLaws.{at-put}
@@ -24,14 +24,14 @@ use Rattle.pe_base.specs.Steps.Stacks.{AcrossNone, AcrossOne}
 use Rattle.pe_stacks.specs.Grid.{output_stack}
 use Rattle.pe_stacks.specs.Holdings.{Holdings, Stack, new_stack, stack_count, stack_at, items_at, len_at, lent, given_up, pushed, popped}
 use Rattle.pe_hang.specs.InHand.{map_holdings}
-use Rattle.pe_hang.specs.Moves.{allowed, may_rise, lend, give_up, top_of, pop, push}
+use Rattle.pe_hang.specs.Moves.{may_rise, lend, give_up, top_of, pop, push}
 use Rattle.pe_hang.proofs.OnStacks.{stack_count-map, stack_at-map, len_at-map, pushed-map, popped-map}
-use Rattle.pe_walk.specs.Tokens.{Outlook, Tokens}
-use Rattle.pe_walk.specs.Apart.{IsApart, lies}
-use Rattle.pe_walk.specs.Traffic.{OnlyCounting}
+use Rattle.pe_order.specs.Tokens.{Outlook, Tokens}
+use Rattle.pe_order.specs.Apart.{IsApart, lies}
+use Rattle.pe_order.specs.Traffic.{OnlyCounting}
 use Rattle.pe_walk.specs.CoreKeeps.{IsAlike, AreAlike}
 use Rattle.pe_walk.specs.Standing.{Foresight, Outset, Stage, IsFair, IsIdle, Owes, times}
-use Rattle.pe_walk.proofs.Tokens.Apart.{one_if}
+use Rattle.pe_order.proofs.Tokens.Apart.{one_if}
 use Rattle.pe_walk.proofs.Simulation.CoreLaws.{length-alike}
 use Rattle.pe_walk.proofs.Simulation.LoadedKinds.{found_stored}
 use Rattle.pe_walk.proofs.Simulation.Levels.{record_at-put_family, at-put_family}

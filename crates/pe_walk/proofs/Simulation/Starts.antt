@@ -23,35 +23,34 @@ use Rattle.pe_stacks.specs.Holdings.{new_stack, items_at, len_at}
 use Rattle.pe_stacks.specs.Grid.{input_stack, cell_input_stack}
 use Rattle.pe_hang.specs.InHand.{map_holdings}
 use Rattle.pe_walk.specs.Machine.{Machine}
-use Rattle.pe_walk.specs.Tokens.{Outlook, Tokens, begun, numbers}
-use Rattle.pe_walk.specs.Takings.{Grown, MayTraverse}
-use Rattle.pe_walk.specs.CellsAhead.{times, cells_below}
-use Rattle.pe_walk.specs.Laws.{IsCell}
-use Rattle.pe_walk.specs.Outlooks.{outlook, stored_outlook, stored_walked, IsNew}
+use Rattle.pe_order.specs.Tokens.{Outlook, Tokens, begun, numbers}
+use Rattle.pe_order.specs.Takings.{Grown, MayTraverse}
+use Rattle.pe_order.specs.CellsAhead.{times, cells_below}
+use Rattle.pe_order.specs.Laws.{IsCell}
+use Rattle.pe_order.specs.Outlooks.{outlook, stored_outlook, stored_walked, IsNew}
 use Rattle.pe_walk.specs.Standing.{Outset, Stage, IsOutset, Foresees, Stands, Fair, Owes, Holds}
+use Rattle.pe_stacks.specs.StreamsHeld.{stored_of}
 use Rattle.pe_walk.specs.Gridded.{IsTraversalOf, MachineMayTraverse}
 use Rattle.pe_base.specs.Tree.Ways.{way_of}
 use Rattle.pe_base.specs.Walk.Foreseen.{next_traversal, walked}
 use Rattle.pe_base.proofs.Steps.VertexTouches.{is_same_itself}
 use Rattle.pe_base.proofs.Lists.{map_same, Each-all, Each-weaker, Each-filter}
-use Rattle.pe_base.proofs.Walk.MapLaws.{at-put}
-use Rattle.pe_base.proofs.Walk.MapLaws.{found-turned_by}
+use Rattle.pe_base.proofs.Walk.MapLaws.{at-put, found-turned_by}
 use Rattle.pe_base.proofs.Tree.Ranks.{same_places}
 use Rattle.pe_base.proofs.Tree.PlaceLaws.{few_corners}
-use Rattle.pe_walk.specs.Apart.{IsApart, lies}
-use Rattle.pe_walk.specs.Traffic.{OnlyCounting}
-use Rattle.pe_walk.specs.Gridded.{stored_of}
-use Rattle.pe_walk.proofs.Forecasts.{Sound, fresh, formed, forecast_grown, stored_grown}
-use Rattle.pe_walk.proofs.StreamOrders.{reads_are_streams, stored_is_walked}
-use Rattle.pe_walk.proofs.Outlooks.{all_front, all_behind}
-use Rattle.pe_walk.proofs.Trees.{place_is_cell, root_is_cell}
-use Rattle.pe_walk.proofs.Tokens.WalkedHere.{walked_here}
-use Rattle.pe_walk.proofs.Tokens.Apart.{begins_apart}
-use Rattle.pe_walk.proofs.Tokens.CellsAhead.{count-filter, cells_on_input, begins_ahead}
-use Rattle.pe_walk.proofs.Tokens.CellsApart.{walked_cells_differ}
-use Rattle.pe_walk.proofs.Tokens.DepotCounts.{Lent, lent_counts}
-use Rattle.pe_walk.proofs.Tokens.Short.{begins_counting}
-use Rattle.pe_walk.proofs.Tokens.Traversals.{lent_items}
+use Rattle.pe_order.specs.Apart.{IsApart, lies}
+use Rattle.pe_order.specs.Traffic.{OnlyCounting}
+use Rattle.pe_order.proofs.Forecasts.{Sound, fresh, formed, forecast_grown, stored_grown}
+use Rattle.pe_order.proofs.StreamOrders.{reads_are_streams, stored_is_walked}
+use Rattle.pe_order.proofs.Outlooks.{all_front, all_behind}
+use Rattle.pe_order.proofs.Trees.{place_is_cell, root_is_cell}
+use Rattle.pe_order.proofs.Tokens.WalkedHere.{walked_here}
+use Rattle.pe_order.proofs.Tokens.Apart.{begins_apart}
+use Rattle.pe_order.proofs.Tokens.CellsAhead.{count-filter, cells_on_input, begins_ahead}
+use Rattle.pe_order.proofs.Tokens.CellsApart.{walked_cells_differ}
+use Rattle.pe_order.proofs.Tokens.DepotCounts.{Lent, lent_counts}
+use Rattle.pe_order.proofs.Tokens.Short.{begins_counting}
+use Rattle.pe_order.proofs.Tokens.Traversals.{lent_items}
 use Rattle.pe_walk.proofs.Simulation.Shared.{on_one, lies_counts}
 use Rattle.pe_walk.proofs.Simulation.Levels.{levels_differ}
 use Rattle.pe_walk.proofs.Simulation.Leaves.{record_of}
@@ -60,7 +59,7 @@ use Rattle.pe_walk.proofs.Simulation.Outsets.{as_begun, foresight_of, foresees}
 use Rattle.pe_walk.proofs.Simulation.RootCorners.{HasCorners, has_corners}
 use Rattle.pe_walk.proofs.Simulation.Cells.Corners.{down_from}
 use Rattle.pe_walk.proofs.Simulation.Begins.{places_with, count-with, WithItems, with_items, image-with, kind_among, with_kind, records_again}
-use Rattle.pe_walk.proofs.Tokens.Bounds.{few_cell_input_stacks, few_input_stacks}
+use Rattle.pe_order.proofs.Tokens.Bounds.{few_cell_input_stacks, few_input_stacks}
 
 -- the places of a grid's streams on the stacks of a machine; nothing is held, and nothing was met
 abbrev pub tokens_of : Grid → Bool → Machine → Tokens

@@ -25,21 +25,21 @@ use Rattle.pe_stacks.specs.Holdings.{Holdings, len_at, lent}
 use Rattle.pe_stacks.specs.Grid.{input_stack, cell_input_stack}
 use Rattle.pe_base.specs.Walk.Streams.{stream_vertices, stream_cells}
 use Rattle.pe_hang.specs.InHand.{map_holdings}
-use Rattle.pe_hang.specs.Follows.{is_fit, Fits}
+use Rattle.pe_base.specs.Calls.Follows.{is_fit, Fits}
 use Rattle.pe_walk.specs.Machine.{Machine, with_parents}
 use Rattle.pe_walk.specs.Machine as machine
-use Rattle.pe_walk.specs.Tokens.{Tokens, ended, numbers, each_some, lent_for}
-use Rattle.pe_walk.specs.Tokens as tokens
-use Rattle.pe_walk.specs.Takings.{HasTraversed}
-use Rattle.pe_walk.specs.Outlooks.{outlook}
+use Rattle.pe_order.specs.Tokens.{Tokens, ended, numbers, each_some, lent_for}
+use Rattle.pe_order.specs.Tokens as tokens
+use Rattle.pe_order.specs.Takings.{HasTraversed}
+use Rattle.pe_order.specs.Outlooks.{outlook}
 use Rattle.pe_walk.specs.Standing.{Outset, Holds, HasRoom}
-use Rattle.pe_walk.specs.CellsAhead.{times}
+use Rattle.pe_order.specs.CellsAhead.{times}
 use Rattle.pe_walk.specs.Gridded.{MachineMayTraverse, MachineHasTraversed, EndAlike, IsShort, IsWalked, ports_of}
 use Rattle.pe_walk.specs.FaceLaw.{begins}
-use Rattle.pe_walk.proofs.Tests.{some_power, times_one}
-use Rattle.pe_walk.proofs.Tokens.Short.{stacks_are_short}
-use Rattle.pe_walk.proofs.Tokens.Apart.{map_some}
-use Rattle.pe_walk.proofs.Tokens.Traversals.{whole_traversal}
+use Rattle.pe_order.proofs.Tests.{some_power, times_one}
+use Rattle.pe_order.proofs.Tokens.Short.{stacks_are_short}
+use Rattle.pe_order.proofs.Tokens.Apart.{map_some}
+use Rattle.pe_order.proofs.Tokens.Traversals.{whole_traversal}
 use Rattle.pe_walk.proofs.Simulation.Matching.{Matches, ending_map, then-grouped}
 use Rattle.pe_walk.proofs.Simulation.Leaves.{image_of, record_of, at_root}
 use Rattle.pe_walk.proofs.Simulation.RootCorners.{HasCorners, has_corners, lent_times, corners_made}

@@ -14,7 +14,7 @@ use Rattle.pe_base.specs.Walk.Core.{Setting, Family, Own, way, ended_by, fire, p
 use Rattle.pe_base.specs.Walk.Working.{Working, records_of, record_at, vertex_at, cell_at, family_of, own_of, loads_of}
 use Rattle.pe_base.specs.Walk.Touches.{kind_of_vertex, kind_of_children, within_limit, count_cell, load_corner, store_corner, enter_cell, leave_cell, tally_cell}
 use Rattle.pe_base.specs.Walk.Walk.{corner_numbers, around_below, if_walked, walk_cell, plain}
-use Rattle.pe_hang.specs.Follows.{is_fit, Fits}
+use Rattle.pe_base.specs.Calls.Follows.{is_fit, Fits}
 use Rattle.pe_adapt.proofs.Fitting.{and_then-fit, load-fits, store-fits}
 
 pub mapped-fits : {X Y : Type 0} (course : Course X) (f : X → Y) → Fits course → Fits (course_map f course)

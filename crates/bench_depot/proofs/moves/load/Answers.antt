@@ -1,18 +1,18 @@
 use Rattle.std.proofs.Common.{◌^◌, ◌+◌, ◌*◌, ◌<◌, ◌∙◌, length, ap, arith}
 use Rattle.pe_stacks.specs.Holdings.{stack_count, len_at}
-use Rattle.pe_stacks.proofs.Raising.{raises-lent, raises-pushed, raises_at_most}
+use Rattle.pe_stacks.proofs.Raising.{raises-lent, raises-pushed, raises_at_most, raises_within}
 use Rattle.pe_stacks.proofs.StackAt.{stack_count-pushed}
 use Rattle.bench_depot.proofs.CallPairs.{raises_step, raises_by_refusal, len_at-pushed}
 use Rattle.bench_depot.proofs.moves.load.Goals as goal
 
 pub lend-r-requires : goal.lend-r-requires
 lend-r-requires g c =
-    let now = c.loop-words.invariant.counts.within (2 ^ 62) c.requires.counts in
+    let now = raises_within _ _ (2 ^ 62) _ c.loop-words.invariant.counts c.requires.counts in
     record { count = omega (arith, now.fresh) }
 
 pub push-requires-clause-count : goal.push-requires-clause-count
 push-requires-clause-count g c =
-    let now = c.loop-words.invariant.counts.within (2 ^ 62) c.requires.counts in
+    let now = raises_within _ _ (2 ^ 62) _ c.loop-words.invariant.counts c.requires.counts in
     rw c.lend-r.ensures.holds (omega (arith, now.pushes c.args.s))
 
 pub returns-in-Err-clause-counts : goal.returns-in-Err-clause-counts

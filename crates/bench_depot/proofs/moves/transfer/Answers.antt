@@ -1,20 +1,20 @@
 use Rattle.std.proofs.Common.{◌^◌, ◌+◌, ◌*◌, ◌<◌, ◌∙◌, sym, arith}
 use Rattle.pe_stacks.specs.Holdings.{stack_count}
-use Rattle.pe_stacks.proofs.Raising.{raises-popped, raises-pushed, raises_at_most}
+use Rattle.pe_stacks.proofs.Raising.{raises-popped, raises-pushed, raises_at_most, raises_within}
 use Rattle.pe_stacks.proofs.StackAt.{stack_count-pushed, stack_count-popped}
 use Rattle.bench_depot.proofs.CallPairs.{raises_step, raises_by_refusal, len_at-pushed, len_at-pushed_other, len_at-popped, len_at-popped_other}
 use Rattle.bench_depot.proofs.moves.transfer.Goals as goal
 
 pub pop-r-requires-clause-count : goal.pop-r-requires-clause-count
 pop-r-requires-clause-count g c =
-    let now = c.loop-done.invariant.counts.within (2 ^ 62) c.requires.counts in
+    let now = raises_within _ _ (2 ^ 62) _ c.loop-done.invariant.counts c.requires.counts in
     omega (arith, now.pops c.args.from)
 
 pub push-requires-clause-count : goal.push-requires-clause-count
 push-requires-clause-count g c =
     let held = g.D.Depot.holds in
-    let now = c.loop-done.invariant.counts.within (2 ^ 62) c.requires.counts in
-    let popped = (raises-popped (held c.loop-done.depot) (held c.pop-r.new.self) c.args.from c.pop-r.ensures.holds).within (2 ^ 62 + 2 * c.loop-done._done) now in
+    let now = raises_within _ _ (2 ^ 62) _ c.loop-done.invariant.counts c.requires.counts in
+    let popped = raises_within _ _ (2 ^ 62 + 2 * c.loop-done._done) _ (raises-popped (held c.loop-done.depot) (held c.pop-r.new.self) c.args.from c.pop-r.ensures.holds) now in
     omega (arith, popped.pushes c.args.to)
 
 pub returns-in-Err-clause-counts : goal.returns-in-Err-clause-counts

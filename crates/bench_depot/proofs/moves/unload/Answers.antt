@@ -1,13 +1,13 @@
 use Rattle.std.proofs.Common.{◌^◌, ◌∙◌, ap, arith}
 use Rattle.pe_stacks.specs.Holdings.{stack_count, len_at}
-use Rattle.pe_stacks.proofs.Raising.{raises-popped, raises-given_up}
+use Rattle.pe_stacks.proofs.Raising.{raises-popped, raises-given_up, raises_within}
 use Rattle.pe_stacks.proofs.StackAt.{stack_count-popped}
 use Rattle.bench_depot.proofs.CallPairs.{raises_step, len_at-popped}
 use Rattle.bench_depot.proofs.moves.unload.Goals as goal
 
 pub pop-r-requires-clause-count : goal.pop-r-requires-clause-count
 pop-r-requires-clause-count g c =
-    let now = c.loop-done.invariant.counts.within (2 ^ 62) c.requires.counts in
+    let now = raises_within _ _ (2 ^ 62) _ c.loop-done.invariant.counts c.requires.counts in
     omega (arith, now.pops c.args.s)
 
 pub loop-done-preserved : goal.loop-done-preserved

@@ -1,17 +1,17 @@
 use Rattle.std.proofs.Common.{◌^◌, ◌+◌, ◌*◌, length, arith}
-use Rattle.pe_stacks.proofs.Raising.{raises_more, raises_at_most, within_more}
+use Rattle.pe_stacks.proofs.Raising.{raises_more, raises_at_most, within_more, raises_within}
 use Rattle.bench_depot.proofs.times.measure.Goals as goal
 
 pub transfer-requires-clause-counts : goal.transfer-requires-clause-counts
 transfer-requires-clause-counts g c =
     let n = length c.args.records.now in
-    within_more (g.D.Depot.holds c.load.new.depot) (2 ^ 61 + 2 * n) (2 ^ 62) (omega arith) (c.load.ensures.counts.within (2 ^ 61) c.requires.counts)
+    within_more (g.D.Depot.holds c.load.new.depot) (2 ^ 61 + 2 * n) (2 ^ 62) (omega arith) (raises_within _ _ (2 ^ 61) _ c.load.ensures.counts c.requires.counts)
 
 pub unload-sum-requires-clause-counts : goal.unload-sum-requires-clause-counts
 unload-sum-requires-clause-counts g c =
     let n = length c.args.records.now in
-    let loaded = c.load.ensures.counts.within (2 ^ 61) c.requires.counts in
-    within_more (g.D.Depot.holds c.transfer.new.depot) (2 ^ 61 + 2 * n + 2 * n) (2 ^ 62) (omega arith) (c.transfer.ensures.counts.within (2 ^ 61 + 2 * n) loaded)
+    let loaded = raises_within _ _ (2 ^ 61) _ c.load.ensures.counts c.requires.counts in
+    within_more (g.D.Depot.holds c.transfer.new.depot) (2 ^ 61 + 2 * n + 2 * n) (2 ^ 62) (omega arith) (raises_within _ _ (2 ^ 61 + 2 * n) _ c.transfer.ensures.counts loaded)
 
 pub returns-clause-counts : goal.returns-clause-counts
 returns-clause-counts g c =

@@ -1,6 +1,6 @@
 use Rattle.std.proofs.Common.{Err}
 use Rattle.pe_base.specs.declared.event.Event.TheVariants.{TouchVertexFirstTime}
-use Rattle.pe_mapping.proofs.Texts.{part-then}
+use Rattle.pe_base.proofs.Calls.Texts.{part-then}
 use Rattle.pe_mapping.proofs.Events.{answer-part, outcome_of-next}
 use Rattle.ledger.proofs.rows.welcome.Goals as goal
 

@@ -3,10 +3,12 @@ use Rattle.pe_base.specs.declared.event.Event.TheVariants.{CreateInnerVertex, To
 use Rattle.pe_base.specs.Walk.Core.{Family, vertex_event}
 use Rattle.pe_base.specs.Walk.Course.{and_then}
 use Rattle.pe_base.specs.Acts.Effects.{VertexRecord}
-use Rattle.pe_mapping.specs.Sights.{seen_vertex}
+use Rattle.pe_stacks.specs.Sights.{record_of}
 use Rattle.pe_hang.specs.InHand.{setting_of, family_in_hand}
-use Rattle.pe_hang.specs.Follows.{Follows, read_by, found_of}
-use Rattle.pe_hang.proofs.Leading.{follows-then, follows-found, roomier-held, setting-kept, leads_start, leads_err}
+use Rattle.pe_base.specs.Calls.Follows.{Follows, read_by}
+use Rattle.pe_mapping.specs.Held.{found_of}
+use Rattle.pe_base.proofs.Calls.Leading.{follows-then, follows-found, leads_start, leads_err}
+use Rattle.pe_hang.proofs.Staying.{roomier-held, setting-kept}
 use Rattle.pe_adapt.specs.Stops.{failure_of_halt}
 use Rattle.pe_adapt.specs.Slots.{seen_slot}
 use Rattle.pe_adapt.proofs.Errors.{err-is}
@@ -24,7 +26,7 @@ returns-in_err-fire-clause-follows g c = λ vertices cells.
     let set = setting_of rules before c.args.start_level 0 c.args.traversal in
     let parents = c.args.parents.now in
     let parent = c.args.parent.now in
-    let it : VertexRecord × Family = (seen_vertex numbers.vertex c.lend.result, family_in_hand numbers parents parent fresh.list) in
+    let it : VertexRecord × Family = (record_of numbers.vertex c.lend.result, family_in_hand numbers parents parent fresh.list) in
     let made = born-is set numbers at parents parent before.list fresh.list c.in-Ok.payload c.start_state-state.result c.new.result c.lend.result
     c.in-Ok.ensures.answer.payload c.in-Ok.ensures.answer.list c.start_state-state.ensures c.new.ensures c.lend.ensures.handed in
     let filled = ap (λ slot. seen_slot numbers.vertex slot) c.fill_slot.ensures in
@@ -56,7 +58,7 @@ returns-clause-follows g c = λ vertices cells.
     let set = setting_of rules before c.args.start_level 0 c.args.traversal in
     let parents = c.args.parents.now in
     let parent = c.args.parent.now in
-    let it : VertexRecord × Family = (seen_vertex numbers.vertex c.lend.result, family_in_hand numbers parents parent fresh.list) in
+    let it : VertexRecord × Family = (record_of numbers.vertex c.lend.result, family_in_hand numbers parents parent fresh.list) in
     let it' : VertexRecord × Family = (seen_slot numbers.vertex c.fire.new.slot, family_in_hand numbers c.fire.new.parents c.fire.new.parent fired.list) in
     let made = born-is set numbers at parents parent before.list fresh.list c.in-Ok.payload c.start_state-state.result c.new.result c.lend.result
     c.in-Ok.ensures.answer.payload c.in-Ok.ensures.answer.list c.start_state-state.ensures c.new.ensures c.lend.ensures.handed in

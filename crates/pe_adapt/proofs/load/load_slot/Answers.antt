@@ -1,7 +1,9 @@
 use Rattle.std.proofs.Common.{sym, subst, ap}
-use Rattle.pe_mapping.specs.Sights.{seen_vertex}
+use Rattle.pe_stacks.specs.Sights.{record_of}
 use Rattle.pe_hang.specs.InHand.{setting_of, family_in_hand}
-use Rattle.pe_hang.specs.Follows.{Follows, read_by, found_of, held_by}
+use Rattle.pe_base.specs.Calls.Follows.{Follows, read_by}
+use Rattle.pe_mapping.specs.Held.{found_of}
+use Rattle.pe_stacks.specs.RecordsOut.{held_by}
 use Rattle.pe_adapt.specs.Slots.{seen_slot}
 use Rattle.pe_adapt.specs.Spots.{stack_of, desk_in_hand}
 use Rattle.pe_adapt.specs.Stops.{failure_of_halt}
@@ -42,6 +44,6 @@ returns-in-Temp-clause-follows g c = λ cells.
     let vertices = held_by (g.DV.Depot.holds c.args.dv.now) (g.DV.Depot.room c.args.dv.now) in
     let set = setting_of g.M.Effects.rules old c.args.start_level 0 c.args.traversal in
     rw c.fill_slot.ensures
-    (loaded-waiting (seen_vertex numbers.vertex) set c.args.input c.args.at.now (g.DV.Depot.holds c.args.dv.now) (family_in_hand numbers c.args.parents.now c.args.parent.now old.list)
+    (loaded-waiting (record_of numbers.vertex) set c.args.input c.args.at.now (g.DV.Depot.holds c.args.dv.now) (family_in_hand numbers c.args.parents.now c.args.parent.now old.list)
     c.args.kind (stack_of c.args.from) c.in-Temp.s (g.DV.Depot.holds c.pop.new.self) c.pop.result (found_of old vertices cells)
     c.in_default.not-Hanging (ap stack_of c.in-Temp.is) c.requires.fits c.pop.ensures.holds c.pop.ensures.handed)

@@ -2,7 +2,8 @@ use Rattle.std.proofs.Common.{sym, subst, ◌∙◌}
 use Rattle.pe_base.specs.declared.event.Event.TheVariants.{TouchVertexFirstTime}
 use Rattle.pe_base.specs.Walk.Core.{vertex_event}
 use Rattle.pe_hang.specs.InHand.{setting_of_events, family_in_hand}
-use Rattle.pe_hang.specs.Follows.{Follows, read_by, found_of}
+use Rattle.pe_base.specs.Calls.Follows.{Follows, read_by}
+use Rattle.pe_mapping.specs.Held.{found_of}
 use Rattle.pe_adapt.specs.Slots.{seen_slot}
 use Rattle.pe_adapt.specs.Stops.{failure_of_halt}
 use Rattle.pe_adapt.proofs.Records.{read-is}

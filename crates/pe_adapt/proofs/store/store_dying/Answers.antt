@@ -4,8 +4,10 @@ use Rattle.pe_base.specs.Acts.Effects.{VertexRecord}
 use Rattle.pe_base.specs.Walk.Course.{and_then}
 use Rattle.pe_base.specs.Walk.Core.{Family, vertex_event, given_up}
 use Rattle.pe_hang.specs.InHand.{setting_of_events, family_in_hand}
-use Rattle.pe_hang.specs.Follows.{Follows, found_of}
-use Rattle.pe_hang.proofs.Leading.{follows-map, follows-then, leads_start, leads_err, roomier-held, setting-kept}
+use Rattle.pe_base.specs.Calls.Follows.{Follows}
+use Rattle.pe_mapping.specs.Held.{found_of}
+use Rattle.pe_base.proofs.Calls.Leading.{follows-map, follows-then, leads_start, leads_err}
+use Rattle.pe_hang.proofs.Staying.{roomier-held, setting-kept}
 use Rattle.pe_adapt.specs.Slots.{seen_slot}
 use Rattle.pe_adapt.specs.Stops.{failure_of_halt}
 use Rattle.pe_adapt.proofs.Errors.{err-is}

@@ -2,10 +2,12 @@ use Rattle.std.proofs.Common.{◌≡◌, sym, subst, ◌∙◌, refl, Ok, Err, O
 use Rattle.std.specs.Prelude.{is_none, IsSomeAnd}
 use Rattle.pe_base.specs.declared.kind.Kind.TheVariants.{Hanging}
 use Rattle.pe_base.specs.declared.event.Event.TheVariants.{DestroyHangingVertex}
-use Rattle.pe_mapping.specs.Sights.{seen_vertex}
+use Rattle.pe_stacks.specs.Sights.{record_of}
 use Rattle.pe_stacks.specs.declared.record.Vertex.{Vertex as AVertex}
 use Rattle.pe_hang.specs.InHand.{setting_of_events, family_in_hand, nothing_of}
-use Rattle.pe_hang.specs.Follows.{Follows, failure_at, found_of, held_by}
+use Rattle.pe_base.specs.Calls.Follows.{Follows, failure_at}
+use Rattle.pe_mapping.specs.Held.{found_of}
+use Rattle.pe_stacks.specs.RecordsOut.{held_by}
 use Rattle.pe_adapt.specs.Slots.{seen_slot}
 use Rattle.pe_adapt.specs.Touches.{store_as}
 use Rattle.pe_adapt.proofs.Loading.{desk}
@@ -22,7 +24,7 @@ returns-in-Ok-clause-follows g c = λ output to cells fits.
     let holds = g.DV.Depot.holds c.args.dv.now in
     let room = g.DV.Depot.room c.args.dv.now in
     let set = setting_of_events g.M.Effects.rules old c.args.traversal in
-    let f = seen_vertex numbers.vertex in
+    let f = record_of numbers.vertex in
     let v = c.unwrap.result in
     let held = sym c.take.ensures.value ∙ c.unwrap.ensures in
     let family = family_in_hand numbers c.args.parents.now c.args.parent.now old.list in
@@ -42,7 +44,7 @@ returns-in-Err-clause-follows g c = λ output to cells fits.
     let holds = g.DV.Depot.holds c.args.dv.now in
     let room = g.DV.Depot.room c.args.dv.now in
     let set = setting_of_events g.M.Effects.rules old c.args.traversal in
-    let f = seen_vertex numbers.vertex in
+    let f = record_of numbers.vertex in
     let v = c.unwrap.result in
     let held = sym c.take.ensures.value ∙ c.unwrap.ensures in
     let family = family_in_hand numbers c.args.parents.now c.args.parent.now old.list in

@@ -1,9 +1,11 @@
 use Rattle.std.proofs.Common.{true, refl, sym, subst, ◌∙◌}
 use Rattle.std.specs.Prelude.{None}
 use Rattle.pe_base.specs.declared.kind.Kind.TheVariants.{Dying}
-use Rattle.pe_mapping.specs.Sights.{seen_vertex}
+use Rattle.pe_stacks.specs.Sights.{record_of}
 use Rattle.pe_hang.specs.InHand.{setting_of_events, family_in_hand, nothing_of}
-use Rattle.pe_hang.specs.Follows.{Follows, Fits, read_by, found_of, held_by}
+use Rattle.pe_base.specs.Calls.Follows.{Follows, Fits, read_by}
+use Rattle.pe_mapping.specs.Held.{found_of}
+use Rattle.pe_stacks.specs.RecordsOut.{held_by}
 use Rattle.pe_adapt.specs.Stops.{failure_of_halt}
 use Rattle.pe_adapt.specs.Slots.{seen_slot}
 use Rattle.pe_adapt.specs.Touches.{store_as}
@@ -18,7 +20,7 @@ returns-in-Dying-clause-follows g c = λ cells.
     let holds = g.DV.Depot.holds c.args.dv.now in
     let vertices = held_by holds (g.DV.Depot.room c.args.dv.now) in
     let set = setting_of_events g.M.Effects.rules old c.args.traversal in
-    let f = seen_vertex numbers.vertex in
+    let f = record_of numbers.vertex in
     let at = c.args.at.now in
     let v = c.filled_mut.result.now in
     let family = family_in_hand numbers c.args.parents.now c.args.parent.now old.list in
@@ -42,7 +44,7 @@ returns-in_default-clause-follows g c = λ cells.
     let old = g.M.Mapping.held c.args.m.now in
     let holds = g.DV.Depot.holds c.args.dv.now in
     let set = setting_of_events g.M.Effects.rules old c.args.traversal in
-    let f = seen_vertex numbers.vertex in
+    let f = record_of numbers.vertex in
     let at = c.args.at.now in
     let family = family_in_hand numbers c.args.parents.now c.args.parent.now old.list in
     let new = g.M.Mapping.held c.store_staying.new.m in

@@ -1,9 +1,11 @@
 use Rattle.std.proofs.Common.{◌≡◌, Some, ap, sym, subst, ◌∙◌}
 use Rattle.std.specs.Prelude.{is_none, OnOk, OnErr}
-use Rattle.pe_mapping.specs.Sights.{seen_vertex}
+use Rattle.pe_stacks.specs.Sights.{record_of}
 use Rattle.pe_stacks.specs.Holdings.{pushed}
 use Rattle.pe_hang.specs.InHand.{setting_of_events, family_in_hand}
-use Rattle.pe_hang.specs.Follows.{Follows, Fits, read_by, found_of, held_by}
+use Rattle.pe_base.specs.Calls.Follows.{Follows, Fits, read_by}
+use Rattle.pe_mapping.specs.Held.{found_of}
+use Rattle.pe_stacks.specs.RecordsOut.{held_by}
 use Rattle.pe_adapt.specs.Stops.{failure_of_halt}
 use Rattle.pe_adapt.specs.Slots.{seen_slot}
 use Rattle.pe_adapt.specs.Spots.{stack_of}
@@ -18,7 +20,7 @@ returns-in-Hanging-clause-follows g c = λ cells.
     let old = g.M.Mapping.held c.args.m.now in
     let holds = g.DV.Depot.holds c.args.dv.now in
     let set = setting_of_events g.M.Effects.rules old c.args.traversal in
-    let f = seen_vertex numbers.vertex in
+    let f = record_of numbers.vertex in
     let at = c.args.at.now in
     let to = stack_of c.args.to in
     let family = family_in_hand numbers c.args.parents.now c.args.parent.now old.list in
@@ -37,7 +39,7 @@ returns-in-Stream-clause-follows g c = λ cells.
     let old = g.M.Mapping.held c.args.m.now in
     let holds = g.DV.Depot.holds c.args.dv.now in
     let set = setting_of_events g.M.Effects.rules old c.args.traversal in
-    let f = seen_vertex numbers.vertex in
+    let f = record_of numbers.vertex in
     let at = c.args.at.now in
     let family = family_in_hand numbers c.args.parents.now c.args.parent.now old.list in
     let new = g.M.Mapping.held c.store_last.new.m in
@@ -57,7 +59,7 @@ returns-in-Temp-clause-follows g c = λ cells.
     let holds = g.DV.Depot.holds c.args.dv.now in
     let room = g.DV.Depot.room c.args.dv.now in
     let set = setting_of_events g.M.Effects.rules old c.args.traversal in
-    let f = seen_vertex numbers.vertex in
+    let f = record_of numbers.vertex in
     let at = c.args.at.now in
     let v = c.unwrap.result in
     let same : c.filled_mut.result.now ≡ v = cc in

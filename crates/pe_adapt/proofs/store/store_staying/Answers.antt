@@ -2,11 +2,12 @@ use Rattle.std.proofs.Common.{◌≡◌, ℕ, refl, Err, sym, subst, ◌∙◌}
 use Rattle.std.specs.Prelude.{None, OnOk}
 use Rattle.pe_base.specs.Acts.Effects.{VertexRecord}
 use Rattle.pe_base.specs.Walk.Core.{Family}
-use Rattle.pe_mapping.specs.Sights.{seen_vertex}
+use Rattle.pe_stacks.specs.Sights.{record_of}
 use Rattle.pe_stacks.specs.Holdings.{pushed}
 use Rattle.pe_hang.specs.InHand.{setting_of_events, family_in_hand, nothing_of}
 use Rattle.pe_hang.specs.Moves.{MayPush}
-use Rattle.pe_hang.specs.Follows.{found_of, held_by}
+use Rattle.pe_mapping.specs.Held.{found_of}
+use Rattle.pe_stacks.specs.RecordsOut.{held_by}
 use Rattle.pe_adapt.specs.Stops.{failure_of_halt}
 use Rattle.pe_adapt.specs.Slots.{seen_slot}
 use Rattle.pe_adapt.proofs.Errors.{err-is}
@@ -22,7 +23,7 @@ returns-in_err-fire-clause-follows g c = λ cells.
     let holds = g.DV.Depot.holds c.args.dv.now in
     let room = g.DV.Depot.room c.args.dv.now in
     let set = setting_of_events g.M.Effects.rules old c.args.traversal in
-    let f = seen_vertex numbers.vertex in
+    let f = record_of numbers.vertex in
     let it = seen_slot numbers.vertex c.args.slot.now in
     let family = family_in_hand numbers c.args.parents.now c.args.parent.now old.list in
     let new = g.M.Mapping.held c.fire.new.m in
@@ -41,7 +42,7 @@ put_down-requires g c =
     let holds = g.DV.Depot.holds c.args.dv.now in
     let room = g.DV.Depot.room c.args.dv.now in
     let set = setting_of_events g.M.Effects.rules old c.args.traversal in
-    let f = seen_vertex numbers.vertex in
+    let f = record_of numbers.vertex in
     let it = seen_slot numbers.vertex c.args.slot.now in
     let family = family_in_hand numbers c.args.parents.now c.args.parent.now old.list in
     let cells : ℕ → ℕ = λ n. 0 in
@@ -65,7 +66,7 @@ returns-clause-follows g c = λ cells.
     let holds = g.DV.Depot.holds c.args.dv.now in
     let room = g.DV.Depot.room c.args.dv.now in
     let set = setting_of_events g.M.Effects.rules old c.args.traversal in
-    let f = seen_vertex numbers.vertex in
+    let f = record_of numbers.vertex in
     let it = seen_slot numbers.vertex c.args.slot.now in
     let family = family_in_hand numbers c.args.parents.now c.args.parent.now old.list in
     let found = found_of old (held_by holds room) cells in

@@ -1,8 +1,10 @@
 use Rattle.pe_adapt.proofs.CornerPlaces.{cell_below, level_below}
 use Rattle.std.proofs.Common.{arith, refl, sym, subst, ◌∙◌}
-use Rattle.pe_mapping.specs.Sights.{seen_vertex}
+use Rattle.pe_stacks.specs.Sights.{record_of}
 use Rattle.pe_hang.specs.InHand.{setting_of_events}
-use Rattle.pe_hang.specs.Follows.{Follows, Fits, read_by, found_of, held_by}
+use Rattle.pe_base.specs.Calls.Follows.{Follows, Fits, read_by}
+use Rattle.pe_mapping.specs.Held.{found_of}
+use Rattle.pe_stacks.specs.RecordsOut.{held_by}
 use Rattle.pe_adapt.specs.Stops.{failure_of}
 use Rattle.pe_adapt.specs.Spots.{stack_of, desk_in_hand}
 use Rattle.pe_adapt.proofs.Touching.{store-same}
@@ -15,7 +17,7 @@ store_as-requires-clause-fits g c =
     let spot = c.args.spot.now in
     let set = setting_of_events g.M.Effects.rules old spot.traversal in
     let desk = desk_in_hand numbers (g.DV.Depot.holds c.args.dv.now) c.args.parents.now c.args.parent.now old.list in
-    let same = store-same set old.dim spot.output spot.cell spot.corner (seen_vertex numbers.vertex c.args.v) desk (stack_of c.route_out-to.result) c.corner_place-at.result
+    let same = store-same set old.dim spot.output spot.cell spot.corner (record_of numbers.vertex c.args.v) desk (stack_of c.route_out-to.result) c.corner_place-at.result
     refl (c.corner_place-at.ensures.place old.dim c.requires.state.grid c.requires.spot.cell c.requires.spot.corner) (λ counts. c.route_out-to.ensures old.dim c.requires.spot c.requires.state (record { inside = λ counts'. c.requires.placed.inside (λ hangs. counts' (c.kind.ensures ∙ hangs)) }) (λ hangs. counts (sym c.kind.ensures ∙ hangs))) in
     subst (λ course. Fits course) (sym same) c.requires.fits
 
@@ -28,7 +30,7 @@ returns-clause-follows g c = λ cells.
     let set = setting_of_events g.M.Effects.rules old spot.traversal in
     let holds = g.DV.Depot.holds c.args.dv.now in
     let desk = desk_in_hand numbers holds c.args.parents.now c.args.parent.now old.list in
-    let same = store-same set old.dim spot.output spot.cell spot.corner (seen_vertex numbers.vertex c.args.v) desk (stack_of c.route_out-to.result) c.corner_place-at.result
+    let same = store-same set old.dim spot.output spot.cell spot.corner (record_of numbers.vertex c.args.v) desk (stack_of c.route_out-to.result) c.corner_place-at.result
     refl (c.corner_place-at.ensures.place old.dim c.requires.state.grid c.requires.spot.cell c.requires.spot.corner) (λ counts. c.route_out-to.ensures old.dim c.requires.spot c.requires.state (record { inside = λ counts'. c.requires.placed.inside (λ hangs. counts' (c.kind.ensures ∙ hangs)) }) (λ hangs. counts (sym c.kind.ensures ∙ hangs))) in
     subst
     (λ course. Follows course

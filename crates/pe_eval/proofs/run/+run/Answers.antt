@@ -4,7 +4,7 @@ use Rattle.pe_check.specs.Fits.{fits}
 use Rattle.pe_check.specs.declared.checked.Stmt.{Stmt}
 use Rattle.pe_check.specs.declared.checked.Stmt.TheViews.{the_lemmas}
 use Rattle.pe_eval.specs.Sights.{sight, globals_of, frame, reach_of}
-use Rattle.pe_eval.proofs.Lawful.{lawful-same, lawful-number, lawful-mark}
+use Rattle.pe_eval.proofs.Lawful.{lawful-same, lawful-number, lawful-trigger}
 use Rattle.pe_eval.proofs.Runs.{fits-if, fits-then, fits-else, stmt_fits-at, went-begins, went-on, went-err, lawful-on}
 use Rattle.pe_eval.proofs.Pieces.{gave-begins, gave-on, gave-err}
 use Rattle.pe_eval.specs.Pieces.{Given}
@@ -25,10 +25,10 @@ step-returns-in-Ok-clause-lawful g t c =
 pub step-returns-in-Err-clause-lawful : goal.step-returns-in-Err-clause-lawful
 step-returns-in-Err-clause-lawful g t c = lawful-same _ _
 
-pub step-returns-in-Mark-clause-lawful : goal.step-returns-in-Mark-clause-lawful
-step-returns-in-Mark-clause-lawful g t c =
+pub step-returns-in-Trigger-clause-lawful : goal.step-returns-in-Trigger-clause-lawful
+step-returns-in-Trigger-clause-lawful g t c =
     let P : Seen → Type 0 = λ seen. MayLeave (frame c.args.view.now).setting.max_level (sight c.args.view.now) seen in
-    subst P (sym c.mark.ensures.sight) (lawful-mark _ _ _ _)
+    subst P (sym c.apply.ensures.sight) (lawful-trigger _ _ _ _)
 
 pub step-returns-in-Print-clause-lawful : goal.step-returns-in-Print-clause-lawful
 step-returns-in-Print-clause-lawful g t c = lawful-same _ _

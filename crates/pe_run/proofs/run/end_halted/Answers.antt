@@ -12,8 +12,7 @@ pub returns-in_err-write_event_fault-in-Overflow :
 returns-in_err-write_event_fault-in-Overflow g c =
     let cause = fault_at Overflow c.in-Event.event c.in-Event.at in
     let ran : Ran = record { text = halt_line c.args.dim c.in-Walk.traversal cause; status = 4 } in
-    let line = line_stops ran _ _ c.from_residual.result c.from_residual.ensures.1
-    c.in_err-write_event_fault-in-Overflow.ensures.err c.write_event_fault.ensures.faults c.in_err-write_event_fault-in-Overflow.ensures.failed in
+    let line = line_stops ran _ _ c.from_residual.result c.from_residual.ensures.1 c.in_err-write_event_fault-in-Overflow.ensures.told in
     record { ended = EndsFor-halted c.args.dim c.args.halt.now c.in-Walk.traversal c.in-Walk.stop cause _ _ c.from_residual.result c.in-Walk.is (rw c.in-Event.is (rw c.in-Overflow.is)) line }
 
 pub returns-in_err-write_event_fault-in-Division :
@@ -21,8 +20,7 @@ pub returns-in_err-write_event_fault-in-Division :
 returns-in_err-write_event_fault-in-Division g c =
     let cause = fault_at Division c.in-Event.event c.in-Event.at in
     let ran : Ran = record { text = halt_line c.args.dim c.in-Walk.traversal cause; status = 4 } in
-    let line = line_stops ran _ _ c.from_residual-in_err-write_event_fault-in-Division.result c.from_residual-in_err-write_event_fault-in-Division.ensures.1
-    c.in_err-write_event_fault-in-Division.ensures.err c.write_event_fault-in-Division.ensures.faults c.in_err-write_event_fault-in-Division.ensures.failed in
+    let line = line_stops ran _ _ c.from_residual-in_err-write_event_fault-in-Division.result c.from_residual-in_err-write_event_fault-in-Division.ensures.1 c.in_err-write_event_fault-in-Division.ensures.told in
     record { ended = EndsFor-halted c.args.dim c.args.halt.now c.in-Walk.traversal c.in-Walk.stop cause _ _ c.from_residual-in_err-write_event_fault-in-Division.result c.in-Walk.is (rw c.in-Event.is (rw c.in-Division.is)) line }
 
 pub returns-in_err-write_cell_fault-in-CellLimit :
@@ -30,8 +28,7 @@ pub returns-in_err-write_cell_fault-in-CellLimit :
 returns-in_err-write_cell_fault-in-CellLimit g c =
     let cause = limit_at c.in-CellLimit.at in
     let ran : Ran = record { text = halt_line c.args.dim c.in-Walk.traversal cause; status = 4 } in
-    let line = line_stops ran _ _ c.from_residual-in_err-write_cell_fault-in-CellLimit.result c.from_residual-in_err-write_cell_fault-in-CellLimit.ensures.1
-    c.in_err-write_cell_fault-in-CellLimit.ensures.err c.write_cell_fault.ensures.faults c.in_err-write_cell_fault-in-CellLimit.ensures.failed in
+    let line = line_stops ran _ _ c.from_residual-in_err-write_cell_fault-in-CellLimit.result c.from_residual-in_err-write_cell_fault-in-CellLimit.ensures.1 c.in_err-write_cell_fault-in-CellLimit.ensures.told in
     record { ended = EndsFor-halted c.args.dim c.args.halt.now c.in-Walk.traversal c.in-Walk.stop cause _ _ c.from_residual-in_err-write_cell_fault-in-CellLimit.result c.in-Walk.is (rw c.in-CellLimit.is) line }
 
 pub returns-in_ok-write_event_fault-in-Overflow :
@@ -39,5 +36,5 @@ pub returns-in_ok-write_event_fault-in-Overflow :
 returns-in_ok-write_event_fault-in-Overflow g c =
     let cause = fault_at Overflow c.in-Event.event c.in-Event.at in
     let ran : Ran = record { text = halt_line c.args.dim c.in-Walk.traversal cause; status = 4 } in
-    let line = line_ends ran Halted _ _ refl c.in_ok-write_event_fault-in-Overflow.ensures.ok c.write_event_fault.ensures.faults in
+    let line = line_ends ran Halted _ _ refl c.in_ok-write_event_fault-in-Overflow.ensures.told in
     record { ended = EndsFor-halted c.args.dim c.args.halt.now c.in-Walk.traversal c.in-Walk.stop cause _ _ (Ok Halted) c.in-Walk.is (rw c.in-Event.is (rw c.in-Overflow.is)) line }

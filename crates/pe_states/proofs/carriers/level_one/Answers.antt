@@ -1,4 +1,4 @@
--- The mark of one corner among those of all.
+-- The ages of one corner among those of all.
 use Rattle.std.proofs.Common.{arith}
 use Rattle.pe_states.proofs.BoundaryLaws.{small_corner}
 use Rattle.pe_states.proofs.carriers.level_one.Goals as goal

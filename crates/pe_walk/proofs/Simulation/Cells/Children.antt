@@ -20,19 +20,19 @@ use Rattle.pe_base.specs.Walk.Streams.{if_walks, walked_children, walked_cells}
 use Rattle.pe_base.proofs.Lists.{Each-weaker}
 use Rattle.pe_base.proofs.Walk.Frames.{KeepsAbove, KeepsUp, up-each, walk_cell-keeps}
 use Rattle.pe_walk.specs.Machine.{Machine}
-use Rattle.pe_walk.specs.Laws.{IsCell}
+use Rattle.pe_order.specs.Laws.{IsCell}
 use Rattle.pe_walk.specs.Machine as machine
-use Rattle.pe_walk.specs.Tokens.{Tokens, given, each_some}
-use Rattle.pe_walk.specs.Tokens as tokens
-use Rattle.pe_walk.specs.Frames.{LeavesAbove}
+use Rattle.pe_order.specs.Tokens.{Tokens, given, each_some}
+use Rattle.pe_order.specs.Tokens as tokens
+use Rattle.pe_order.specs.Frames.{LeavesAbove}
 use Rattle.pe_walk.specs.Standing.{Outset, Stage, IsStage, Holds, IsOutset}
-use Rattle.pe_walk.proofs.Unwalked.{in_contains, cell_four}
-use Rattle.pe_walk.proofs.Trees.{child_is_cell}
-use Rattle.pe_walk.proofs.Outlooks.{kids_parent}
-use Rattle.pe_walk.proofs.Tokens.Walks.{each_with}
-use Rattle.pe_walk.proofs.Tokens.WalkFrames.{what_walks_leave}
+use Rattle.pe_order.proofs.Unwalked.{in_contains, cell_four}
+use Rattle.pe_order.proofs.Trees.{child_is_cell}
+use Rattle.pe_order.proofs.Outlooks.{kids_parent}
+use Rattle.pe_order.proofs.Tokens.Walks.{each_with}
+use Rattle.pe_order.proofs.Tokens.WalkFrames.{what_walks_leave}
 use Rattle.pe_walk.proofs.Simulation.Matching.{Alike, Sim, Along, some_same, done_same, sim-along, sim-weaker, mapped-matches}
-use Rattle.pe_walk.proofs.Simulation.Below.{below_by_marks, mine_marked}
+use Rattle.pe_walk.proofs.Simulation.Below.{below_by_ages, mine_aged}
 use Rattle.pe_walk.proofs.Simulation.Leaves.{image_of, own_in_hand, ports, WalkSim}
 use Rattle.pe_walk.proofs.Simulation.Cells.Corners.{stage_of}
 use Rattle.pe_walk.proofs.Simulation.Cells.Inside.{at_child, with_ahead, IsOpen, own_flag, records_of-kept, cell_at-kept, down-holds, next-holds, back-holds}
@@ -41,8 +41,8 @@ module _ {Plan : Type 0} (set : Setting Plan) (e : Outset) (walked : Place → B
   -- whether there are children, by the corners in hand
   below_found : (st : Stage) (w : Working) (t : Tokens) → IsStage set.axes e.outlook st → IsOpen st → Holds set e st w t → kind_below (records_of set.axes w st.cell) ≡ e.foresight.below st.cell
   below_found st w t stage full h =
-      below_by_marks set e.outlook e.foresight is.foresees w st.cell stage.deep
-      (λ k small. mine_marked set e walked is st w t h stage k (omega (arith, full.all)) small (own_flag set.axes e.outlook (set.rules.greatest set.plan) e.foresight st w t full h.fair k small))
+      below_by_ages set e.outlook e.foresight is.foresees w st.cell stage.deep
+      (λ k small. mine_aged set e walked is st w t h stage k (omega (arith, full.all)) small (own_flag set.axes e.outlook (set.rules.greatest set.plan) e.foresight st w t full h.fair k small))
 
   -- the children of a cell
   abbrev pub kids : Place → List Place

@@ -9,11 +9,11 @@ use Rattle.pe_base.specs.Walk.Course.{Push, at_once, and_then, each}
 use Rattle.pe_base.specs.Walk.Core.{Setting}
 use Rattle.pe_base.specs.Walk.Working.{record_at}
 use Rattle.pe_base.specs.Walk.Touches as model
-use Rattle.pe_walk.specs.Laws.{IsCell}
+use Rattle.pe_order.specs.Laws.{IsCell}
 use Rattle.pe_walk.specs.Machine.{Machine}
 use Rattle.pe_walk.specs.Machine as machine
-use Rattle.pe_walk.specs.Tokens.{each_some}
-use Rattle.pe_walk.specs.Tokens as tokens
+use Rattle.pe_order.specs.Tokens.{each_some}
+use Rattle.pe_order.specs.Tokens as tokens
 use Rattle.pe_walk.specs.Standing.{Outset, Stage, Holds, IsStage}
 use Rattle.pe_walk.proofs.Simulation.Matching.{Sim, Alike, sim-nothing, sim-then, sim-alike, turned-then}
 use Rattle.pe_walk.proofs.Simulation.Leaves.{image_of, in_hand, ports, after_load, load_before, LoadLeaf, after_store, store_first, StoreLeaf}

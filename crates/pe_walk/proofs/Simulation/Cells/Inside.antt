@@ -15,8 +15,8 @@ use Rattle.pe_base.proofs.Steps.VertexTouches.{is_same_itself}
 use Rattle.pe_base.proofs.Walk.Frames.{levels_differ, KeepsAbove}
 use Rattle.pe_base.proofs.Walk.Slots.{is_hung}
 use Rattle.pe_stacks.specs.Holdings.{len_at}
-use Rattle.pe_walk.specs.Tokens.{Outlook, Tokens}
-use Rattle.pe_walk.specs.Frames.{LeavesAbove}
+use Rattle.pe_order.specs.Tokens.{Outlook, Tokens}
+use Rattle.pe_order.specs.Frames.{LeavesAbove}
 use Rattle.pe_walk.specs.Standing.{Foresight, Outset, Stage, times, Stands, Fair, IsIdle, Owes, Holds}
 
 -- four tests

@@ -16,10 +16,10 @@ use Rattle.pe_base.specs.Walk.Walk as walks
 use Rattle.pe_base.specs.Walk.Streams.{walked_cells}
 use Rattle.pe_walk.specs.Machine.{Machine}
 use Rattle.pe_walk.specs.Machine as machine
-use Rattle.pe_walk.specs.Tokens.{Tokens, each_some}
-use Rattle.pe_walk.specs.Tokens as tokens
+use Rattle.pe_order.specs.Tokens.{Tokens, each_some}
+use Rattle.pe_order.specs.Tokens as tokens
 use Rattle.pe_walk.specs.Standing.{Outset, Stage, IsStage, Holds, IsOutset}
-use Rattle.pe_walk.proofs.Trees.{root_is_cell}
+use Rattle.pe_order.proofs.Trees.{root_is_cell}
 use Rattle.pe_walk.proofs.Simulation.Matching.{Sim, sim-then, sim-along}
 use Rattle.pe_walk.proofs.Simulation.Leaves.{image_of, ports, CountLeaf, LoadLeaf, EnterLeaf, LeaveLeaf, StoreLeaf, PlainLeaf, WalkSim, at_root, RootSim}
 use Rattle.pe_walk.proofs.Simulation.Cells.Inside.{at_child}

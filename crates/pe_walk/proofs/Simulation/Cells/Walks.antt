@@ -17,8 +17,8 @@ use Rattle.pe_base.proofs.Steps.VertexTouches.{is_same_itself}
 use Rattle.pe_stacks.proofs.CornerSlots.{corners_range}
 use Rattle.pe_walk.specs.Machine.{Machine}
 use Rattle.pe_walk.specs.Machine as machine
-use Rattle.pe_walk.specs.Tokens.{Tokens, given, each_some}
-use Rattle.pe_walk.specs.Tokens as tokens
+use Rattle.pe_order.specs.Tokens.{Tokens, given, each_some}
+use Rattle.pe_order.specs.Tokens as tokens
 use Rattle.pe_walk.specs.Standing.{Outset, Stage, IsStage, Holds, IsOutset}
 use Rattle.pe_walk.proofs.Simulation.Matching.{Sim, sim-then, sim-alike, sim-weaker}
 use Rattle.pe_walk.proofs.Simulation.Leaves.{image_of, in_hand, own_in_hand, ports, after_count, after_enter, after_leave, CountLeaf, LoadLeaf, EnterLeaf, LeaveLeaf, StoreLeaf, WalkSim}

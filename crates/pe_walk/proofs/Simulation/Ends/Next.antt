@@ -25,28 +25,29 @@ use Rattle.pe_base.proofs.Tree.Ranks.{same_places}
 use Rattle.pe_stacks.specs.Holdings.{items_at}
 use Rattle.pe_stacks.specs.Grid.{output_stack, cell_output_stack}
 use Rattle.pe_walk.specs.Machine.{Machine}
-use Rattle.pe_walk.specs.Tokens.{Outlook, Tokens, turned, numbers}
-use Rattle.pe_walk.specs.Tokens as tokens
-use Rattle.pe_walk.specs.Takings.{writes_of, cell_reads_of, cell_writes_of, Grown, HasTraversed}
-use Rattle.pe_walk.specs.CellsAhead.{times}
-use Rattle.pe_walk.specs.Apart.{lies}
-use Rattle.pe_walk.specs.Outlooks.{outlook}
-use Rattle.pe_walk.specs.StreamLaws.{IsNext}
+use Rattle.pe_order.specs.Tokens.{Outlook, Tokens, turned, numbers}
+use Rattle.pe_order.specs.Tokens as tokens
+use Rattle.pe_order.specs.Takings.{writes_of, cell_reads_of, cell_writes_of, Grown, HasTraversed}
+use Rattle.pe_order.specs.CellsAhead.{times}
+use Rattle.pe_order.specs.Apart.{lies}
+use Rattle.pe_order.specs.Outlooks.{outlook}
+use Rattle.pe_order.specs.StreamLaws.{IsNext}
 use Rattle.pe_walk.specs.Standing.{Foresight, IsWritten, Holds}
-use Rattle.pe_walk.specs.Gridded.{stored_of, MachineMayTraverse}
-use Rattle.pe_walk.proofs.Tests.{some_power}
-use Rattle.pe_walk.proofs.Trees.{cell_position}
-use Rattle.pe_walk.proofs.StreamOrders.{cell_test, stored_not_hanging, next_is_formed, writes_are_streams}
-use Rattle.pe_walk.proofs.Tokens.Apart.{lies_only, not_read}
-use Rattle.pe_walk.proofs.Tokens.OnStreams.{reads_it, reads_cell_it, reads_cells_only}
-use Rattle.pe_walk.proofs.Tokens.Streams.{fits_turned}
-use Rattle.pe_walk.proofs.Tokens.Traversals.{given_items}
-use Rattle.pe_walk.proofs.Tokens.Turning.{writes-turned, cell_writes-turned}
+use Rattle.pe_stacks.specs.StreamsHeld.{stored_of}
+use Rattle.pe_walk.specs.Gridded.{MachineMayTraverse}
+use Rattle.pe_order.proofs.Tests.{some_power}
+use Rattle.pe_order.proofs.Trees.{cell_position}
+use Rattle.pe_order.proofs.StreamOrders.{cell_test, stored_not_hanging, next_is_formed, writes_are_streams}
+use Rattle.pe_order.proofs.Tokens.Apart.{lies_only, not_read}
+use Rattle.pe_order.proofs.Tokens.OnStreams.{reads_it, reads_cell_it, reads_cells_only}
+use Rattle.pe_order.proofs.Tokens.Streams.{fits_turned}
+use Rattle.pe_order.proofs.Tokens.Traversals.{given_items}
+use Rattle.pe_order.proofs.Tokens.Turning.{writes-turned, cell_writes-turned}
 use Rattle.pe_walk.proofs.Simulation.Leaves.{at_root}
 use Rattle.pe_walk.proofs.Simulation.Outsets.{as_begun, foresight_of}
 use Rattle.pe_walk.proofs.Simulation.Starts.{tokens_of, outset_of, cell_of, dim_of, grown_of}
 use Rattle.pe_walk.proofs.Simulation.Visits.Entering.{times-there}
-use Rattle.pe_walk.proofs.Tokens.Bounds.{few_stacks, few_cell_stacks}
+use Rattle.pe_order.proofs.Tokens.Bounds.{few_stacks, few_cell_stacks}
 
 -- what will be stored counts; what does not count was not stored and will not be
 stored_counts : (a b : Bool) → b ≡ true → not (is_hanging (kind_from a b)) ≡ true

@@ -8,7 +8,7 @@ use Rattle.pe_base.specs.declared.state.State.TheVariants.{Unrefined}
 use Rattle.pe_base.specs.Tree.Places.{root, is_same}
 use Rattle.pe_base.specs.Acts.Effects.{VertexRecord}
 use Rattle.pe_base.specs.Walk.Maps.{at, removed}
-use Rattle.pe_base.specs.Walk.Course.{Push, at_once, and_then}
+use Rattle.pe_base.specs.Walk.Course.{Push, at_once, and_then, allowed}
 use Rattle.pe_base.specs.Walk.Core.{Setting}
 use Rattle.pe_base.specs.Walk.Grids.{Grid}
 use Rattle.pe_base.specs.Walk.Streams.{goes_below, next_way, walked_cells, stream_vertices, stream_cells, vertex_stream, cell_stream}
@@ -18,17 +18,17 @@ use Rattle.pe_base.proofs.Walk.MapLaws.{at-removed, found-turned_by}
 use Rattle.pe_stacks.specs.Holdings.{Holdings, given_up}
 use Rattle.pe_stacks.specs.Grid.{output_stack, cell_output_stack}
 use Rattle.pe_hang.specs.InHand.{map_holdings}
-use Rattle.pe_hang.specs.Moves.{allowed}
 use Rattle.pe_hang.proofs.OnStacks.{stack_count-map, stack_at-map}
 use Rattle.pe_walk.specs.Machine.{Machine, Ports, with_parents}
 use Rattle.pe_walk.specs.Machine as machine
-use Rattle.pe_walk.specs.Tokens.{Outlook, Tokens, given_up_for, numbers}
-use Rattle.pe_walk.specs.Tokens as tokens
-use Rattle.pe_walk.specs.Takings.{writes_of, cell_writes_of, HasTraversed}
-use Rattle.pe_walk.specs.Outlooks.{outlook}
+use Rattle.pe_order.specs.Tokens.{Outlook, Tokens, given_up_for, numbers}
+use Rattle.pe_order.specs.Tokens as tokens
+use Rattle.pe_order.specs.Takings.{writes_of, cell_writes_of, HasTraversed}
+use Rattle.pe_order.specs.Outlooks.{outlook}
 use Rattle.pe_walk.specs.Standing.{Outset, Holds}
-use Rattle.pe_walk.specs.Gridded.{stored_of, HoldsGrid, MachineMayTraverse, MachineHasTraversed, ports_of}
-use Rattle.pe_walk.proofs.Tokens.DepotCounts.{given_up_counts}
+use Rattle.pe_stacks.specs.StreamsHeld.{stored_of}
+use Rattle.pe_walk.specs.Gridded.{HoldsGrid, MachineMayTraverse, MachineHasTraversed, ports_of}
+use Rattle.pe_order.proofs.Tokens.DepotCounts.{given_up_counts}
 use Rattle.pe_walk.proofs.Simulation.Leaves.{record_of, image_of, at_root}
 use Rattle.pe_walk.proofs.Simulation.Starts.{tokens_of, outset_of}
 use Rattle.pe_walk.proofs.Simulation.Ends.Next.{formed_of, streams_of}

@@ -20,11 +20,11 @@ use Rattle.pe_base.proofs.Walk.MapLaws.{is_key}
 use Rattle.pe_base.proofs.Walk.Families.{Each-range}
 use Rattle.pe_base.proofs.Tree.Ranks.{same_places}
 use Rattle.pe_hang.specs.InHand.{map_holdings}
-use Rattle.pe_walk.specs.Tokens.{Outlook, Tokens}
-use Rattle.pe_walk.specs.Apart.{IsApart, lies}
-use Rattle.pe_walk.specs.Traffic.{OnlyCounting}
+use Rattle.pe_order.specs.Tokens.{Outlook, Tokens}
+use Rattle.pe_order.specs.Apart.{IsApart, lies}
+use Rattle.pe_order.specs.Traffic.{OnlyCounting}
 use Rattle.pe_walk.specs.Standing.{Foresight, Outset, Stage, Stands, Fair, IsFair, IsIdle}
-use Rattle.pe_walk.proofs.Tokens.Apart.{one_if}
+use Rattle.pe_order.proofs.Tokens.Apart.{one_if}
 use Rattle.pe_walk.proofs.Simulation.Leaves.{record_of}
 use Rattle.pe_walk.proofs.Simulation.Shared.{HasPut, lies_unheld, cells-image, vertices-image}
 use Rattle.pe_walk.proofs.Simulation.Loads.OnStacks.{LoadsPlace}

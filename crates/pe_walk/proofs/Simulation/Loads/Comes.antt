@@ -15,10 +15,10 @@ use Rattle.pe_base.proofs.Tree.Ranks.{same_places}
 use Rattle.pe_stacks.specs.Holdings.{Holdings, stack_at, items_at, lent, popped}
 use Rattle.pe_hang.specs.InHand.{map_holdings}
 use Rattle.pe_adapt.specs.Touches.{Desk, lent_vertex, popped_vertex, comes, load_as}
-use Rattle.pe_walk.specs.Outlooks.{was_stored}
-use Rattle.pe_walk.specs.Tokens.{is_top, given, first_of, taken}
-use Rattle.pe_walk.proofs.Tokens.Stacks.{is_stack_of}
-use Rattle.pe_walk.proofs.Tokens.Keeping.{given_some}
+use Rattle.pe_order.specs.Outlooks.{was_stored}
+use Rattle.pe_order.specs.Tokens.{is_top, given, first_of, taken}
+use Rattle.pe_order.proofs.Tokens.Stacks.{is_stack_of}
+use Rattle.pe_order.proofs.Tokens.Keeping.{given_some}
 use Rattle.pe_walk.proofs.Simulation.Shared.{lend-image, pop-image}
 
 -- the calls that a load may make have counts that may rise

@@ -11,7 +11,7 @@ use Rattle.pe_base.specs.Life.Kinds.{is_hanging, is_inside}
 use Rattle.pe_base.specs.Steps.Around.{around}
 use Rattle.pe_base.specs.Steps.Routes.{stack_in}
 use Rattle.pe_base.specs.Acts.Effects.{VertexRecord}
-use Rattle.pe_base.specs.Walk.Course.{Push, Course, at_once, course_map}
+use Rattle.pe_base.specs.Walk.Course.{Push, Course, at_once, course_map, allowed}
 use Rattle.pe_base.specs.Walk.Core.{Setting, way, Family, read_vertex, load_touch}
 use Rattle.pe_base.specs.Walk.Working.{Working, vertex_at, cell_at, loads_of, family_of}
 use Rattle.pe_base.specs.Walk.Touches.{tally_load, after_load}
@@ -19,13 +19,12 @@ use Rattle.pe_base.specs.Walk.Touches as model
 use Rattle.pe_stacks.specs.Holdings.{stack_at}
 use Rattle.pe_stacks.specs.Grid.{input_stack}
 use Rattle.pe_hang.specs.InHand.{map_holdings}
-use Rattle.pe_hang.specs.Moves.{allowed}
 use Rattle.pe_adapt.specs.Touches.{Desk, load_as}
-use Rattle.pe_walk.specs.Laws.{IsCell}
+use Rattle.pe_order.specs.Laws.{IsCell}
 use Rattle.pe_walk.specs.Machine.{Machine, tally_may_rise, is_placed}
-use Rattle.pe_walk.specs.Tokens.{Tokens, before, first_of, given, taken}
+use Rattle.pe_order.specs.Tokens.{Tokens, before, first_of, given, taken}
 use Rattle.pe_walk.specs.Standing.{Outset, Stage, Holds, IsOutset, IsStage}
-use Rattle.pe_walk.proofs.Tokens.Counting.{corners_by_counting}
+use Rattle.pe_order.proofs.Tokens.Counting.{corners_by_counting}
 use Rattle.pe_walk.proofs.Simulation.Matching.{turned-then}
 use Rattle.pe_walk.proofs.Simulation.LoadedKinds.{kinds_are_found, hangs_if}
 use Rattle.pe_walk.proofs.Simulation.CellsCounted.{small_rises, tally_rises}

@@ -19,14 +19,14 @@ use Rattle.pe_base.specs.Walk.Core.{Setting, Family, fresh_vertex, read_vertex}
 use Rattle.pe_base.specs.Walk.Working.{no_vertex}
 use Rattle.pe_stacks.specs.Holdings.{Holdings, items_at, popped}
 use Rattle.pe_stacks.specs.Grid.{output_stack}
-use Rattle.pe_walk.specs.Laws.{IsCell}
-use Rattle.pe_walk.specs.Tokens.{Outlook, Tokens, is_top, given, taken}
+use Rattle.pe_order.specs.Laws.{IsCell}
+use Rattle.pe_order.specs.Tokens.{Outlook, Tokens, is_top, given, taken}
 use Rattle.pe_walk.specs.CoreKeeps.{loaded}
 use Rattle.pe_walk.specs.Standing.{Foresight, IsForeseen, StartsFinest, IsFair, IsIdle, IsLive, times}
-use Rattle.pe_walk.proofs.Derived.{corners_cross_once}
+use Rattle.pe_order.proofs.Derived.{corners_cross_once}
 use Rattle.pe_walk.proofs.Simulation.Shared.{across_apart}
-use Rattle.pe_walk.proofs.Tokens.Keeping.{given_some}
-use Rattle.pe_walk.proofs.Tokens.Apart.{one_if}
+use Rattle.pe_order.proofs.Tokens.Keeping.{given_some}
+use Rattle.pe_order.proofs.Tokens.Apart.{one_if}
 
 -- a corner that hangs
 pub loads_idle : {Plan : Type 0} (set : Setting Plan) (first : Bool) (found : VertexRecord) (place : Place) (family : Family) → IsIdle (loaded set Hanging first found place family)

@@ -17,14 +17,14 @@ use Rattle.pe_base.specs.Walk.Working.{Working, vertex_at, records_of, family_of
 use Rattle.pe_base.specs.Walk.Touches.{tally_load, put_loaded}
 use Rattle.pe_base.specs.Walk.Touches as model
 use Rattle.pe_stacks.specs.Grid.{input_stack}
-use Rattle.pe_walk.specs.Laws.{IsCell}
+use Rattle.pe_order.specs.Laws.{IsCell}
 use Rattle.pe_walk.specs.Machine.{Machine}
-use Rattle.pe_walk.specs.Tokens.{Tokens, first_of, given, taken, load}
+use Rattle.pe_order.specs.Tokens.{Tokens, first_of, given, taken, load}
 use Rattle.pe_walk.specs.CoreKeeps.{IsAlike, AreAlike, KeepsParents, loaded}
 use Rattle.pe_walk.specs.Standing.{Outset, Stage, Holds, Owes, IsForeseen, StartsFinest, IsFair, IsIdle, IsOutset, IsStage}
-use Rattle.pe_walk.proofs.Unwalked.{cell_four}
-use Rattle.pe_walk.proofs.Tokens.Apart.{steps_keep_apart}
-use Rattle.pe_walk.proofs.Tokens.Short.{steps_keep_counting}
+use Rattle.pe_order.proofs.Unwalked.{cell_four}
+use Rattle.pe_order.proofs.Tokens.Apart.{steps_keep_apart}
+use Rattle.pe_order.proofs.Tokens.Short.{steps_keep_counting}
 use Rattle.pe_walk.proofs.Simulation.Matching.{Matches, some_same, core-matches, matches-same, mapped-done}
 use Rattle.pe_walk.proofs.Simulation.CoreLaws.{core_keeps}
 use Rattle.pe_walk.proofs.Simulation.LoadedKinds.{hangs_if, parent_long}

@@ -9,14 +9,14 @@ use Rattle.pe_base.specs.Tree.Places.{corner, is_same}
 use Rattle.pe_base.specs.Steps.Faces.{Touch}
 use Rattle.pe_base.specs.Steps.Stacks.{is_stack}
 use Rattle.pe_stacks.specs.Holdings.{Holdings, stack_count, stack_at, items_at, len_at, lent}
-use Rattle.pe_walk.specs.Tokens.{Outlook, Tokens, cells_before, taken, source, touch_of, load}
-use Rattle.pe_walk.specs.Apart.{lies}
-use Rattle.pe_walk.specs.Traffic.{takes_from, makes}
-use Rattle.pe_walk.specs.Frames.{loaded_from, AfterLoad}
+use Rattle.pe_order.specs.Tokens.{Outlook, Tokens, cells_before, taken, source, touch_of, load}
+use Rattle.pe_order.specs.Apart.{lies}
+use Rattle.pe_order.specs.Traffic.{takes_from, makes}
+use Rattle.pe_order.specs.Frames.{loaded_from, AfterLoad}
 use Rattle.pe_walk.specs.Standing.{times}
-use Rattle.pe_walk.proofs.Tokens.Apart.{one_if, at_most_one}
-use Rattle.pe_walk.proofs.Tokens.DepotCounts.{Took, take_counts}
-use Rattle.pe_walk.proofs.Tokens.MoveFrames.{after_load}
+use Rattle.pe_order.proofs.Tokens.Apart.{one_if, at_most_one}
+use Rattle.pe_order.proofs.Tokens.DepotCounts.{Took, take_counts}
+use Rattle.pe_order.proofs.Tokens.MoveFrames.{after_load}
 
 -- a place was taken from a stack, or made
 pub record HasTaken (v : Place) (held after : Holdings Place) : Type 0 where

@@ -18,7 +18,7 @@ use Rattle.pe_base.specs.Walk.Touches.{put_loaded}
 use Rattle.pe_base.proofs.Walk.MapLaws.{is_key, at-put, found-changed}
 use Rattle.pe_base.proofs.Walk.Slots.{is_hung}
 use Rattle.pe_base.proofs.Tree.Ranks.{same_places}
-use Rattle.pe_walk.proofs.Tokens.Apart.{one_if}
+use Rattle.pe_order.proofs.Tokens.Apart.{one_if}
 
 -- a record is put under a vertex that counts, which is loaded once more, or under a corner of the cell that hangs
 pub record LoadsRecord (counts : Bool) (cell vertex : Place) (k : ℕ) (it : VertexRecord) (w after : Working) : Type 0 where

@@ -22,10 +22,10 @@ use Rattle.pe_base.proofs.Walk.Slots.{is_hung}
 use Rattle.pe_base.proofs.Tree.Ranks.{same_places}
 use Rattle.pe_stacks.specs.Holdings.{Holdings, stack_count, stack_at, items_at, len_at}
 use Rattle.pe_stacks.specs.Grid.{output_stack}
-use Rattle.pe_walk.specs.Tokens.{Outlook, Tokens, cells_before}
-use Rattle.pe_walk.specs.Apart.{lies, occurs}
+use Rattle.pe_order.specs.Tokens.{Outlook, Tokens, cells_before}
+use Rattle.pe_order.specs.Apart.{lies, occurs}
 use Rattle.pe_walk.specs.Standing.{Foresight, Outset, Stage, Stands, Fair, Owes, IsLive, IsFair, IsIdle, IsWritten, times}
-use Rattle.pe_walk.proofs.Tokens.Apart.{one_if}
+use Rattle.pe_order.proofs.Tokens.Apart.{one_if}
 use Rattle.pe_walk.proofs.Simulation.Leaves.{after_load}
 use Rattle.pe_walk.proofs.Simulation.Shared.{on_one, lies_unheld, OneMore, owes-more}
 use Rattle.pe_walk.proofs.Simulation.Loads.OnStacks.{HasTaken}

@@ -14,8 +14,8 @@ use Rattle.pe_base.proofs.Walk.Slots.{is_hung}
 use Rattle.pe_base.proofs.Tree.Ranks.{same_places}
 use Rattle.pe_stacks.specs.Holdings.{items_at}
 use Rattle.pe_stacks.specs.Grid.{output_stack}
-use Rattle.pe_walk.specs.Tokens.{Outlook, Tokens}
-use Rattle.pe_walk.specs.Apart.{lies, occurs}
+use Rattle.pe_order.specs.Tokens.{Outlook, Tokens}
+use Rattle.pe_order.specs.Apart.{lies, occurs}
 use Rattle.pe_walk.specs.Standing.{Foresight, Stage, Stands, Fair, IsFair, IsWritten, IsIdle, IsLive, times}
 use Rattle.pe_walk.proofs.Simulation.Leaves.{after_store}
 use Rattle.pe_walk.proofs.Simulation.Shared.{HasPut, on_one, lies_counts, lies_unheld}

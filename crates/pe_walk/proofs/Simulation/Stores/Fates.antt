@@ -12,7 +12,7 @@ use Rattle.pe_base.specs.Acts.Effects.{VertexRecord}
 use Rattle.pe_base.specs.Walk.Core.{Setting}
 use Rattle.pe_base.proofs.Walk.TableLaws.{last_touch_settles}
 use Rattle.pe_adapt.specs.Touches.{stack_or}
-use Rattle.pe_walk.specs.Tokens.{given, first_of}
+use Rattle.pe_order.specs.Tokens.{given, first_of}
 use Rattle.pe_walk.specs.CoreKeeps.{IsFinest, IsAlike, IsStoredAlike, stays, stored_as}
 use Rattle.pe_walk.specs.Standing.{Foresight, IsFair, IsWritten}
 use Rattle.pe_walk.proofs.Simulation.Shared.{fair-alike}

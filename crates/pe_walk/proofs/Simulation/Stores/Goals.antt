@@ -7,15 +7,15 @@ use Rattle.pe_base.specs.Tree.Dim.{IsDim}
 use Rattle.pe_base.specs.Tree.Places.{corner}
 use Rattle.pe_base.specs.Steps.Routes.{stack_out}
 use Rattle.pe_stacks.specs.Grid.{input_stack, output_stack}
-use Rattle.pe_walk.specs.Laws.{IsCell}
-use Rattle.pe_walk.specs.Tokens.{Outlook, Tokens, given, first_of, touch_of, target, store_it, store}
-use Rattle.pe_walk.specs.Apart.{IsApart}
-use Rattle.pe_walk.specs.Traffic.{OnlyCounting}
-use Rattle.pe_walk.proofs.Derived.{corners_cross_once}
-use Rattle.pe_walk.proofs.Tokens.Keeping.{given_some}
-use Rattle.pe_walk.proofs.Tokens.Walks.{goes_within}
-use Rattle.pe_walk.proofs.Tokens.Apart.{steps_keep_apart}
-use Rattle.pe_walk.proofs.Tokens.Short.{steps_keep_counting}
+use Rattle.pe_order.specs.Laws.{IsCell}
+use Rattle.pe_order.specs.Tokens.{Outlook, Tokens, given, first_of, touch_of, target, store_it, store}
+use Rattle.pe_order.specs.Apart.{IsApart}
+use Rattle.pe_order.specs.Traffic.{OnlyCounting}
+use Rattle.pe_order.proofs.Derived.{corners_cross_once}
+use Rattle.pe_order.proofs.Tokens.Keeping.{given_some}
+use Rattle.pe_order.proofs.Tokens.Walks.{goes_within}
+use Rattle.pe_order.proofs.Tokens.Apart.{steps_keep_apart}
+use Rattle.pe_order.proofs.Tokens.Short.{steps_keep_counting}
 use Rattle.pe_walk.proofs.Simulation.Shared.{across_apart}
 use Rattle.pe_walk.proofs.Simulation.Stores.OnStacks.{stored}
 

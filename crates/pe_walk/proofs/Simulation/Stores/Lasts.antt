@@ -8,10 +8,10 @@ use Rattle.pe_base.specs.Steps.Routes.{stack_out}
 use Rattle.pe_base.specs.Walk.Core.{Setting, way}
 use Rattle.pe_base.specs.Walk.Working.{Working, loads_of}
 use Rattle.pe_base.proofs.Steps.SlowerLaws.{length-around}
-use Rattle.pe_walk.specs.Laws.{IsCell}
-use Rattle.pe_walk.specs.Tokens.{Tokens, before}
+use Rattle.pe_order.specs.Laws.{IsCell}
+use Rattle.pe_order.specs.Tokens.{Tokens, before}
 use Rattle.pe_walk.specs.Standing.{Outset, Stage, Holds, IsOutset, IsStage}
-use Rattle.pe_walk.proofs.Tokens.Counting.{corners_by_counting}
+use Rattle.pe_order.proofs.Tokens.Counting.{corners_by_counting}
 
 -- A vertex that was loaded for all cells around it goes to no further cell, and the other way round.
 pub lasts_agree : {Plan : Type 0} (set : Setting Plan) (e : Outset) (walked : Place → Bool) → IsOutset set e walked → (st : Stage) (w : Working) (t : Tokens) → IsStage set.axes e.outlook st → Holds set e st w t

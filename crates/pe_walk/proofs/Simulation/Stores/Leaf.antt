@@ -9,7 +9,7 @@ use Rattle.pe_base.specs.declared.place.Place.{Place}
 use Rattle.pe_base.specs.Tree.Places.{corner}
 use Rattle.pe_base.specs.Acts.Effects.{VertexRecord}
 use Rattle.pe_base.specs.Walk.Maps.{at}
-use Rattle.pe_base.specs.Walk.Course.{Push, Course, done, at_once, and_then, course_map}
+use Rattle.pe_base.specs.Walk.Course.{Push, Course, done, at_once, and_then, course_map, allowed}
 use Rattle.pe_base.specs.Walk.Core.{Setting, Family, way}
 use Rattle.pe_base.specs.Walk.Working.{Working, no_vertex, vertex_at, cell_at, record_at, family_of}
 use Rattle.pe_base.specs.Walk.Touches.{tally_store, store_corner}
@@ -18,11 +18,10 @@ use Rattle.pe_base.proofs.Walk.Families.{Each-range}
 use Rattle.pe_stacks.specs.Holdings.{Holdings, len_at}
 use Rattle.pe_stacks.specs.Grid.{input_stack, output_stack}
 use Rattle.pe_hang.specs.InHand.{map_holdings}
-use Rattle.pe_hang.specs.Moves.{allowed}
 use Rattle.pe_adapt.specs.Touches.{Desk}
 use Rattle.pe_adapt.specs.Touches as corners
 use Rattle.pe_walk.specs.Machine.{Machine, desk_of, with_desk, tally_may_rise, is_placed}
-use Rattle.pe_walk.specs.Tokens.{Tokens, store, put}
+use Rattle.pe_order.specs.Tokens.{Tokens, store, put}
 use Rattle.pe_walk.specs.Standing.{Outset, Stage, Holds, HasRoom, IsOutset, IsStage}
 use Rattle.pe_walk.proofs.Simulation.CellsCounted.{tally_rises}
 use Rattle.pe_walk.proofs.Simulation.Leaves.{StoreLeaf, after_store, record_of, image_of, records_from, in_hand, store_first}
@@ -30,7 +29,7 @@ use Rattle.pe_walk.proofs.Simulation.Matching.{Matches, Alike, then-grouped, cor
 use Rattle.pe_walk.proofs.Simulation.Shared.{cells-image, vertices-image}
 use Rattle.pe_walk.proofs.Simulation.Silent.{store-silent}
 use Rattle.pe_walk.proofs.Simulation.Stores.OnStacks.{len-pushed}
-use Rattle.pe_walk.specs.Laws.{IsCell}
+use Rattle.pe_order.specs.Laws.{IsCell}
 use Rattle.pe_walk.proofs.Simulation.Stores.Goals.{goal_if, goal_apart}
 use Rattle.pe_walk.proofs.Simulation.Stores.InHand.{stored_by}
 use Rattle.pe_walk.proofs.Simulation.Stores.Fairness.{IsStored, found, found_lying, cells_lying, records-stored}

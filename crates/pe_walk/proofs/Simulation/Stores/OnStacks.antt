@@ -8,12 +8,12 @@ use Rattle.pe_base.specs.declared.place.Place.{Place}
 use Rattle.pe_base.specs.Tree.Places.{is_same}
 use Rattle.pe_base.proofs.Steps.VertexTouches.{is_same_itself}
 use Rattle.pe_stacks.specs.Holdings.{Holdings, Stack, new_stack, stack_count, stack_at, items_at, len_at, pushed, pushed_on}
-use Rattle.pe_walk.specs.Tokens.{Tokens, one_less, put}
-use Rattle.pe_walk.specs.Apart.{lies}
+use Rattle.pe_order.specs.Tokens.{Tokens, one_less, put}
+use Rattle.pe_order.specs.Apart.{lies}
 use Rattle.pe_walk.specs.Standing.{times}
-use Rattle.pe_walk.proofs.Tokens.Apart.{one_if}
-use Rattle.pe_walk.proofs.Tokens.Stacks.{pushed_same, pushed_other, pushed_count}
-use Rattle.pe_walk.proofs.Tokens.MoveFrames.{pushed_once}
+use Rattle.pe_order.proofs.Tokens.Apart.{one_if}
+use Rattle.pe_order.proofs.Tokens.Stacks.{pushed_same, pushed_other, pushed_count}
+use Rattle.pe_order.proofs.Tokens.MoveFrames.{pushed_once}
 
 -- what is held after a place was stored that counts, or does not
 abbrev pub held_after : Bool → Place → (Place → ℕ) → Place → ℕ

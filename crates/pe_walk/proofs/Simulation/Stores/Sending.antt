@@ -8,7 +8,7 @@ use Rattle.pe_stacks.specs.Holdings.{Holdings, stack_count, stack_at, len_at}
 use Rattle.pe_hang.specs.InHand.{map_holdings}
 use Rattle.pe_hang.specs.Moves.{push}
 use Rattle.pe_adapt.specs.Touches.{Desk, goes}
-use Rattle.pe_walk.specs.Tokens.{put}
+use Rattle.pe_order.specs.Tokens.{put}
 use Rattle.pe_walk.specs.Standing.{Foresight}
 use Rattle.pe_walk.proofs.Simulation.Shared.{give_up-image, push-image}
 use Rattle.pe_walk.proofs.Simulation.Stores.Fates.{Fate}

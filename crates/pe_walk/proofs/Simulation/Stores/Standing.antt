@@ -7,9 +7,9 @@ use Rattle.pe_base.specs.declared.tally.Tally.{Tally}
 use Rattle.pe_base.specs.Tree.Places.{corner}
 use Rattle.pe_base.specs.Walk.Touches.{tally_store}
 use Rattle.pe_base.proofs.Walk.CellCorners.{corners_apart}
-use Rattle.pe_walk.specs.Tokens.{Outlook, Tokens}
-use Rattle.pe_walk.specs.Apart.{IsApart}
-use Rattle.pe_walk.specs.Traffic.{OnlyCounting}
+use Rattle.pe_order.specs.Tokens.{Outlook, Tokens}
+use Rattle.pe_order.specs.Apart.{IsApart}
+use Rattle.pe_order.specs.Traffic.{OnlyCounting}
 use Rattle.pe_walk.specs.Standing.{Outset, Stage, Stands, Owes}
 use Rattle.pe_walk.proofs.Simulation.Leaves.{after_store}
 use Rattle.pe_walk.proofs.Simulation.Levels.{levels_differ}

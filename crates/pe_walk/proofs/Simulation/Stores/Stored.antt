@@ -10,13 +10,13 @@ use Rattle.pe_base.specs.Walk.Core.{Setting, Family, way, store_touch}
 use Rattle.pe_base.specs.Walk.Working.{Working, record_at, records_of, family_of}
 use Rattle.pe_base.specs.Walk.Touches.{tally_store, put_stored}
 use Rattle.pe_base.specs.Walk.Touches as model
-use Rattle.pe_walk.specs.Laws.{IsCell}
-use Rattle.pe_walk.specs.Tokens.{Tokens, store}
-use Rattle.pe_walk.specs.Apart.{IsApart}
-use Rattle.pe_walk.specs.Traffic.{OnlyCounting}
+use Rattle.pe_order.specs.Laws.{IsCell}
+use Rattle.pe_order.specs.Tokens.{Tokens, store}
+use Rattle.pe_order.specs.Apart.{IsApart}
+use Rattle.pe_order.specs.Traffic.{OnlyCounting}
 use Rattle.pe_walk.specs.CoreKeeps.{AreAlike, IsStoredAlike, KeepsParents}
 use Rattle.pe_walk.specs.Standing.{Outset, Stage, Stands, Owes, Holds, IsOutset, IsStage}
-use Rattle.pe_walk.proofs.Unwalked.{cell_four}
+use Rattle.pe_order.proofs.Unwalked.{cell_four}
 use Rattle.pe_walk.proofs.Simulation.CoreLaws.{core_keeps}
 use Rattle.pe_walk.proofs.Simulation.LoadedKinds.{parent_long}
 use Rattle.pe_walk.proofs.Simulation.Leaves.{after_store}

@@ -6,10 +6,10 @@ use Rattle.pe_stacks.specs.Holdings.{Holdings, stack_at, CountsWithin, RaisesCou
 use Rattle.pe_stacks.specs.Grid.{input_stack, output_stack, cell_input_stack, cell_output_stack}
 use Rattle.pe_hang.specs.InHand.{map_holdings}
 use Rattle.pe_hang.proofs.OnStacks.{stack_at-map}
-use Rattle.pe_walk.specs.Tokens.{Outlook}
-use Rattle.pe_walk.specs.Traffic.{height}
-use Rattle.pe_walk.specs.Tallies.{ExactTraffic}
-use Rattle.pe_walk.specs.CellTraffic.{CellTraffic}
+use Rattle.pe_order.specs.Tokens.{Outlook}
+use Rattle.pe_order.specs.Traffic.{height}
+use Rattle.pe_order.specs.Tallies.{ExactTraffic}
+use Rattle.pe_order.specs.CellTraffic.{CellTraffic}
 
 -- two depots have counted alike
 pub record CountAlike {X Y : Type 0} (a : Holdings X) (b : Holdings Y) : Type 0 where
@@ -52,7 +52,14 @@ within-alike a b n same counts = record {
 }
 
 pub raises-alike : {X Y : Type 0} (a a' : Holdings X) (b b' : Holdings Y) (k : ℕ) → CountAlike a b → CountAlike a' b' → RaisesCounts a a' k → RaisesCounts b b' k
-raises-alike a a' b b' k same same' rises = record { within = λ n counts. within-alike a' b' (n + k) same' (rises.within n (within-alike b a n (alike-sym same) counts)) }
+raises-alike a a' b b' k same same' rises = record {
+  fresh = omega (arith, same.fresh, same'.fresh, rises.fresh);
+  spent = omega (arith, same.spent, same'.spent, rises.spent);
+  out = omega (arith, same.out, same'.out, rises.out);
+  most = omega (arith, same.most, same.out, same'.most, rises.most);
+  pushes = λ s. omega (arith, same.pushes s, same'.pushes s, rises.pushes s);
+  pops = λ s. omega (arith, same.pops s, same'.pops s, rises.pops s);
+}
 
 pub exact-alike : {X Y V W : Type 0} (o : Outlook) (greatest : ℕ) (vertices vertices' : Holdings X) (cells cells' : Holdings Y) (seen seen' : Holdings V) (seen_cells seen_cells' : Holdings W) (tally : Tally)
     → CountAlike vertices seen → CountAlike vertices' seen' → CountAlike cells seen_cells → CountAlike cells' seen_cells'

@@ -7,12 +7,12 @@ use Rattle.pe_base.specs.Walk.Walk as model
 use Rattle.pe_walk.specs.Machine.{Machine}
 use Rattle.pe_walk.specs.Machine as machine
 use Rattle.pe_walk.specs.Gridded.{ports_of}
-use Rattle.pe_walk.specs.Laws.{IsCell}
-use Rattle.pe_walk.specs.Tallies.{IsOfKinds}
-use Rattle.pe_walk.specs.CellTraffic.{CellTraffic}
+use Rattle.pe_order.specs.Laws.{IsCell}
+use Rattle.pe_order.specs.Tallies.{IsOfKinds}
+use Rattle.pe_order.specs.CellTraffic.{CellTraffic}
 use Rattle.pe_walk.specs.FaceLaw.{CellsAreExact}
-use Rattle.pe_walk.proofs.Tokens.Traversals.{walk_of_a_cell}
-use Rattle.pe_walk.proofs.Tokens.CellTraffic.{cell_traffic}
+use Rattle.pe_order.proofs.Tokens.Traversals.{walk_of_a_cell}
+use Rattle.pe_order.proofs.Tokens.CellTraffic.{cell_traffic}
 use Rattle.pe_walk.proofs.Simulation.Leaves.{image_of}
 use Rattle.pe_walk.proofs.Simulation.Cells.Simulated.{cell_simulated}
 use Rattle.pe_walk.proofs.Simulation.Tallied.Alike.{is_seen, cell-alike}

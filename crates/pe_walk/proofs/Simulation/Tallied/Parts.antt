@@ -19,9 +19,9 @@ use Rattle.pe_base.specs.Walk.Touches as model
 use Rattle.pe_base.specs.Walk.Walk as walks
 use Rattle.pe_base.proofs.Walk.Courses.{done_same, mapped-done, then-done}
 use Rattle.pe_base.proofs.Walk.Families.{beside-put_records}
-use Rattle.pe_walk.specs.Tokens.{Tokens, touch_of, load, store}
+use Rattle.pe_order.specs.Tokens.{Tokens, touch_of, load, store}
 use Rattle.pe_walk.specs.Standing.{Outset, Stage, Holds, IsOutset, IsStage, IsFair}
-use Rattle.pe_walk.specs.Tallies.{counted_load, counted_store}
+use Rattle.pe_order.specs.Tallies.{counted_load, counted_store}
 use Rattle.pe_walk.proofs.Simulation.Matching.{both_some}
 use Rattle.pe_walk.proofs.Simulation.LoadedKinds.{found_stored, hangs_if}
 use Rattle.pe_walk.proofs.Simulation.Loads.OnStacks.{loads_place}

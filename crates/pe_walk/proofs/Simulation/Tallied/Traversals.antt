@@ -9,7 +9,7 @@ use Rattle.pe_base.specs.declared.tally.Tally.{Tally}
 use Rattle.pe_base.specs.Tree.Places.{root}
 use Rattle.pe_base.specs.Tree.Curve.{children}
 use Rattle.pe_base.specs.Acts.Effects.{VertexRecord}
-use Rattle.pe_base.specs.Walk.Course.{Ending, done, halts, stuck, Course, at_once, and_then, each}
+use Rattle.pe_base.specs.Walk.Course.{Ending, done, halts, stuck, Course, at_once, and_then, each, allowed}
 use Rattle.pe_base.specs.Walk.Core.{Setting, way}
 use Rattle.pe_base.specs.Walk.Grids.{Grid}
 use Rattle.pe_base.specs.Walk.Foreseen.{walked}
@@ -19,24 +19,23 @@ use Rattle.pe_base.specs.Walk.Streams.{walked_cells}
 use Rattle.pe_base.proofs.Walk.Courses.{mapped-done, then-done, done_same}
 use Rattle.pe_stacks.specs.Holdings.{Holdings, given_up}
 use Rattle.pe_hang.specs.InHand.{map_holdings}
-use Rattle.pe_hang.specs.Moves.{allowed}
 use Rattle.pe_walk.specs.Machine.{Machine, Ports, with_parents}
 use Rattle.pe_walk.specs.Machine as machine
-use Rattle.pe_walk.specs.Tokens.{Outlook, Tokens, ended, numbers, each_some, given_up_for}
-use Rattle.pe_walk.specs.Tokens as tokens
-use Rattle.pe_walk.specs.Outlooks.{outlook}
+use Rattle.pe_order.specs.Tokens.{Outlook, Tokens, ended, numbers, each_some, given_up_for}
+use Rattle.pe_order.specs.Tokens as tokens
+use Rattle.pe_order.specs.Outlooks.{outlook}
 use Rattle.pe_walk.specs.Standing.{Outset, IsOutset, Holds}
-use Rattle.pe_walk.specs.Tallies.{each_counted, counted_walk, foreseen_tally, ExactTraffic}
+use Rattle.pe_order.specs.Tallies.{each_counted, counted_walk, foreseen_tally, ExactTraffic}
 use Rattle.pe_walk.specs.Gridded.{MachineMayTraverse, ports_of}
-use Rattle.pe_walk.specs.FewCells.{most_cells}
+use Rattle.pe_order.specs.FewCells.{most_cells}
 use Rattle.pe_walk.specs.TraversalTraffic.{TallyIsForeseen, TraversalsAreExact}
-use Rattle.pe_walk.proofs.Trees.{root_is_cell}
-use Rattle.pe_walk.proofs.GridCells.{traffic_of_grids}
+use Rattle.pe_order.proofs.Trees.{root_is_cell}
+use Rattle.pe_order.proofs.GridCells.{traffic_of_grids}
 use Rattle.pe_stacks.proofs.Raising.{raises_at_most}
-use Rattle.pe_walk.specs.Traffic.{entered_cells}
-use Rattle.pe_walk.proofs.Tokens.Apart.{map_some}
-use Rattle.pe_walk.proofs.Tokens.Rises.{counts_of_a_traversal}
-use Rattle.pe_walk.proofs.Tokens.Traversals.{whole_traversal}
+use Rattle.pe_order.specs.Traffic.{entered_cells}
+use Rattle.pe_order.proofs.Tokens.Apart.{map_some}
+use Rattle.pe_order.proofs.Tokens.Rises.{counts_of_a_traversal}
+use Rattle.pe_order.proofs.Tokens.Traversals.{whole_traversal}
 use Rattle.pe_walk.proofs.Simulation.Matching.{ending_map}
 use Rattle.pe_walk.proofs.Simulation.Leaves.{image_of, record_of, at_root}
 use Rattle.pe_walk.proofs.Simulation.CellsCounted.{plain_leaf}
@@ -154,9 +153,9 @@ tally_is_foreseen set grid swapped m after may q =
 
 -- The depots that a machine has after a traversal are the images of the places' depots, and its tally is the one foreseen.
 record EndsAs {Plan : Type 0} (set : Setting Plan) (grid : Grid) (swapped : Bool) (places : Tokens) (after : Machine) : Type 0 where
-  seen_vertex : Place → VertexRecord
+  record_of : Place → VertexRecord
   seen_cell : Place → List ℤ
-  vertices : after.vertices ≡ map_holdings seen_vertex places.vertices
+  vertices : after.vertices ≡ map_holdings record_of places.vertices
   cells : after.cells ≡ map_holdings seen_cell places.cells
   tally : after.tally ≡ foreseen_tally set.start_level grid swapped
 
@@ -181,7 +180,7 @@ ends_as set grid swapped m after may q =
     let many : length closed.0.family.parents ≡ length (numbers o) =
     ap (λ (x : Machine). length x.family.parents) seen.2 ∙ length-map (range_with_len 0 (2 ^ set.axes)) (record_at set.axes seen.0 root) ∙ ap (λ axes. length (range_with_len 0 (2 ^ axes))) may.fits.axes in
     record {
-      seen_vertex = record_of set e seen.0 t;
+      record_of = record_of set e seen.0 t;
       seen_cell = cell_at seen.0;
       vertices = gave.vertices ∙ ap₂ given_times many (ap (λ (x : Machine). x.vertices) seen.2)
           ∙ sym (given-image (record_of set e seen.0 t) (length (numbers o)) t.vertices)

@@ -20,10 +20,10 @@ use Rattle.pe_base.specs.Walk.Streams.{if_walks, walked_children, walked_cells}
 use Rattle.pe_base.proofs.Lists.{map-reverse}
 use Rattle.pe_base.proofs.Walk.Courses.{done_same}
 use Rattle.pe_stacks.proofs.CornerSlots.{corners_range}
-use Rattle.pe_walk.specs.Tokens.{Tokens, given, each_some, touch_of}
-use Rattle.pe_walk.specs.Tokens as tokens
+use Rattle.pe_order.specs.Tokens.{Tokens, given, each_some, touch_of}
+use Rattle.pe_order.specs.Tokens as tokens
 use Rattle.pe_walk.specs.Standing.{Outset, Stage, IsStage, Holds, HasRoom, IsOutset}
-use Rattle.pe_walk.specs.Tallies.{each_counted, counted_load, counted_store, counted_around, counted_walk}
+use Rattle.pe_order.specs.Tallies.{each_counted, counted_load, counted_store, counted_around, counted_walk}
 use Rattle.pe_walk.proofs.Simulation.Leaves.{after_count, after_load, after_leave, after_store}
 use Rattle.pe_walk.proofs.Simulation.CellsCounted.{count_leaf}
 use Rattle.pe_walk.proofs.Simulation.Loads.Leaf.{load_leaf}

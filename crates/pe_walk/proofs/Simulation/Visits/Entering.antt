@@ -22,20 +22,20 @@ use Rattle.pe_base.specs.Steps.Stacks.{is_stack}
 use Rattle.pe_base.proofs.Tree.Ranks.{same_places}
 use Rattle.pe_walk.specs.Machine.{Machine, cell_comes}
 use Rattle.pe_walk.specs.Machine as machine
-use Rattle.pe_walk.specs.Tokens.{Tokens, given, taken, cell_source, is_top}
-use Rattle.pe_walk.specs.Tokens as tokens
+use Rattle.pe_order.specs.Tokens.{Tokens, given, taken, cell_source, is_top}
+use Rattle.pe_order.specs.Tokens as tokens
 use Rattle.pe_walk.specs.CoreKeeps.{AreAlike, KeepsParents}
-use Rattle.pe_walk.specs.CellsAhead.{CellsAhead}
-use Rattle.pe_walk.specs.Apart.{lies}
-use Rattle.pe_walk.specs.Outlooks.{was_stored}
+use Rattle.pe_order.specs.CellsAhead.{CellsAhead}
+use Rattle.pe_order.specs.Apart.{lies}
+use Rattle.pe_order.specs.Outlooks.{was_stored}
 use Rattle.pe_walk.specs.Standing.{Outset, Stage, per_cell, Stands, Fair, Owes, Holds, IsOutset, IsStage, times}
-use Rattle.pe_walk.proofs.Tokens.Apart.{map_some, one_if, at_most_one}
-use Rattle.pe_walk.proofs.Tokens.CellsAhead.{steps_keep_ahead}
-use Rattle.pe_walk.proofs.Tokens.MoveFrames as frames
-use Rattle.pe_walk.proofs.Tokens.CountLists.{count-cons}
-use Rattle.pe_walk.proofs.Tokens.DepotCounts.{Took, take_counts}
-use Rattle.pe_walk.proofs.Tokens.Stacks.{popped_same, popped_other}
-use Rattle.pe_walk.proofs.Tokens.Keeping.{given_some}
+use Rattle.pe_order.proofs.Tokens.Apart.{map_some, one_if, at_most_one}
+use Rattle.pe_order.proofs.Tokens.CellsAhead.{steps_keep_ahead}
+use Rattle.pe_order.proofs.Tokens.MoveFrames as frames
+use Rattle.pe_order.proofs.Tokens.CountLists.{count-cons}
+use Rattle.pe_order.proofs.Tokens.DepotCounts.{Took, take_counts}
+use Rattle.pe_order.proofs.Tokens.Stacks.{popped_same, popped_other}
+use Rattle.pe_order.proofs.Tokens.Keeping.{given_some}
 use Rattle.pe_walk.proofs.Simulation.Matching.{Alike, core-matches, mapped-done, matches-same}
 use Rattle.pe_walk.proofs.Simulation.Silent.{enter-silent}
 use Rattle.pe_walk.proofs.Simulation.CoreLaws.{core_keeps}
@@ -43,7 +43,7 @@ use Rattle.pe_walk.proofs.Simulation.Below.{cell_found}
 use Rattle.pe_walk.proofs.Simulation.Shared.{lend-image, pop-image, cells-image, owes-more}
 use Rattle.pe_walk.proofs.Simulation.Leaves.{image_of, own_in_hand, record_of, records_from, ports, after_enter, EnterLeaf}
 use Rattle.pe_walk.proofs.Simulation.Visits.Records.{Visited, visited, fair_visited, vertices_visited}
-use Rattle.pe_walk.proofs.Tokens.Bounds.{few_cell_input_stacks}
+use Rattle.pe_order.proofs.Tokens.Bounds.{few_cell_input_stacks}
 
 -- what a list has of a place that it begins with
 pub times-here : (x : Place) (xs : List Place) (y : Place) → is_same x y ≡ true → times (x ∷ xs) y ≡ 1 + times xs y

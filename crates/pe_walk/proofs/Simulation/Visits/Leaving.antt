@@ -26,17 +26,17 @@ use Rattle.pe_hang.specs.InHand.{map_holdings}
 use Rattle.pe_hang.specs.Moves.{give_up, push}
 use Rattle.pe_walk.specs.Machine.{Machine, cell_goes}
 use Rattle.pe_walk.specs.Machine as machine
-use Rattle.pe_walk.specs.Tokens.{Tokens, given, put, cell_target}
-use Rattle.pe_walk.specs.Tokens as tokens
+use Rattle.pe_order.specs.Tokens.{Tokens, given, put, cell_target}
+use Rattle.pe_order.specs.Tokens as tokens
 use Rattle.pe_walk.specs.CoreKeeps.{AreAlike, KeepsParents}
-use Rattle.pe_walk.specs.CellsAhead.{CellsAhead}
-use Rattle.pe_walk.specs.Apart.{lies}
-use Rattle.pe_walk.specs.Frames.{AfterLeave}
+use Rattle.pe_order.specs.CellsAhead.{CellsAhead}
+use Rattle.pe_order.specs.Apart.{lies}
+use Rattle.pe_order.specs.Frames.{AfterLeave}
 use Rattle.pe_walk.specs.Gridded.{ports_of}
 use Rattle.pe_walk.specs.Standing.{Outset, Stage, Stands, Fair, Owes, Holds, HasRoom, IsOutset, IsStage, times}
-use Rattle.pe_walk.proofs.Tokens.CellsAhead.{steps_keep_ahead}
-use Rattle.pe_walk.proofs.Tokens.MoveFrames as frames
-use Rattle.pe_walk.proofs.Tokens.DepotCounts.{Gave, put_counts}
+use Rattle.pe_order.proofs.Tokens.CellsAhead.{steps_keep_ahead}
+use Rattle.pe_order.proofs.Tokens.MoveFrames as frames
+use Rattle.pe_order.proofs.Tokens.DepotCounts.{Gave, put_counts}
 use Rattle.pe_walk.proofs.Simulation.Matching.{Matches, Alike, core-then-matches, mapped-done, matches-same}
 use Rattle.pe_walk.proofs.Simulation.Silent.{leave-silent}
 use Rattle.pe_walk.proofs.Simulation.CoreLaws.{core_keeps}
@@ -46,8 +46,8 @@ use Rattle.pe_walk.proofs.Simulation.Leaves.{image_of, in_hand, record_of, recor
 use Rattle.pe_walk.proofs.Simulation.Levels.{levels_differ}
 use Rattle.pe_walk.proofs.Simulation.Visits.Records.{Visited, visited, fair_visited, vertices_visited, stage_levels}
 use Rattle.pe_walk.proofs.Simulation.Visits.Entering.{times-here, times-there, all_records}
-use Rattle.pe_walk.proofs.Tokens.Bounds.{few_cell_stacks}
-use Rattle.pe_walk.proofs.Tokens.Apart.{at_most_one}
+use Rattle.pe_order.proofs.Tokens.Bounds.{few_cell_stacks}
+use Rattle.pe_order.proofs.Tokens.Apart.{at_most_one}
 
 -- the cells that are there after one was left
 abbrev left_map : Place → Kind → Map (List ℤ) → Map (List ℤ)

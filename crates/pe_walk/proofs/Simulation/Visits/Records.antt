@@ -11,15 +11,15 @@ use Rattle.pe_base.specs.Walk.Working.{Working, record_at, records_of, family_of
 use Rattle.pe_base.specs.Walk.Touches.{after_cell}
 use Rattle.pe_base.proofs.Steps.VertexTouches.{is_same_itself}
 use Rattle.pe_base.proofs.Walk.Slots.{is_hung}
-use Rattle.pe_walk.specs.Laws.{IsCell}
+use Rattle.pe_order.specs.Laws.{IsCell}
 use Rattle.pe_walk.specs.CoreKeeps.{AreAlike, KeepsParents}
-use Rattle.pe_walk.specs.Tokens.{Tokens}
+use Rattle.pe_order.specs.Tokens.{Tokens}
 use Rattle.pe_stacks.specs.Holdings.{Holdings}
 use Rattle.pe_stacks.specs.Grid.{output_stack}
 use Rattle.pe_hang.specs.InHand.{map_holdings}
-use Rattle.pe_walk.specs.Apart.{lies}
+use Rattle.pe_order.specs.Apart.{lies}
 use Rattle.pe_walk.specs.Standing.{Outset, Stage, IsStage, Holds, IsOutset, Fair, IsFair, IsWritten, IsIdle, times}
-use Rattle.pe_walk.proofs.Unwalked.{cell_four}
+use Rattle.pe_order.proofs.Unwalked.{cell_four}
 use Rattle.pe_walk.proofs.Simulation.LoadedKinds.{parent_long}
 use Rattle.pe_walk.proofs.Simulation.Levels.{records_of-put_family, own_of-put_family}
 use Rattle.pe_walk.proofs.Simulation.Shared.{PutsBack, HasPut, has_put, put_count, on_one, lies_unheld, vertices-image}

@@ -12,21 +12,22 @@ use Rattle.pe_base.specs.Walk.Touches.{kind_below}
 use Rattle.pe_stacks.specs.declared.record.CellRec.{CellRec as ACell}
 use Rattle.pe_stacks.specs.Corners.{IsFull, no_vertices}
 use Rattle.pe_stacks.proofs.Filling.{full_from}
-use Rattle.pe_mapping.specs.Held.{Adds}
-use Rattle.pe_mapping.specs.Sights.{seen_corners}
-use Rattle.pe_mapping.proofs.Texts.{adds-nothing}
-use Rattle.pe_mapping.proofs.BelowRoot.{cell_below_root}
+use Rattle.pe_base.specs.Calls.Told.{Adds}
+use Rattle.pe_stacks.specs.Sights.{corner_records}
+use Rattle.pe_base.proofs.Calls.Texts.{adds-nothing}
+use Rattle.pe_base.proofs.BelowRoot.{cell_below_root}
 use Rattle.pe_hang.specs.InHand.{family_in_hand, own_in_hand, cells_on_stacks}
-use Rattle.pe_hang.specs.Follows.{Follows, Fits, Leads, read_by, held_by}
+use Rattle.pe_base.specs.Calls.Follows.{Follows, Fits, Leads, read_by}
+use Rattle.pe_stacks.specs.RecordsOut.{held_by}
 use Rattle.pe_hang.proofs.Staying.{keeps-same, stays-full, stays-beside}
-use Rattle.pe_hang.proofs.Leading.{and_then-fits, follows-map, leads_start}
-use Rattle.pe_adapt.specs.Marked.{AreMarksOf, GiveKinds}
+use Rattle.pe_base.proofs.Calls.Leading.{and_then-fits, follows-map, leads_start}
+use Rattle.pe_adapt.specs.Ages.{AreAgesOf, GiveKinds}
 use Rattle.pe_walk.specs.InHand.{IsWalked, ports_of, failure_in}
 use Rattle.pe_walk.specs.Machine.{Machine, kind_among, enter_cell, outside, walk_cell}
 use Rattle.pe_walk.specs.Children.{IsAbove}
 use Rattle.pe_walk.specs.Visits.{walk_children, walk_below, visit_cell, with_family, hands_of, machine_of, found_in, MayWalkCells}
 use Rattle.pe_walk.proofs.Walking.{set_in, Goes, goes-set, runs-may, runs-then, runs-err, runs-as, left-then}
-use Rattle.pe_walk.proofs.Markings.{kind_among-kept, kind_among-deep, kind_below-marks, any-kind, length-seen, few-corners, marks-kept}
+use Rattle.pe_walk.proofs.AgeLaws.{kind_among-kept, kind_among-deep, kind_below-ages, any-kind, length-seen, few-corners, ages-kept}
 use Rattle.pe_walk.proofs.Children.{child-walked}
 use Rattle.pe_walk.proofs.Below.{below-hanging, below-walked, below-greatest}
 use Rattle.pe_walk.proofs.AnyCells.{load_all-any_cells, store_all-any_cells}
@@ -42,7 +43,7 @@ visit_cell-enter_cell-requires-clause-fits g t c =
     let ports = ports_of s in
     let place = c.args.cell.now.place in
     let levels = c.args.levels in
-    let its = seen_corners numbers.vertex c.args.corners.now in
+    let its = corner_records numbers.vertex c.args.corners.now in
     let old = hands_of (g.M.Mapping.held c.args.m.now) (g.DV.Depot.holds c.args.dv.now) (g.DV.Depot.room c.args.dv.now) (g.DC.Depot.holds c.args.dc.now) (g.DC.Depot.room c.args.dc.now) c.args.parents.now c.args.parent.now c.args.progress.now in
     (old.vertices, and_then-fits (enter_cell (set_in rules s old) ports place its (machine_of numbers old)) _ c.requires.may.fits)
 
@@ -54,7 +55,7 @@ visit_cell-walk_below-requires g t c κs within =
     let ports = ports_of s in
     let place = c.args.cell.now.place in
     let levels = c.args.levels in
-    let its = seen_corners numbers.vertex c.args.corners.now in
+    let its = corner_records numbers.vertex c.args.corners.now in
     let old = hands_of (g.M.Mapping.held c.args.m.now) (g.DV.Depot.holds c.args.dv.now) (g.DV.Depot.room c.args.dv.now) (g.DC.Depot.holds c.args.dc.now) (g.DC.Depot.room c.args.dc.now) c.args.parents.now c.args.parent.now c.args.progress.now in
     let mid = hands_of (g.M.Mapping.held c.enter_cell.new.m) (g.DV.Depot.holds c.args.dv.now) (g.DV.Depot.room c.args.dv.now) (g.DC.Depot.holds c.enter_cell.new.dc) (g.DC.Depot.room c.enter_cell.new.dc) c.enter_cell.new.parents c.enter_cell.new.parent c.enter_cell.new.progress in
     let enters = entering ports levels place its (machine_of numbers old) in
@@ -83,7 +84,7 @@ visit_cell-leave_cell-requires-clause-place g t c =
 pub visit_cell-leave_cell-requires-clause-kind : goal.visit_cell-leave_cell-requires-clause-kind
 visit_cell-leave_cell-requires-clause-kind g t c =
     let numbers = g.M.Mapping.numbers in
-    kind_among-kept (seen_corners numbers.vertex c.args.parents.now) (seen_corners numbers.vertex c.enter_cell.new.parents) c.in-Ok.ensures.stays.parents.marks c.args.settings.now.traversal c.args.cell.now.place ∙ c.requires.kind
+    kind_among-kept (corner_records numbers.vertex c.args.parents.now) (corner_records numbers.vertex c.enter_cell.new.parents) c.in-Ok.ensures.stays.parents.ages c.args.settings.now.traversal c.args.cell.now.place ∙ c.requires.kind
 
 pub visit_cell-leave_cell-requires-clause-fits : goal.visit_cell-leave_cell-requires-clause-fits
 visit_cell-leave_cell-requires-clause-fits g t c =
@@ -93,7 +94,7 @@ visit_cell-leave_cell-requires-clause-fits g t c =
     let ports = ports_of s in
     let place = c.args.cell.now.place in
     let levels = c.args.levels in
-    let its = seen_corners numbers.vertex c.args.corners.now in
+    let its = corner_records numbers.vertex c.args.corners.now in
     let old = hands_of (g.M.Mapping.held c.args.m.now) (g.DV.Depot.holds c.args.dv.now) (g.DV.Depot.room c.args.dv.now) (g.DC.Depot.holds c.args.dc.now) (g.DC.Depot.room c.args.dc.now) c.args.parents.now c.args.parent.now c.args.progress.now in
     let mid = hands_of (g.M.Mapping.held c.enter_cell.new.m) (g.DV.Depot.holds c.args.dv.now) (g.DV.Depot.room c.args.dv.now) (g.DC.Depot.holds c.enter_cell.new.dc) (g.DC.Depot.room c.enter_cell.new.dc) c.enter_cell.new.parents c.enter_cell.new.parent c.enter_cell.new.progress in
     let low = hands_of (g.M.Mapping.held c.walk_below.new.m) (g.DV.Depot.holds c.walk_below.new.dv) (g.DV.Depot.room c.walk_below.new.dv) (g.DC.Depot.holds c.walk_below.new.dc) (g.DC.Depot.room c.walk_below.new.dc) c.enter_cell.new.parents c.enter_cell.new.parent c.walk_below.new.progress in
@@ -117,7 +118,7 @@ visit_cell-returns-in-Ok-walk_below-clause-follows g t c =
     let ports = ports_of s in
     let place = c.args.cell.now.place in
     let levels = c.args.levels in
-    let its = seen_corners numbers.vertex c.args.corners.now in
+    let its = corner_records numbers.vertex c.args.corners.now in
     let old = hands_of (g.M.Mapping.held c.args.m.now) (g.DV.Depot.holds c.args.dv.now) (g.DV.Depot.room c.args.dv.now) (g.DC.Depot.holds c.args.dc.now) (g.DC.Depot.room c.args.dc.now) c.args.parents.now c.args.parent.now c.args.progress.now in
     let mid = hands_of (g.M.Mapping.held c.enter_cell.new.m) (g.DV.Depot.holds c.args.dv.now) (g.DV.Depot.room c.args.dv.now) (g.DC.Depot.holds c.enter_cell.new.dc) (g.DC.Depot.room c.enter_cell.new.dc) c.enter_cell.new.parents c.enter_cell.new.parent c.enter_cell.new.progress in
     let low = hands_of (g.M.Mapping.held c.walk_below.new.m) (g.DV.Depot.holds c.walk_below.new.dv) (g.DV.Depot.room c.walk_below.new.dv) (g.DC.Depot.holds c.walk_below.new.dc) (g.DC.Depot.room c.walk_below.new.dc) c.enter_cell.new.parents c.enter_cell.new.parent c.walk_below.new.progress in
@@ -132,7 +133,7 @@ visit_cell-returns-in-Ok-walk_below-clause-follows g t c =
     let left = λ (u : Unit {0}). (let it : Own × Machine = (own_in_hand numbers c.walk_below.new.own c.walk_below.new.corners, machine_of numbers low) in it) in
     let goes_low : Goes rules s mid low = record { keeps = c.in-Ok-walk_below.ensures.left.stays.keeps; vertices = c.in-Ok-walk_below.ensures.left.vertices.keeps; cells = c.in-Ok-walk_below.ensures.left.cells.keeps } in
     let in_below = c.in-Ok-walk_below.ensures.follows outer in
-    let after = λ (u : Unit {0}). (let it : List VertexRecord × Machine = (seen_corners numbers.vertex c.leave_cell.new.corners, machine_of numbers new) in it) in
+    let after = λ (u : Unit {0}). (let it : List VertexRecord × Machine = (corner_records numbers.vertex c.leave_cell.new.corners, machine_of numbers new) in it) in
     let answer = read_by (failure_in c.leave_cell.new.progress) c.leave_cell.result in
     runs-then rules s enters (after_enter ports levels place) entered c.in-Ok.entered after answer old mid new in_enter goes
     (runs-then rules s lowers (leaving ports levels place) left tt after answer mid low new in_below goes_low
@@ -146,7 +147,7 @@ visit_cell-returns-in-Err-walk_below-clause-follows g t c =
     let ports = ports_of s in
     let place = c.args.cell.now.place in
     let levels = c.args.levels in
-    let its = seen_corners numbers.vertex c.args.corners.now in
+    let its = corner_records numbers.vertex c.args.corners.now in
     let old = hands_of (g.M.Mapping.held c.args.m.now) (g.DV.Depot.holds c.args.dv.now) (g.DV.Depot.room c.args.dv.now) (g.DC.Depot.holds c.args.dc.now) (g.DC.Depot.room c.args.dc.now) c.args.parents.now c.args.parent.now c.args.progress.now in
     let mid = hands_of (g.M.Mapping.held c.enter_cell.new.m) (g.DV.Depot.holds c.args.dv.now) (g.DV.Depot.room c.args.dv.now) (g.DC.Depot.holds c.enter_cell.new.dc) (g.DC.Depot.room c.enter_cell.new.dc) c.enter_cell.new.parents c.enter_cell.new.parent c.enter_cell.new.progress in
     let new = hands_of (g.M.Mapping.held c.walk_below.new.m) (g.DV.Depot.holds c.walk_below.new.dv) (g.DV.Depot.room c.walk_below.new.dv) (g.DC.Depot.holds c.give_up.new.self) (g.DC.Depot.room c.give_up.new.self) c.enter_cell.new.parents c.enter_cell.new.parent c.walk_below.new.progress in
@@ -158,7 +159,7 @@ visit_cell-returns-in-Err-walk_below-clause-follows g t c =
     let outer = family_in_hand numbers c.enter_cell.new.parents c.enter_cell.new.parent mid.held.list in
     let lowers = below ports levels place (entered c.in-Ok.entered) in
     let left = λ (u : Unit {0}). (let it : Own × Machine = (own_in_hand numbers c.walk_below.new.own c.walk_below.new.corners, machine_of numbers new) in it) in
-    let after = λ (u : Unit {0}). (let it : List VertexRecord × Machine = (seen_corners numbers.vertex c.walk_below.new.corners, machine_of numbers new) in it) in
+    let after = λ (u : Unit {0}). (let it : List VertexRecord × Machine = (corner_records numbers.vertex c.walk_below.new.corners, machine_of numbers new) in it) in
     let failure = failure_in c.walk_below.new.progress c.in-Err-walk_below.halt in
     runs-then rules s enters (after_enter ports levels place) entered c.in-Ok.entered after (Err failure) old mid new in_enter goes
     (runs-err rules s lowers (leaving ports levels place) left after failure mid new (c.in-Err-walk_below.ensures.follows outer))
@@ -171,12 +172,12 @@ visit_cell-returns-in-Err-clause-follows g t c =
     let ports = ports_of s in
     let place = c.args.cell.now.place in
     let levels = c.args.levels in
-    let its = seen_corners numbers.vertex c.args.corners.now in
+    let its = corner_records numbers.vertex c.args.corners.now in
     let old = hands_of (g.M.Mapping.held c.args.m.now) (g.DV.Depot.holds c.args.dv.now) (g.DV.Depot.room c.args.dv.now) (g.DC.Depot.holds c.args.dc.now) (g.DC.Depot.room c.args.dc.now) c.args.parents.now c.args.parent.now c.args.progress.now in
     let mid = hands_of (g.M.Mapping.held c.enter_cell.new.m) (g.DV.Depot.holds c.args.dv.now) (g.DV.Depot.room c.args.dv.now) (g.DC.Depot.holds c.enter_cell.new.dc) (g.DC.Depot.room c.enter_cell.new.dc) c.enter_cell.new.parents c.enter_cell.new.parent c.enter_cell.new.progress in
     let enters = entering ports levels place its (machine_of numbers old) in
     let entered = λ (own : ACell g.row.M-C.Denot). (let it : Own × Machine = (own_in_hand numbers own c.enter_cell.new.corners, machine_of numbers mid) in it) in
-    let after = λ (u : Unit {0}). (let it : List VertexRecord × Machine = (seen_corners numbers.vertex c.enter_cell.new.corners, machine_of numbers mid) in it) in
+    let after = λ (u : Unit {0}). (let it : List VertexRecord × Machine = (corner_records numbers.vertex c.enter_cell.new.corners, machine_of numbers mid) in it) in
     runs-err rules s enters (after_enter ports levels place) entered after (failure_in c.enter_cell.new.progress c.in-Err.halt) old mid (c.in-Err.ensures.follows old.vertices (held_by old.vertices old.room))
 
 pub walk_below-returns-then-levels-eq0-clause-follows : goal.walk_below-returns-then-levels-eq0-clause-follows
@@ -208,18 +209,18 @@ walk_below-walk_children-requires g t c κs within =
     let levels = c.args.levels in
     let old = hands_of (g.M.Mapping.held c.args.m.now) (g.DV.Depot.holds c.args.dv.now) (g.DV.Depot.room c.args.dv.now) (g.DC.Depot.holds c.args.dc.now) (g.DC.Depot.room c.args.dc.now) c.args.corners.now c.args.own.now c.args.progress.now in
     let it = λ (outer : Family). (let own : Own × Machine = (own_in_hand numbers c.args.own.now c.args.corners.now, with_family outer (machine_of numbers old)) in own) in
-    let marked : AreMarksOf old.held.dim (seen_corners numbers.vertex c.args.corners.now) c.marks_of-marks.result =
-    subst (λ d. AreMarksOf d (seen_corners numbers.vertex c.args.corners.now) c.marks_of-marks.result) (sym c.requires.may.1.dim) (c.marks_of-marks.ensures numbers.vertex) in
-    let is_kind : kind_below (seen_corners numbers.vertex c.args.corners.now) ≡ c.kind_of-kind.result =
-    sym (kind_below-marks old.held.dim (seen_corners numbers.vertex c.args.corners.now) c.marks_of-marks.result marked (length-seen numbers.vertex old.held.dim c.args.corners.now c.requires.may.1.full) (few-corners old.held.dim c.requires.walked.state.grid))
+    let aged : AreAgesOf old.held.dim (corner_records numbers.vertex c.args.corners.now) c.ages_of-ages.result =
+    subst (λ d. AreAgesOf d (corner_records numbers.vertex c.args.corners.now) c.ages_of-ages.result) (sym c.requires.may.1.dim) (c.ages_of-ages.ensures numbers.vertex) in
+    let is_kind : kind_below (corner_records numbers.vertex c.args.corners.now) ≡ c.kind_of-kind.result =
+    sym (kind_below-ages old.held.dim (corner_records numbers.vertex c.args.corners.now) c.ages_of-ages.result aged (length-seen numbers.vertex old.held.dim c.args.corners.now c.requires.may.1.full) (few-corners old.held.dim c.requires.walked.state.grid))
     ∙ sym (c.kind_of-kind.ensures ∙ any-kind c.any-old.result c.any-old.ensures) in
     let walked = below-walked (set_in rules s old) ports levels place (it c.requires.may.0) (λ hangs. c.in_default.not-Hanging (sym is_kind ∙ hangs)) in
     let set = set_in rules s old in
     let few : 0 < levels = omega (arith, c.if-levels-eq0.false) in
-    let above : IsAbove old.held.dim s (record { place = place; state = c.args.cell.now.state; marks = c.marks_of-marks.result }) =
+    let above : IsAbove old.held.dim s (record { place = place; state = c.args.cell.now.state; ages = c.ages_of-ages.result }) =
     record { place = c.requires.walked.place; level = omega (arith, c.requires.may.1.levels, few); state = c.requires.walked.state } in
-    let kind : (cell : Place) → cell.level ≡ place.level + 1 → kind_among s.traversal cell (seen_corners numbers.vertex c.args.corners.now) ≡ c.kind_of-kind.result =
-    λ cell level. kind_among-deep s.traversal cell (seen_corners numbers.vertex c.args.corners.now) (omega (arith, level, c.requires.walked.deep)) ∙ is_kind in
+    let kind : (cell : Place) → cell.level ≡ place.level + 1 → kind_among s.traversal cell (corner_records numbers.vertex c.args.corners.now) ≡ c.kind_of-kind.result =
+    λ cell level. kind_among-deep s.traversal cell (corner_records numbers.vertex c.args.corners.now) (omega (arith, level, c.requires.walked.deep)) ∙ is_kind in
     let may : MayWalkCells rules numbers s place.level levels (λ set. walk_children set ports levels place) old =
     record {
       dim = c.requires.may.1.dim;
@@ -228,7 +229,7 @@ walk_below-walk_children-requires g t c κs within =
       few = c.requires.may.1.few;
       fits = and_then-fits (walk_children set ports levels place (machine_of numbers old)) _ (subst Fits walked c.requires.may.1.fits);
     } in
-    (search the_rules, (search the_rules, (within.0, (within.1.0, (within.1.1.0, (within.1.1.1.0, (within.1.1.1.1.0, (within.1.1.1.1.1, (c.requires.axes, (may, (above, (few, (marked, kind)))))))))))))
+    (search the_rules, (search the_rules, (within.0, (within.1.0, (within.1.1.0, (within.1.1.1.0, (within.1.1.1.1.0, (within.1.1.1.1.1, (c.requires.axes, (may, (above, (few, (aged, kind)))))))))))))
 
 pub walk_below-returns-in-Hanging-clause-follows : goal.walk_below-returns-in-Hanging-clause-follows
 walk_below-returns-in-Hanging-clause-follows g t c =
@@ -241,10 +242,10 @@ walk_below-returns-in-Hanging-clause-follows g t c =
     let levels = c.args.levels in
     let old = hands_of (g.M.Mapping.held c.args.m.now) (g.DV.Depot.holds c.args.dv.now) (g.DV.Depot.room c.args.dv.now) (g.DC.Depot.holds c.args.dc.now) (g.DC.Depot.room c.args.dc.now) c.args.corners.now c.args.own.now c.args.progress.now in
     let it = λ (outer : Family). (let own : Own × Machine = (own_in_hand numbers c.args.own.now c.args.corners.now, with_family outer (machine_of numbers old)) in own) in
-    let marked : AreMarksOf old.held.dim (seen_corners numbers.vertex c.args.corners.now) c.marks_of-marks.result =
-    subst (λ d. AreMarksOf d (seen_corners numbers.vertex c.args.corners.now) c.marks_of-marks.result) (sym c.requires.may.1.dim) (c.marks_of-marks.ensures numbers.vertex) in
-    let is_kind : kind_below (seen_corners numbers.vertex c.args.corners.now) ≡ c.kind_of-kind.result =
-    sym (kind_below-marks old.held.dim (seen_corners numbers.vertex c.args.corners.now) c.marks_of-marks.result marked (length-seen numbers.vertex old.held.dim c.args.corners.now c.requires.may.1.full) (few-corners old.held.dim c.requires.walked.state.grid))
+    let aged : AreAgesOf old.held.dim (corner_records numbers.vertex c.args.corners.now) c.ages_of-ages.result =
+    subst (λ d. AreAgesOf d (corner_records numbers.vertex c.args.corners.now) c.ages_of-ages.result) (sym c.requires.may.1.dim) (c.ages_of-ages.ensures numbers.vertex) in
+    let is_kind : kind_below (corner_records numbers.vertex c.args.corners.now) ≡ c.kind_of-kind.result =
+    sym (kind_below-ages old.held.dim (corner_records numbers.vertex c.args.corners.now) c.ages_of-ages.result aged (length-seen numbers.vertex old.held.dim c.args.corners.now c.requires.may.1.full) (few-corners old.held.dim c.requires.walked.state.grid))
     ∙ sym (c.kind_of-kind.ensures ∙ any-kind c.any-old.result c.any-old.ensures) in
     let set = set_in rules s old in
     let hangs = is_kind ∙ c.in-Hanging.is in
@@ -266,10 +267,10 @@ walk_below-returns-in_default-clause-follows g t c =
     let old = hands_of (g.M.Mapping.held c.args.m.now) (g.DV.Depot.holds c.args.dv.now) (g.DV.Depot.room c.args.dv.now) (g.DC.Depot.holds c.args.dc.now) (g.DC.Depot.room c.args.dc.now) c.args.corners.now c.args.own.now c.args.progress.now in
     let new = hands_of (g.M.Mapping.held c.walk_children.new.m) (g.DV.Depot.holds c.walk_children.new.dv) (g.DV.Depot.room c.walk_children.new.dv) (g.DC.Depot.holds c.walk_children.new.dc) (g.DC.Depot.room c.walk_children.new.dc) c.walk_children.new.parents c.walk_children.new.parent c.walk_children.new.progress in
     let it = λ (outer : Family). (let own : Own × Machine = (own_in_hand numbers c.args.own.now c.args.corners.now, with_family outer (machine_of numbers old)) in own) in
-    let marked : AreMarksOf old.held.dim (seen_corners numbers.vertex c.args.corners.now) c.marks_of-marks.result =
-    subst (λ d. AreMarksOf d (seen_corners numbers.vertex c.args.corners.now) c.marks_of-marks.result) (sym c.requires.may.1.dim) (c.marks_of-marks.ensures numbers.vertex) in
-    let is_kind : kind_below (seen_corners numbers.vertex c.args.corners.now) ≡ c.kind_of-kind.result =
-    sym (kind_below-marks old.held.dim (seen_corners numbers.vertex c.args.corners.now) c.marks_of-marks.result marked (length-seen numbers.vertex old.held.dim c.args.corners.now c.requires.may.1.full) (few-corners old.held.dim c.requires.walked.state.grid))
+    let aged : AreAgesOf old.held.dim (corner_records numbers.vertex c.args.corners.now) c.ages_of-ages.result =
+    subst (λ d. AreAgesOf d (corner_records numbers.vertex c.args.corners.now) c.ages_of-ages.result) (sym c.requires.may.1.dim) (c.ages_of-ages.ensures numbers.vertex) in
+    let is_kind : kind_below (corner_records numbers.vertex c.args.corners.now) ≡ c.kind_of-kind.result =
+    sym (kind_below-ages old.held.dim (corner_records numbers.vertex c.args.corners.now) c.ages_of-ages.result aged (length-seen numbers.vertex old.held.dim c.args.corners.now c.requires.may.1.full) (few-corners old.held.dim c.requires.walked.state.grid))
     ∙ sym (c.kind_of-kind.ensures ∙ any-kind c.any-old.result c.any-old.ensures) in
     let set = set_in rules s old in
     let walked = below-walked set ports levels place (it outer) (λ hangs. c.in_default.not-Hanging (sym is_kind ∙ hangs)) in
@@ -320,7 +321,7 @@ walk_cell-returns-in-Err-load_corners-clause-follows g t c =
     let goes_count : Goes rules s old counted = record { keeps = keeps-same old.held; vertices = λ n. omega arith; cells = λ n. omega arith } in
     let fits = runs-may rules s counts (after_count ports levels place) to_count tt old counted c.requires.may.fits in_count goes_count in
     let loads = loading ports levels place (machine_of numbers counted) in
-    let to_load = λ (u : Unit {0}). (let it : List VertexRecord × Machine = (seen_corners numbers.vertex c.load_corners.new.corners, machine_of numbers loaded) in it) in
+    let to_load = λ (u : Unit {0}). (let it : List VertexRecord × Machine = (corner_records numbers.vertex c.load_corners.new.corners, machine_of numbers loaded) in it) in
     let after = λ (u : Unit {0}). machine_of numbers loaded in
     let failure = failure_in c.load_corners.new.progress c.in-Err-load_corners.halt in
     runs-then rules s counts (after_count ports levels place) to_count tt after (Err failure) old counted loaded in_count goes_count
@@ -345,7 +346,7 @@ walk_cell-visit_cell-requires g t c κs within =
     let goes_count : Goes rules s old counted = record { keeps = keeps-same old.held; vertices = λ n. omega arith; cells = λ n. omega arith } in
     let fits = runs-may rules s counts (after_count ports levels place) to_count tt old counted c.requires.may.fits in_count goes_count in
     let loads = loading ports levels place (machine_of numbers counted) in
-    let its = seen_corners numbers.vertex c.load_corners.new.corners in
+    let its = corner_records numbers.vertex c.load_corners.new.corners in
     let to_load = λ (u : Unit {0}). (let it : List VertexRecord × Machine = (its, machine_of numbers loaded) in it) in
     let in_load = c.in-Ok-load_corners.ensures.follows cells (held_by old.cells old.cell_room) in
     let goes_load : Goes rules s counted loaded = record { keeps = c.in-Ok-load_corners.ensures.stays.keeps; vertices = c.in-Ok-load_corners.ensures.left.keeps; cells = λ n. omega arith } in
@@ -355,7 +356,7 @@ walk_cell-visit_cell-requires g t c κs within =
     let visits = visiting ports levels place it in
     let dim = c.in-Ok-load_corners.ensures.stays.keeps.dim in
     let walked : IsWalked loaded.held.dim s c.args.cell.now = subst (λ d. IsWalked d s c.args.cell.now) (sym dim) c.requires.walked in
-    let kind = kind_among-kept (seen_corners numbers.vertex c.args.parents.now) (seen_corners numbers.vertex c.load_corners.new.parents) c.in-Ok-load_corners.ensures.stays.parents.marks s.traversal place ∙ c.requires.kind in
+    let kind = kind_among-kept (corner_records numbers.vertex c.args.parents.now) (corner_records numbers.vertex c.load_corners.new.parents) c.in-Ok-load_corners.ensures.stays.parents.ages s.traversal place ∙ c.requires.kind in
     let own : IsFull loaded.held.dim c.load_corners.new.corners = subst (λ d. IsFull d c.load_corners.new.corners) (sym dim) c.in-Ok-load_corners.ensures.loaded in
     let few : c.load_corners.new.progress.tally.cells ≤ s.setup.max_cells = omega (arith, c.in-Ok-load_corners.ensures.counted, c.in-Ok.ensures.within) in
     let may : MayWalkCells rules numbers s place.level levels (λ set. visit_cell set ports levels place its) loaded =
@@ -389,7 +390,7 @@ walk_cell-store_corners-requires-clause-fits g t c =
     let goes_count : Goes rules s old counted = record { keeps = keeps-same old.held; vertices = λ n. omega arith; cells = λ n. omega arith } in
     let fits = runs-may rules s counts (after_count ports levels place) to_count tt old counted c.requires.may.fits in_count goes_count in
     let loads = loading ports levels place (machine_of numbers counted) in
-    let its = seen_corners numbers.vertex c.load_corners.new.corners in
+    let its = corner_records numbers.vertex c.load_corners.new.corners in
     let to_load = λ (u : Unit {0}). (let it : List VertexRecord × Machine = (its, machine_of numbers loaded) in it) in
     let in_load = c.in-Ok-load_corners.ensures.follows cells (held_by old.cells old.cell_room) in
     let goes_load : Goes rules s counted loaded = record { keeps = c.in-Ok-load_corners.ensures.stays.keeps; vertices = c.in-Ok-load_corners.ensures.left.keeps; cells = λ n. omega arith } in
@@ -397,10 +398,10 @@ walk_cell-store_corners-requires-clause-fits g t c =
     let it = to_load tt in
     let fits_visit = subst Fits (sym (visit-grouped ports levels place (set_in rules s loaded) it)) fits_load in
     let visits = visiting ports levels place it in
-    let to_visit = λ (u : Unit {0}). (let it : List VertexRecord × Machine = (seen_corners numbers.vertex c.visit_cell.new.corners, machine_of numbers visited) in it) in
+    let to_visit = λ (u : Unit {0}). (let it : List VertexRecord × Machine = (corner_records numbers.vertex c.visit_cell.new.corners, machine_of numbers visited) in it) in
     let in_visit = c.in-Ok-visit_cell.ensures.follows in
     let goes_visit : Goes rules s loaded visited = record { keeps = c.in-Ok-visit_cell.ensures.left.stays.keeps; vertices = c.in-Ok-visit_cell.ensures.left.vertices.keeps; cells = c.in-Ok-visit_cell.ensures.left.cells.keeps } in
-    store_all-any_cells (set_in rules s visited) ports place cells' 0 (seen_corners numbers.vertex c.visit_cell.new.corners) (machine_of numbers visited)
+    store_all-any_cells (set_in rules s visited) ports place cells' 0 (corner_records numbers.vertex c.visit_cell.new.corners) (machine_of numbers visited)
     (runs-may rules s visits (storing ports levels place) to_visit tt loaded visited fits_visit in_visit goes_visit)
 
 pub walk_cell-returns-in-Ok-visit_cell-clause-follows : goal.walk_cell-returns-in-Ok-visit_cell-clause-follows
@@ -424,7 +425,7 @@ walk_cell-returns-in-Ok-visit_cell-clause-follows g t c =
     let goes_count : Goes rules s old counted = record { keeps = keeps-same old.held; vertices = λ n. omega arith; cells = λ n. omega arith } in
     let fits = runs-may rules s counts (after_count ports levels place) to_count tt old counted c.requires.may.fits in_count goes_count in
     let loads = loading ports levels place (machine_of numbers counted) in
-    let its = seen_corners numbers.vertex c.load_corners.new.corners in
+    let its = corner_records numbers.vertex c.load_corners.new.corners in
     let to_load = λ (u : Unit {0}). (let it : List VertexRecord × Machine = (its, machine_of numbers loaded) in it) in
     let in_load = c.in-Ok-load_corners.ensures.follows cells (held_by old.cells old.cell_room) in
     let goes_load : Goes rules s counted loaded = record { keeps = c.in-Ok-load_corners.ensures.stays.keeps; vertices = c.in-Ok-load_corners.ensures.left.keeps; cells = λ n. omega arith } in
@@ -432,7 +433,7 @@ walk_cell-returns-in-Ok-visit_cell-clause-follows g t c =
     let it = to_load tt in
     let fits_visit = subst Fits (sym (visit-grouped ports levels place (set_in rules s loaded) it)) fits_load in
     let visits = visiting ports levels place it in
-    let to_visit = λ (u : Unit {0}). (let it : List VertexRecord × Machine = (seen_corners numbers.vertex c.visit_cell.new.corners, machine_of numbers visited) in it) in
+    let to_visit = λ (u : Unit {0}). (let it : List VertexRecord × Machine = (corner_records numbers.vertex c.visit_cell.new.corners, machine_of numbers visited) in it) in
     let in_visit = c.in-Ok-visit_cell.ensures.follows in
     let goes_visit : Goes rules s loaded visited = record { keeps = c.in-Ok-visit_cell.ensures.left.stays.keeps; vertices = c.in-Ok-visit_cell.ensures.left.vertices.keeps; cells = c.in-Ok-visit_cell.ensures.left.cells.keeps } in
     let after = λ (u : Unit {0}). machine_of numbers new in
@@ -463,7 +464,7 @@ walk_cell-returns-in-Err-visit_cell-clause-follows g t c =
     let goes_count : Goes rules s old counted = record { keeps = keeps-same old.held; vertices = λ n. omega arith; cells = λ n. omega arith } in
     let fits = runs-may rules s counts (after_count ports levels place) to_count tt old counted c.requires.may.fits in_count goes_count in
     let loads = loading ports levels place (machine_of numbers counted) in
-    let its = seen_corners numbers.vertex c.load_corners.new.corners in
+    let its = corner_records numbers.vertex c.load_corners.new.corners in
     let to_load = λ (u : Unit {0}). (let it : List VertexRecord × Machine = (its, machine_of numbers loaded) in it) in
     let in_load = c.in-Ok-load_corners.ensures.follows cells (held_by old.cells old.cell_room) in
     let goes_load : Goes rules s counted loaded = record { keeps = c.in-Ok-load_corners.ensures.stays.keeps; vertices = c.in-Ok-load_corners.ensures.left.keeps; cells = λ n. omega arith } in
@@ -471,7 +472,7 @@ walk_cell-returns-in-Err-visit_cell-clause-follows g t c =
     let it = to_load tt in
     let fits_visit = subst Fits (sym (visit-grouped ports levels place (set_in rules s loaded) it)) fits_load in
     let visits = visiting ports levels place it in
-    let to_visit = λ (u : Unit {0}). (let it : List VertexRecord × Machine = (seen_corners numbers.vertex c.visit_cell.new.corners, machine_of numbers new) in it) in
+    let to_visit = λ (u : Unit {0}). (let it : List VertexRecord × Machine = (corner_records numbers.vertex c.visit_cell.new.corners, machine_of numbers new) in it) in
     let after = λ (u : Unit {0}). machine_of numbers new in
     let failure = failure_in c.visit_cell.new.progress c.in-Err-visit_cell.halt in
     runs-then rules s counts (after_count ports levels place) to_count tt after (Err failure) old counted new in_count goes_count
@@ -530,15 +531,15 @@ walk_children-walk_cell-requires g t c κs within =
     let there : c.move_to.new.child.cell.place ≡ child_at place c.in-Some.digits = child.place ∙ ap (child_at place) c.move_to.ensures.digits in
     let same = child-walk ports set (set_in rules s now) levels (child_at place c.in-Some.digits) c.move_to.new.child.cell.place (machine_of numbers now) (goes-set rules s old now goes) c.requires.some there in
     let dim : now.held.dim ≡ axes = is.left.stays.keeps.dim ∙ c.requires.may.dim in
-    let marked : AreMarksOf axes (seen_corners numbers.vertex c.loop-digits.parents) above.marks =
-    subst (λ d. AreMarksOf d (seen_corners numbers.vertex c.loop-digits.parents) above.marks) c.requires.may.dim (marks-kept (seen_corners numbers.vertex c.args.parents.now) (seen_corners numbers.vertex c.loop-digits.parents) is.left.stays.parents.marks old.held.dim above.marks c.requires.marked) in
+    let aged : AreAgesOf axes (corner_records numbers.vertex c.loop-digits.parents) above.ages =
+    subst (λ d. AreAgesOf d (corner_records numbers.vertex c.loop-digits.parents) above.ages) c.requires.may.dim (ages-kept (corner_records numbers.vertex c.args.parents.now) (corner_records numbers.vertex c.loop-digits.parents) is.left.stays.parents.ages old.held.dim above.ages c.requires.aged) in
     let level : c.move_to.new.child.cell.place.level ≡ place.level + 1 = ap (λ (p : Place). p.level) there in
     let walked : IsWalked axes s c.move_to.new.child.cell = child-walked axes s above c.move_to.new.child (subst (λ d. IsAbove d s above) c.requires.may.dim c.requires.above) child in
-    let kinds = child.kinds (seen_corners numbers.vertex c.loop-digits.parents) marked in
-    let kind = kind_among-kept (seen_corners numbers.vertex c.args.parents.now) (seen_corners numbers.vertex c.loop-digits.parents) is.left.stays.parents.marks s.traversal c.move_to.new.child.cell.place ∙ c.requires.kind c.move_to.new.child.cell.place level in
+    let kinds = child.kinds (corner_records numbers.vertex c.loop-digits.parents) aged in
+    let kind = kind_among-kept (corner_records numbers.vertex c.args.parents.now) (corner_records numbers.vertex c.loop-digits.parents) is.left.stays.parents.ages s.traversal c.move_to.new.child.cell.place ∙ c.requires.kind c.move_to.new.child.cell.place level in
     let may = child-may ports set levels place whole (found_in old) (found_in now) c.loop-digits.digits-iterator (machine_of numbers now) c.in-Some.digits c.next.new.self c.in-Some.ensures.steps is.leads c.requires.may.fits in
     let walked' = subst (λ d. IsWalked d s c.move_to.new.child.cell) (sym dim) walked in
-    let kinds' = subst (λ d. GiveKinds d s.traversal c.move_to.new.child.cell.place (seen_corners numbers.vertex c.loop-digits.parents) c.move_to.new.child.cell.marks) (sym dim) kinds in
+    let kinds' = subst (λ d. GiveKinds d s.traversal c.move_to.new.child.cell.place (corner_records numbers.vertex c.loop-digits.parents) c.move_to.new.child.cell.ages) (sym dim) kinds in
     let ready : MayWalkCells rules numbers s c.move_to.new.child.cell.place.level (levels - 1) (λ set. walk_cell set ports (suc (levels - 1)) c.move_to.new.child.cell.place) now =
     record {
       dim = dim;

@@ -1,14 +1,14 @@
 use Rattle.std.proofs.Common.{ℕ, sym, subst, ◌∙◌}
 use Rattle.pe_base.specs.Tree.Places.{IsDigits}
-use Rattle.pe_adapt.specs.Marked.{GiveKinds}
+use Rattle.pe_adapt.specs.Ages.{GiveKinds}
 use Rattle.pe_walk.specs.Children.{AreInOneRow}
 use Rattle.pe_walk.proofs.Children.{row-same, turns-same}
 use Rattle.pe_walk.proofs.child.step_to.Goals as goal
 
-pub child_marks-child-requires-clause-row : goal.child_marks-child-requires-clause-row
-child_marks-child-requires-clause-row g c =
+pub child_ages-child-requires-clause-row : goal.child_ages-child-requires-clause-row
+child_ages-child-requires-clause-row g c =
     let child = c.args.child.now in
-    row-same c.args.settings.now.setup.dim c.args.above.now.marks child.row_marks child.digits c.args.digits c.requires.child.digits c.requires.digits c.requires.row c.requires.child.row_marks
+    row-same c.args.settings.now.setup.dim c.args.above.now.ages child.row_ages child.digits c.args.digits c.requires.child.digits c.requires.digits c.requires.row c.requires.child.row_ages
 
 pub step-requires-clause-turns : goal.step-requires-clause-turns
 step-requires-clause-turns g c =
@@ -30,8 +30,8 @@ returns-clause-child g c =
       place = there;
       state = c.step.ensures.stands axes s.way above.place child.digits c.requires.above.place is.digits c.requires.above.state is.state c.requires.row;
       row = c.step.ensures.row (is.state.same_axes ∙ sym c.requires.above.state.same_axes) is.row;
-      row_marks = row-same axes above.marks child.row_marks child.digits c.args.digits is.digits c.requires.digits c.requires.row is.row_marks;
+      row_ages = row-same axes above.ages child.row_ages child.digits c.args.digits is.digits c.requires.digits c.requires.row is.row_ages;
       turns = is.turns ∙ turns-same axes above.state child.digits c.args.digits c.requires.above.state.same_axes is.digits c.requires.digits c.requires.row;
       few = is.few;
-      kinds = λ its are. subst (λ p. GiveKinds axes s.traversal p its c.child_marks-child.result) (sym there) (c.child_marks-child.ensures its are);
+      kinds = λ its are. subst (λ p. GiveKinds axes s.traversal p its c.child_ages-child.result) (sym there) (c.child_ages-child.ensures its are);
     }

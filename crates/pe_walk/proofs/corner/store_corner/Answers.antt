@@ -3,9 +3,9 @@ use Rattle.std.specs.Prelude.{◌%◌, is_none, IsSomeAnd}
 use Rattle.pe_base.specs.Tree.Places.{corner}
 use Rattle.pe_base.specs.Steps.Routes.{stack_out}
 use Rattle.pe_base.specs.Walk.Core.{way}
-use Rattle.pe_mapping.specs.Sights.{seen_vertex}
+use Rattle.pe_stacks.specs.Sights.{record_of}
 use Rattle.pe_hang.specs.InHand.{family_in_hand}
-use Rattle.pe_hang.specs.Follows.{Follows, Fits, read_by}
+use Rattle.pe_base.specs.Calls.Follows.{Follows, Fits, read_by}
 use Rattle.pe_adapt.specs.Slots.{seen_slot}
 use Rattle.pe_adapt.specs.Spots.{desk_in_hand}
 use Rattle.pe_adapt.specs.Touches.{store_as}
@@ -61,7 +61,7 @@ put_down-requires g c =
     let out = output (ports_of settings) in
     let family = family_in_hand numbers c.args.parents.now c.args.parent.now held.list in
     let desk = desk_in_hand numbers holds c.args.parents.now c.args.parent.now held.list in
-    let f = seen_vertex numbers.vertex in
+    let f = record_of numbers.vertex in
     let v = c.unwrap.result in
     let slot = sym c.take.ensures.value ∙ c.unwrap.ensures in
     let same = store-same set held.dim out cell.place c.args.k it desk (Some s) vertex refl refl (λ counts. to) in
@@ -95,7 +95,7 @@ returns-else-go-eq0-clause-goes g c =
     let out = output (ports_of settings) in
     let family = family_in_hand numbers c.args.parents.now c.args.parent.now held.list in
     let desk = desk_in_hand numbers holds c.args.parents.now c.args.parent.now held.list in
-    let f = seen_vertex numbers.vertex in
+    let f = record_of numbers.vertex in
     let v = c.unwrap.result in
     let slot = sym c.take.ensures.value ∙ c.unwrap.ensures in
     let same = store-same set held.dim out cell.place c.args.k it desk (Some s) vertex refl refl (λ counts. to) in

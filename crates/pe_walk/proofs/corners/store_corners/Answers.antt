@@ -1,5 +1,5 @@
 use Rattle.std.proofs.Common.{sym, subst, Ok, Err}
-use Rattle.pe_hang.specs.Follows.{Follows, read_by}
+use Rattle.pe_base.specs.Calls.Follows.{Follows, read_by}
 use Rattle.pe_walk.specs.Machine.{store_all}
 use Rattle.pe_walk.specs.InHand.{setting_in, ports_of, failure_in}
 use Rattle.pe_walk.specs.Corners.{MayGo, hand_of, machine_of, found_in}

@@ -1,38 +1,40 @@
 use Rattle.std.proofs.Common.{◌≡◌, suc, Ok, Err, sym, ap, subst, ◌∙◌, arith}
 use Rattle.pe_base.specs.declared.place.Place.{Place}
-use Rattle.pe_mapping.specs.Sights.{seen_vertex, seen_cell, seen_corners}
+use Rattle.pe_stacks.specs.Sights.{record_of, seen_cell, corner_records}
 use Rattle.pe_hang.specs.InHand.{setting_of, cells_on_stacks}
-use Rattle.pe_hang.specs.Follows.{Fits, Follows, found_of, held_by}
-use Rattle.pe_adapt.specs.Marked.{AreMarksOf, GiveKinds}
+use Rattle.pe_base.specs.Calls.Follows.{Fits, Follows}
+use Rattle.pe_mapping.specs.Held.{found_of}
+use Rattle.pe_stacks.specs.RecordsOut.{held_by}
+use Rattle.pe_adapt.specs.Ages.{AreAgesOf, GiveKinds}
 use Rattle.pe_adapt.specs.Stops.{failure_of, failure_of_halt}
 use Rattle.pe_walk.specs.Machine.{kind_among}
 use Rattle.pe_walk.specs.Machine as machine
 use Rattle.pe_walk.specs.Gridded.{ports_of}
 use Rattle.pe_walk.specs.InHand.{machine_in_hand}
 use Rattle.pe_walk.specs.Traversing.{Stores}
-use Rattle.pe_walk.proofs.Markings.{length-seen}
+use Rattle.pe_walk.proofs.AgeLaws.{length-seen}
 use Rattle.pe_walk.proofs.Simulation.Tallied.Alike.{is_seen, alike-sym}
 use Rattle.pe_walk.proofs.WalkedCells.{cell-fits, cell_answers, same-course}
 use Rattle.pe_walk.proofs.face.walk_cell.Goals as goal
 
 pub walk_cell-walked-requires-clause-kinds : goal.walk_cell-walked-requires-clause-kinds
 walk_cell-walked-requires-clause-kinds g c =
-    let its = seen_corners g.M.Mapping.numbers.vertex c.args.parents.now in
+    let its = corner_records g.M.Mapping.numbers.vertex c.args.parents.now in
     let s = c.settings_at-settings.result in
     let dim : s.setup.dim ≡ (g.M.Mapping.held c.args.m.now).dim = ap (λ setup. setup.dim) c.settings_at-settings.ensures.setup ∙ sym c.requires.dim in
-    let marked : AreMarksOf s.setup.dim its c.marks_of-marks.result =
-    subst (λ d. AreMarksOf d its c.marks_of-marks.result) (sym (ap (λ setup. setup.dim) c.settings_at-settings.ensures.setup)) (c.marks_of-marks.ensures g.M.Mapping.numbers.vertex) in
-    subst (λ place. GiveKinds (g.M.Mapping.held c.args.m.now).dim s.traversal place its c.walked_cell-cell.result.marks) (sym c.walked_cell-cell.ensures.place)
-    (subst (λ d. GiveKinds d s.traversal c.args.at.now its c.walked_cell-cell.result.marks) dim (c.walked_cell-cell.ensures.kinds its marked))
+    let aged : AreAgesOf s.setup.dim its c.ages_of-ages.result =
+    subst (λ d. AreAgesOf d its c.ages_of-ages.result) (sym (ap (λ setup. setup.dim) c.settings_at-settings.ensures.setup)) (c.ages_of-ages.ensures g.M.Mapping.numbers.vertex) in
+    subst (λ place. GiveKinds (g.M.Mapping.held c.args.m.now).dim s.traversal place its c.walked_cell-cell.result.ages) (sym c.walked_cell-cell.ensures.place)
+    (subst (λ d. GiveKinds d s.traversal c.args.at.now its c.walked_cell-cell.result.ages) dim (c.walked_cell-cell.ensures.kinds its aged))
 
 pub walk_cell-walked-requires-clause-kind : goal.walk_cell-walked-requires-clause-kind
 walk_cell-walked-requires-clause-kind g c =
     let axes = (g.M.Mapping.held c.args.m.now).dim in
-    let its = seen_corners g.M.Mapping.numbers.vertex c.args.parents.now in
-    let marked : AreMarksOf axes its c.marks_of-marks.result = subst (λ d. AreMarksOf d its c.marks_of-marks.result) (sym c.requires.dim) (c.marks_of-marks.ensures g.M.Mapping.numbers.vertex) in
+    let its = corner_records g.M.Mapping.numbers.vertex c.args.parents.now in
+    let aged : AreAgesOf axes its c.ages_of-ages.result = subst (λ d. AreAgesOf d its c.ages_of-ages.result) (sym c.requires.dim) (c.ages_of-ages.ensures g.M.Mapping.numbers.vertex) in
     ap (λ traversal. kind_among traversal c.walked_cell-cell.result.place its) c.settings_at-settings.ensures.traversal
     ∙ c.kind_at-kind.ensures axes c.walked_cell-cell.result.place its c.requires.called.stands.grid (ap (λ place. place.level) c.walked_cell-cell.ensures.place)
-    (length-seen g.M.Mapping.numbers.vertex axes c.args.parents.now c.requires.full) marked
+    (length-seen g.M.Mapping.numbers.vertex axes c.args.parents.now c.requires.full) aged
 
 pub walk_cell-walked-requires-clause-may : goal.walk_cell-walked-requires-clause-may
 walk_cell-walked-requires-clause-may g c =
@@ -68,8 +70,8 @@ returns-in-Ok-clause-answers g c moment can =
     let after : Stores g.row.M-V.Denot g.row.M-C.Denot = record { vertices = g.DV.Depot.holds c.walk_cell-walked.new.dv; cells = g.DC.Depot.holds c.walk_cell-walked.new.dc } in
     let same = same-course g.M.Effects.rules held c.args.setup.now c.settings_at-settings.result c.args.traversal c.args.input c.args.cell_input c.walked_cell-cell.result.place c.args.at.now begins moment
     c.settings_at-settings.ensures.setup c.settings_at-settings.ensures.traversal c.settings_at-settings.ensures.input c.settings_at-settings.ensures.cell_input c.walked_cell-cell.ensures.place can.here in
-    cell_answers set moment begins can.may found before told after ends (alike-sym (is_seen (seen_vertex numbers.vertex) before.vertices)) (alike-sym (is_seen (seen_cell numbers.cell) before.cells))
-    (alike-sym (is_seen (seen_vertex numbers.vertex) after.vertices)) (alike-sym (is_seen (seen_cell numbers.cell) after.cells)) c.requires.few failure_of (Ok (tt {0}))
+    cell_answers set moment begins can.may found before told after ends (alike-sym (is_seen (record_of numbers.vertex) before.vertices)) (alike-sym (is_seen (seen_cell numbers.cell) before.cells))
+    (alike-sym (is_seen (record_of numbers.vertex) after.vertices)) (alike-sym (is_seen (seen_cell numbers.cell) after.cells)) c.requires.few failure_of (Ok (tt {0}))
     (subst (λ course. Follows course (λ (done : Unit {0}). ends) (Ok (tt {0})) found told) same c.in-Ok.ensures.follows)
 
 pub returns-in-Err-clause-answers : goal.returns-in-Err-clause-answers
@@ -86,7 +88,7 @@ returns-in-Err-clause-answers g c moment can =
     let after : Stores g.row.M-V.Denot g.row.M-C.Denot = record { vertices = g.DV.Depot.holds c.walk_cell-walked.new.dv; cells = g.DC.Depot.holds c.walk_cell-walked.new.dc } in
     let same = same-course g.M.Effects.rules held c.args.setup.now c.settings_at-settings.result c.args.traversal c.args.input c.args.cell_input c.walked_cell-cell.result.place c.args.at.now begins moment
     c.settings_at-settings.ensures.setup c.settings_at-settings.ensures.traversal c.settings_at-settings.ensures.input c.settings_at-settings.ensures.cell_input c.walked_cell-cell.ensures.place can.here in
-    cell_answers set moment begins can.may found before told after ends (alike-sym (is_seen (seen_vertex numbers.vertex) before.vertices)) (alike-sym (is_seen (seen_cell numbers.cell) before.cells))
-    (alike-sym (is_seen (seen_vertex numbers.vertex) after.vertices)) (alike-sym (is_seen (seen_cell numbers.cell) after.cells)) c.requires.few failure_of (Err c.of_halt.result)
+    cell_answers set moment begins can.may found before told after ends (alike-sym (is_seen (record_of numbers.vertex) before.vertices)) (alike-sym (is_seen (seen_cell numbers.cell) before.cells))
+    (alike-sym (is_seen (record_of numbers.vertex) after.vertices)) (alike-sym (is_seen (seen_cell numbers.cell) after.cells)) c.requires.few failure_of (Err c.of_halt.result)
     (subst (λ failure. Follows {A = Unit {0}} (machine.walk_cell set (ports_of moment.outset.outlook.swapped) (suc moment.levels) moment.stage.cell begins) (λ done. ends) (Err failure) found told) (sym c.of_halt.ensures.failure)
     (subst (λ course. Follows {A = Unit {0}} course (λ done. ends) (Err (failure_of_halt c.walk_cell-walked.new.progress.at c.in-Err.halt)) found told) same c.in-Err.ensures.follows))

@@ -3,12 +3,14 @@ use Rattle.pe_stacks.specs.declared.record.Vertex.{Vertex as AVertex}
 use Rattle.pe_stacks.specs.Filled.{FullFrom}
 use Rattle.pe_stacks.specs.Holdings.{stack_count}
 use Rattle.pe_stacks.proofs.Filling.{full_start, full_put, full_all, seen_put, seen_none}
-use Rattle.pe_mapping.specs.Sights.{seen_vertex, seen_corners}
-use Rattle.pe_hang.specs.Follows.{Leads, found_of, held_by}
-use Rattle.pe_hang.proofs.Leading.{leads_start, leads_rest, leads_want, leads_found, roomier-held}
+use Rattle.pe_stacks.specs.Sights.{record_of, corner_records}
+use Rattle.pe_base.specs.Calls.Follows.{Leads}
+use Rattle.pe_mapping.specs.Held.{found_of}
+use Rattle.pe_stacks.specs.RecordsOut.{held_by}
+use Rattle.pe_base.proofs.Calls.Leading.{leads_start, leads_rest, leads_want, leads_found}
+use Rattle.pe_hang.proofs.Staying.{roomier-held, keeps-same, keeps-then}
 use Rattle.pe_hang.proofs.Moving.{lend-may}
 use Rattle.pe_walk.specs.InHand.{setting_in, ports_of}
-use Rattle.pe_hang.proofs.Staying.{keeps-same, keeps-then}
 use Rattle.pe_walk.proofs.RootCorners.{at_root, roots, roots-may, roots-step, roots-end}
 use Rattle.pe_walk.proofs.root.lend_corners.Goals as goal
 
@@ -20,7 +22,7 @@ loop-done-init g c =
     let vertices = g.DV.Depot.holds c.args.dv.now in
     let room = g.DV.Depot.room c.args.dv.now in
     let set = setting_in g.M.Effects.rules before s in
-    let none = ap (map (seen_vertex numbers)) (seen_none s.setup.dim c.args.corners.now c.requires.empty) in
+    let none = ap (map (record_of numbers)) (seen_none s.setup.dim c.args.corners.now c.requires.empty) in
     let all : 2 ^ s.setup.dim ≡ 2 ^ s.setup.dim - 0 = omega arith in
     let all_of : 2 ^ before.dim ≡ 2 ^ before.dim - 0 = omega arith in
     record {
@@ -43,7 +45,7 @@ lend-requires g c =
     let s = c.args.settings.now in
     let set = setting_in g.M.Effects.rules before s in
     let rest = c.requires.fits.0 in
-    let its = seen_corners numbers c.loop-done.corners in
+    let its = corner_records numbers c.loop-done.corners in
     let vertices = g.DV.Depot.holds c.loop-done.dv in
     let is = c.loop-done.invariant in
     let n = 2 ^ before.dim - c.loop-done.done in
@@ -51,7 +53,7 @@ lend-requires g c =
     let dims = ap (λ d. 2 ^ d) c.requires.dim in
     let more : n ≡ suc k = omega (arith, dims, c.corners-count.ensures.value, c.loop-done-test.true) in
     record {
-      count = lend-may (seen_vertex numbers) vertices
+      count = lend-may (record_of numbers) vertices
           (roots-may numbers set (ports_of s) rest n k its vertices now.list more (leads_rest (roots numbers set (ports_of s) rest n its vertices now.list) (is.leads rest (λ j. 0)) c.requires.fits.1));
     }
 
@@ -65,7 +67,7 @@ loop-done-preserved g c =
     let set = setting_in g.M.Effects.rules before s in
     let is = c.loop-done.invariant in
     let axes = s.setup.dim in
-    let its = seen_corners numbers c.loop-done.corners in
+    let its = corner_records numbers c.loop-done.corners in
     let vertices = g.DV.Depot.holds c.loop-done.dv in
     let vertices' = g.DV.Depot.holds c.lend.new.self in
     let dims = ap (λ d. 2 ^ d) c.requires.dim in
@@ -76,7 +78,7 @@ loop-done-preserved g c =
     let here : 2 ^ axes - c.loop-done.done ≡ k + 1 = omega (arith, c.corners-count.ensures.value, c.loop-done-test.true) in
     let next : k ≡ 2 ^ axes - (c.loop-done.done + 1) = omega (arith, c.corners-count.ensures.value, c.loop-done-test.true) in
     let full : FullFrom axes (k + 1) c.loop-done.corners = subst (λ j. FullFrom axes j c.loop-done.corners) here is.full in
-    let seen = ap (map (seen_vertex numbers)) (seen_put axes k c.lend.result c.loop-done.corners c.put.new.self c.put.ensures full) in
+    let seen = ap (map (record_of numbers)) (seen_put axes k c.lend.result c.loop-done.corners c.put.new.self c.put.ensures full) in
     let made = c.lend.ensures.handed ∙ c.new-vertex.ensures in
     let rules = g.M.Effects.rules in
     let first = c.requires.fits.0 in
@@ -114,8 +116,8 @@ returns-in-Err-clause-follows g c = λ rest cells.
     let s = c.args.settings.now in
     let set = setting_in g.M.Effects.rules before s in
     let vertices = held_by (g.DV.Depot.holds c.loop-done.dv) (g.DV.Depot.room c.loop-done.dv) in
-    let left = roots numbers set (ports_of s) rest (2 ^ before.dim - c.loop-done.done) (seen_corners numbers c.loop-done.corners) (g.DV.Depot.holds c.loop-done.dv) now.list in
-    leads_want left (λ (u : Unit {0}). (seen_corners numbers c.loop-done.corners, at_root numbers set (ports_of s) rest (g.DV.Depot.holds c.loop-done.dv) now.list))
+    let left = roots numbers set (ports_of s) rest (2 ^ before.dim - c.loop-done.done) (corner_records numbers c.loop-done.corners) (g.DV.Depot.holds c.loop-done.dv) now.list in
+    leads_want left (λ (u : Unit {0}). (corner_records numbers c.loop-done.corners, at_root numbers set (ports_of s) rest (g.DV.Depot.holds c.loop-done.dv) now.list))
     (leads_found left (found_of new vertices cells) (c.loop-done.invariant.leads rest cells) (sym c.in-Err.ensures.told) (roomier-held now new vertices cells c.in-Err.ensures.keeps))
     (c.in-Err.ensures.keeps.sure ∙ c.in-Err.ensures.answer)
 
@@ -131,7 +133,7 @@ returns-clause-follows g c = λ rest cells.
     let none : n ≡ 0 = omega (arith, dims, c.corners-count.ensures.value, c.loop-done-test.false, c.loop-done.auto.done-end) in
     roots-end numbers set (ports_of s) rest (roots numbers set (ports_of s) rest (2 ^ before.dim) [] (g.DV.Depot.holds c.args.dv.now) before.list)
     (found_of before (held_by (g.DV.Depot.holds c.args.dv.now) (g.DV.Depot.room c.args.dv.now)) cells) (found_of now (held_by (g.DV.Depot.holds c.loop-done.dv) (g.DV.Depot.room c.loop-done.dv)) cells)
-    n (seen_corners numbers c.loop-done.corners) (g.DV.Depot.holds c.loop-done.dv) now.list none (c.loop-done.invariant.leads rest cells)
+    n (corner_records numbers c.loop-done.corners) (g.DV.Depot.holds c.loop-done.dv) now.list none (c.loop-done.invariant.leads rest cells)
 
 pub returns-clause-loaded : goal.returns-clause-loaded
 returns-clause-loaded g c =

@@ -1,8 +1,9 @@
 use Rattle.std.proofs.Common.{◌≡◌, ℕ, ◌-◌, ◌^◌, [], false}
 use Rattle.pe_stacks.specs.Filled.{FullFrom}
-use Rattle.pe_mapping.specs.Held.{Keeps}
-use Rattle.pe_mapping.specs.Sights.{seen_corners}
-use Rattle.pe_hang.specs.Follows.{Leads, Left, found_of, held_by}
+use Rattle.pe_mapping.specs.Held.{Keeps, found_of}
+use Rattle.pe_stacks.specs.Sights.{corner_records}
+use Rattle.pe_base.specs.Calls.Follows.{Leads}
+use Rattle.pe_stacks.specs.RecordsOut.{RecordsOut, held_by}
 use Rattle.pe_walk.specs.Machine.{Machine}
 use Rattle.pe_walk.specs.InHand.{setting_in, ports_of}
 use Rattle.pe_walk.proofs.RootCorners.{roots}
@@ -25,7 +26,7 @@ invariant-loop-done g l =
       full : FullFrom l.settings.setup.dim (2 ^ l.settings.setup.dim - l.done) l.corners;
       leads : (rest : Machine) (cells : ℕ → ℕ) → Leads (roots numbers set ports rest (2 ^ before.dim) [] vertices before.list)
           (found_of before (held_by vertices room) cells) (found_of now (held_by vertices' room') cells)
-          (roots numbers set ports rest (2 ^ before.dim - l.done) (seen_corners numbers l.corners) vertices' now.list);
-      left : Left 0 l.done vertices room vertices' room' false;
+          (roots numbers set ports rest (2 ^ before.dim - l.done) (corner_records numbers l.corners) vertices' now.list);
+      left : RecordsOut 0 l.done vertices room vertices' room' false;
       keeps : Keeps before now;
     }

@@ -2,8 +2,9 @@ use Rattle.std.proofs.Common.{◌≤◌, ◌∙◌, Ok, Err, sym, subst, arith}
 use Rattle.pe_base.specs.declared.event.Event.TheVariants.{BeginIteration, EndIteration}
 use Rattle.pe_base.specs.declared.tally.Tally.{Tally}
 use Rattle.pe_stacks.specs.Corners.{IsFull}
-use Rattle.pe_hang.specs.Follows.{Follows, read_by, held_by}
-use Rattle.pe_hang.proofs.Leading.{and_then-fits}
+use Rattle.pe_base.specs.Calls.Follows.{Follows, read_by}
+use Rattle.pe_stacks.specs.RecordsOut.{held_by}
+use Rattle.pe_base.proofs.Calls.Leading.{and_then-fits}
 use Rattle.pe_walk.specs.InHand.{ports_of, failure_in}
 use Rattle.pe_walk.specs.Visits.{hands_of, machine_of, found_in}
 use Rattle.pe_walk.proofs.Walking.{set_in, Goes, runs-may, runs-then, runs-err}

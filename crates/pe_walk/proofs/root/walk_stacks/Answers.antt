@@ -3,15 +3,16 @@ use Rattle.pe_base.specs.Acts.Effects.{VertexRecord}
 use Rattle.pe_base.specs.Walk.Course.{and_then}
 use Rattle.pe_stacks.specs.Corners.{IsFull}
 use Rattle.pe_stacks.proofs.Filling.{full_from}
-use Rattle.pe_mapping.specs.Sights.{seen_corners}
+use Rattle.pe_stacks.specs.Sights.{corner_records}
 use Rattle.pe_hang.specs.InHand.{vertices_on_stacks}
-use Rattle.pe_hang.specs.Follows.{Fits, wanting, read_by, held_by}
-use Rattle.pe_hang.proofs.Leading.{and_then-fits}
+use Rattle.pe_base.specs.Calls.Follows.{Fits, wanting, read_by}
+use Rattle.pe_stacks.specs.RecordsOut.{held_by}
+use Rattle.pe_base.proofs.Calls.Leading.{and_then-fits}
 use Rattle.pe_walk.specs.Machine.{Machine}
 use Rattle.pe_walk.specs.InHand.{ports_of, failure_in, machine_between}
 use Rattle.pe_walk.specs.Visits.{with_vertices, hands_of, machine_of}
 use Rattle.pe_walk.proofs.Walking.{set_in, Goes, runs-may, runs-then, runs-err, runs-as}
-use Rattle.pe_walk.proofs.Markings.{length-seen}
+use Rattle.pe_walk.proofs.AgeLaws.{length-seen}
 use Rattle.pe_walk.proofs.RootWalks.{making, rooting, giving, after_make, root-grouped, root-gives}
 use Rattle.pe_walk.proofs.root.walk_stacks.Goals as goal
 
@@ -36,7 +37,7 @@ returns-in-Err-clause-follows g c =
     let old = hands_of (g.M.Mapping.held c.args.m.now) (g.DV.Depot.holds c.args.dv.now) (g.DV.Depot.room c.args.dv.now) (g.DC.Depot.holds c.args.dc.now) (g.DC.Depot.room c.args.dc.now) c.empty-corners.result c.args.root.now c.args.progress.now in
     let new = hands_of (g.M.Mapping.held c.lend_corners.new.m) (g.DV.Depot.holds c.lend_corners.new.dv) (g.DV.Depot.room c.lend_corners.new.dv) old.cells old.cell_room c.lend_corners.new.corners old.parent old.progress in
     let rest = machine_between numbers old.vertices old.cells old.parent old.held.list old.progress.tally in
-    let to_make = λ (u : Unit {0}). (let it : List VertexRecord × Machine = (seen_corners numbers.vertex new.parents, with_vertices (vertices_on_stacks numbers new.vertices) new.held.list rest) in it) in
+    let to_make = λ (u : Unit {0}). (let it : List VertexRecord × Machine = (corner_records numbers.vertex new.parents, with_vertices (vertices_on_stacks numbers new.vertices) new.held.list rest) in it) in
     let after = λ (u : Unit {0}). rest in
     runs-err rules s (making ports greatest rest) (after_make ports greatest) to_make after wanting old new (c.in-Err.ensures.follows rest (held_by old.cells old.cell_room))
 
@@ -51,7 +52,7 @@ walk_root-walked-requires-clause-fits g c =
     let mid = hands_of (g.M.Mapping.held c.lend_corners.new.m) (g.DV.Depot.holds c.lend_corners.new.dv) (g.DV.Depot.room c.lend_corners.new.dv) old.cells old.cell_room c.lend_corners.new.corners old.parent old.progress in
     let rest = machine_between numbers old.vertices old.cells old.parent old.held.list old.progress.tally in
     let makes = making ports greatest rest in
-    let to_make = λ (u : Unit {0}). (let it : List VertexRecord × Machine = (seen_corners numbers.vertex mid.parents, with_vertices (vertices_on_stacks numbers mid.vertices) mid.held.list rest) in it) in
+    let to_make = λ (u : Unit {0}). (let it : List VertexRecord × Machine = (corner_records numbers.vertex mid.parents, with_vertices (vertices_on_stacks numbers mid.vertices) mid.held.list rest) in it) in
     let goes : Goes rules s old mid = record { keeps = c.in-Ok.ensures.keeps; vertices = c.in-Ok.ensures.left.keeps; cells = λ n. omega arith } in
     let set = set_in rules s mid in
     let fits = runs-may rules s makes (after_make ports greatest) to_make tt old mid c.requires.fits (c.in-Ok.ensures.follows rest (held_by old.cells old.cell_room)) goes in
@@ -76,7 +77,7 @@ returns-clause-follows g c =
     let new = hands_of walked.held (g.DV.Depot.holds c.give_up_from.new.vertices) (g.DV.Depot.room c.give_up_from.new.vertices) walked.cells walked.cell_room walked.parents walked.parent walked.progress in
     let rest = machine_between numbers old.vertices old.cells old.parent old.held.list old.progress.tally in
     let makes = making ports greatest rest in
-    let to_make = λ (u : Unit {0}). (let it : List VertexRecord × Machine = (seen_corners numbers.vertex mid.parents, with_vertices (vertices_on_stacks numbers mid.vertices) mid.held.list rest) in it) in
+    let to_make = λ (u : Unit {0}). (let it : List VertexRecord × Machine = (corner_records numbers.vertex mid.parents, with_vertices (vertices_on_stacks numbers mid.vertices) mid.held.list rest) in it) in
     let goes : Goes rules s old mid = record { keeps = c.in-Ok.ensures.keeps; vertices = c.in-Ok.ensures.left.keeps; cells = λ n. omega arith } in
     let made = c.in-Ok.ensures.follows rest (held_by old.cells old.cell_room) in
     let fits = runs-may rules s makes (after_make ports greatest) to_make tt old mid c.requires.fits made goes in
@@ -84,7 +85,7 @@ returns-clause-follows g c =
     let goes_on : Goes rules s mid walked = record { keeps = walks.left.stays.keeps; vertices = walks.left.vertices.keeps; cells = walks.left.cells.keeps } in
     let answer = read_by (failure_in walked.progress) c.walk_root-walked.result in
     let after = λ (u : Unit {0}). machine_between numbers new.vertices new.cells new.parent new.held.list new.progress.tally in
-    let count : 2 ^ axes - 0 ≡ length (seen_corners numbers.vertex walked.parents) = omega (arith, length-seen numbers.vertex mid.held.dim walked.parents walks.left.stays.parents.full, ap (λ d. 2 ^ d) (c.in-Ok.ensures.keeps.dim ∙ c.requires.dim)) in
+    let count : 2 ^ axes - 0 ≡ length (corner_records numbers.vertex walked.parents) = omega (arith, length-seen numbers.vertex mid.held.dim walked.parents walks.left.stays.parents.full, ap (λ d. 2 ^ d) (c.in-Ok.ensures.keeps.dim ∙ c.requires.dim)) in
     let all = root-gives rules numbers s mid walked new answer walks.follows goes_on (subst Fits (sym (root-grouped ports greatest (set_in rules s mid) (to_make tt))) fits) refl (2 ^ axes - 0) count c.give_up_from.ensures.holds in
     runs-then rules s makes (after_make ports greatest) to_make tt after answer old mid new made goes
     (runs-as rules s (λ set. and_then (rooting ports greatest (machine_of numbers mid) set) (giving ports greatest set)) (λ set. after_make ports greatest set (to_make tt)) after answer mid new (root-grouped ports greatest (set_in rules s mid) (to_make tt)) all)

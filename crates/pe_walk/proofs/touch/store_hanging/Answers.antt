@@ -5,7 +5,7 @@ use Rattle.pe_base.specs.declared.kind.Kind.TheVariants.{Hanging}
 use Rattle.pe_base.specs.Steps.Routes.{stack_out}
 use Rattle.pe_base.specs.Walk.Core.{way}
 use Rattle.pe_base.specs.Walk.Touches.{tally_store}
-use Rattle.pe_hang.specs.Follows.{Follows, Fits, read_by}
+use Rattle.pe_base.specs.Calls.Follows.{Follows, Fits, read_by}
 use Rattle.pe_adapt.specs.Slots.{seen_slot}
 use Rattle.pe_adapt.specs.Spots.{desk_in_hand}
 use Rattle.pe_adapt.proofs.Touching.{store-same}

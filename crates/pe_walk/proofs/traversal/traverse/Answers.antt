@@ -1,7 +1,9 @@
 use Rattle.std.proofs.Common.{◌+◌, ◌∙◌, sym, subst}
 use Rattle.pe_base.specs.Walk.Working.{no_tally}
 use Rattle.pe_hang.specs.InHand.{setting_of}
-use Rattle.pe_hang.specs.Follows.{Fits, Follows, read_by, found_of, held_by}
+use Rattle.pe_base.specs.Calls.Follows.{Fits, Follows, read_by}
+use Rattle.pe_mapping.specs.Held.{found_of}
+use Rattle.pe_stacks.specs.RecordsOut.{held_by}
 use Rattle.pe_adapt.specs.Stops.{failure_of}
 use Rattle.pe_walk.specs.Machine.{traverse}
 use Rattle.pe_walk.specs.Gridded.{ports_of}

@@ -3,9 +3,11 @@ use Rattle.std.specs.Prelude.{OnOk}
 use Rattle.pe_base.specs.Walk.Core.{Family, Own}
 use Rattle.pe_stacks.specs.declared.record.CellRec.{CellRec as ACell}
 use Rattle.pe_stacks.specs.Holdings.{lent, popped}
-use Rattle.pe_mapping.specs.Sights.{seen_cell, seen_corners}
+use Rattle.pe_stacks.specs.Sights.{seen_cell, corner_records}
 use Rattle.pe_hang.specs.InHand.{family_in_hand, own_in_hand, vertices_on_stacks}
-use Rattle.pe_hang.specs.Follows.{Follows, read_by, found_of, held_by}
+use Rattle.pe_base.specs.Calls.Follows.{Follows, read_by}
+use Rattle.pe_mapping.specs.Held.{found_of}
+use Rattle.pe_stacks.specs.RecordsOut.{held_by}
 use Rattle.pe_hang.proofs.Moving.{lend-may, pop-may}
 use Rattle.pe_walk.specs.InHand.{setting_in, ports_of, failure_in}
 use Rattle.pe_walk.specs.Machine.{enter_cell}
@@ -25,7 +27,7 @@ enter_born-requires-clause-count g c =
     let tally = c.args.progress.now.tally in
     lend-may f holds
     (made-fits f set (ports_of s) c.args.at.now vertices tally holds family c.args.kind c.requires.kind c.in-Born.is
-    (comes-fits f set (ports_of s) c.args.at.now vertices tally holds family c.args.kind c.requires.kind (seen_corners numbers.vertex c.args.corners.now) c.requires.fits.1))
+    (comes-fits f set (ports_of s) c.args.at.now vertices tally holds family c.args.kind c.requires.kind (corner_records numbers.vertex c.args.corners.now) c.requires.fits.1))
 
 pub pop-cell-requires : goal.pop-cell-requires
 pop-cell-requires g c =
@@ -40,7 +42,7 @@ pop-cell-requires g c =
     let tally = c.args.progress.now.tally in
     let may = pop-may f holds s.cell_input
     (stored-fits f set (ports_of s) c.args.at.now vertices tally holds family c.args.kind c.requires.kind c.in_default.not-Born
-    (comes-fits f set (ports_of s) c.args.at.now vertices tally holds family c.args.kind c.requires.kind (seen_corners numbers.vertex c.args.corners.now) c.requires.fits.1)) in
+    (comes-fits f set (ports_of s) c.args.at.now vertices tally holds family c.args.kind c.requires.kind (corner_records numbers.vertex c.args.corners.now) c.requires.fits.1)) in
     record { stack = may.stack; full = may.full; count = may.count }
 
 pub returns-in-Born-clause-follows : goal.returns-in-Born-clause-follows
@@ -53,7 +55,7 @@ returns-in-Born-clause-follows g c = λ vs room.
     let f = seen_cell numbers.cell in
     let family = family_in_hand numbers c.args.parents.now c.args.parent.now old.list in
     let holds = g.DC.Depot.holds c.args.dc.now in
-    let its = seen_corners numbers.vertex c.args.corners.now in
+    let its = corner_records numbers.vertex c.args.corners.now in
     let tally = c.args.progress.now.tally in
     let any = vertices_on_stacks numbers c.requires.fits.0 in
     let fits = made-fits f set (ports_of s) c.args.at.now any tally holds family c.args.kind c.requires.kind c.in-Born.is
@@ -82,7 +84,7 @@ returns-in_default-clause-follows g c = λ vs room.
     let f = seen_cell numbers.cell in
     let family = family_in_hand numbers c.args.parents.now c.args.parent.now old.list in
     let holds = g.DC.Depot.holds c.args.dc.now in
-    let its = seen_corners numbers.vertex c.args.corners.now in
+    let its = corner_records numbers.vertex c.args.corners.now in
     let tally = c.args.progress.now.tally in
     let any = vertices_on_stacks numbers c.requires.fits.0 in
     let fits = stored-fits f set (ports_of s) c.args.at.now any tally holds family c.args.kind c.requires.kind c.in_default.not-Born

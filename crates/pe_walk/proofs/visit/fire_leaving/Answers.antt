@@ -2,8 +2,10 @@ use Rattle.std.proofs.Common.{Ok, subst}
 use Rattle.pe_base.specs.declared.event.Event.TheVariants.{LeaveCell, DestroyCell}
 use Rattle.pe_base.specs.Walk.Core.{Family, Own, cell_event}
 use Rattle.pe_hang.specs.InHand.{family_in_hand, own_in_hand}
-use Rattle.pe_hang.specs.Follows.{Follows, read_by, found_of}
-use Rattle.pe_hang.proofs.Leading.{follows-then, roomier-held, setting-kept}
+use Rattle.pe_base.specs.Calls.Follows.{Follows, read_by}
+use Rattle.pe_mapping.specs.Held.{found_of}
+use Rattle.pe_base.proofs.Calls.Leading.{follows-then}
+use Rattle.pe_hang.proofs.Staying.{roomier-held, setting-kept}
 use Rattle.pe_walk.specs.InHand.{setting_in, failure_in}
 use Rattle.pe_walk.proofs.Visiting.{leave-stays, leave-dies, leave-fails}
 use Rattle.pe_walk.proofs.visit.fire_leaving.Goals as goal

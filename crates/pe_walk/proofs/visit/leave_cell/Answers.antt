@@ -3,10 +3,12 @@ use Rattle.std.proofs.lemmas.Result.{IfErr-weaker}
 use Rattle.std.specs.Prelude.{OnOk, OnErr}
 use Rattle.pe_base.specs.Walk.Core.{Family, Own}
 use Rattle.pe_stacks.specs.Holdings.{pushed}
-use Rattle.pe_mapping.specs.Sights.{seen_cell}
+use Rattle.pe_stacks.specs.Sights.{seen_cell}
 use Rattle.pe_hang.specs.InHand.{family_in_hand, own_in_hand, vertices_on_stacks}
 use Rattle.pe_hang.specs.Moves.{MayPush}
-use Rattle.pe_hang.specs.Follows.{Follows, wanting, read_by, found_of, held_by}
+use Rattle.pe_base.specs.Calls.Follows.{Follows, wanting, read_by}
+use Rattle.pe_mapping.specs.Held.{found_of}
+use Rattle.pe_stacks.specs.RecordsOut.{held_by}
 use Rattle.pe_hang.proofs.Moving.{push-may}
 use Rattle.pe_adapt.specs.declared.stop.Halt.TheVariants.{Memory as ForMemory}
 use Rattle.pe_walk.specs.InHand.{setting_in, ports_of, failure_in}

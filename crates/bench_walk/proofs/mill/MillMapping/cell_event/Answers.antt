@@ -1,5 +1,5 @@
 use Rattle.std.proofs.Common.{refl}
-use Rattle.pe_mapping.proofs.Lawful.{all_triggered_same, leaves_same}
+use Rattle.pe_base.proofs.Lawful.{all_triggered_same, leaves_same}
 use Rattle.bench_walk.proofs.Quiet.{quiet, mill_at_cells}
 use Rattle.bench_walk.proofs.mill.MillMapping.cell_event.Goals as goal
 

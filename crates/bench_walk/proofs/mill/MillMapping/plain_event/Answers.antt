@@ -1,5 +1,5 @@
 use Rattle.std.proofs.Common.{rules, [], ◌∷◌}
-use Rattle.pe_mapping.specs.Sights.{plain_sight}
+use Rattle.pe_base.specs.Acts.Effects.{plain_sight}
 use Rattle.bench_walk.specs.Mill.{ended}
 use Rattle.bench_walk.proofs.Failing.{line_fails}
 use Rattle.bench_walk.proofs.mill.MillMapping.plain_event.Goals as goal

@@ -1,5 +1,5 @@
 use Rattle.std.proofs.Common.{refl, inl, ◌+◌}
-use Rattle.pe_mapping.proofs.Lawful.{all_triggered_same, leaves_same}
+use Rattle.pe_base.proofs.Lawful.{all_triggered_same, leaves_same}
 use Rattle.bench_walk.specs.Mill.{sum_of}
 use Rattle.bench_walk.specs.Law.{state_turned}
 use Rattle.bench_walk.proofs.Quiet.{quiet, mill_at_vertices}

@@ -1,4 +1,4 @@
-use Rattle.pe_mapping.proofs.Lawful.{leaves_same}
+use Rattle.pe_base.proofs.Lawful.{leaves_same}
 use Rattle.bench_walk.proofs.CountedCorners.{full_counted}
 use Rattle.bench_walk.proofs.Entering.{regular_enters, regular_leaves}
 use Rattle.bench_walk.proofs.Quiet.{quiet, regular_at_cells}

@@ -1,4 +1,4 @@
-use Rattle.pe_mapping.proofs.Lawful.{leaves_same}
+use Rattle.pe_base.proofs.Lawful.{leaves_same}
 use Rattle.bench_walk.proofs.regular.RegularMapping.vertex_event.Goals as goal
 
 pub returns-clause-lawful : goal.returns-clause-lawful

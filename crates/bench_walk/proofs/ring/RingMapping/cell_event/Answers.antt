@@ -1,5 +1,5 @@
 use Rattle.std.proofs.Common.{◌≡◌}
-use Rattle.pe_mapping.proofs.Lawful.{leaves_same}
+use Rattle.pe_base.proofs.Lawful.{leaves_same}
 use Rattle.bench_walk.specs.Counting.{counted}
 use Rattle.bench_walk.proofs.CountedCorners.{full_counted}
 use Rattle.bench_walk.proofs.Entering.{ring_enters, ring_leaves}

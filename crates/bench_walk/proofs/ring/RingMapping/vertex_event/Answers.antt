@@ -1,5 +1,5 @@
 use Rattle.std.proofs.Common.{refl}
-use Rattle.pe_mapping.proofs.Lawful.{all_triggered_same, leaves_same}
+use Rattle.pe_base.proofs.Lawful.{all_triggered_same, leaves_same}
 use Rattle.bench_walk.specs.Law.{state_asked}
 use Rattle.bench_walk.proofs.Quiet.{quiet, ring_at_vertices}
 use Rattle.bench_walk.proofs.ring.RingMapping.vertex_event.Goals as goal

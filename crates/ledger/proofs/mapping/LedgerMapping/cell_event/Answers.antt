@@ -1,5 +1,5 @@
 use Rattle.std.proofs.Common.{pos, [], ◌∷◌, refl}
-use Rattle.pe_mapping.proofs.Lawful.{all_triggered_same, leaves_same}
+use Rattle.pe_base.proofs.Lawful.{all_triggered_same, leaves_same}
 use Rattle.ledger.specs.Law.{first_erased_lawful}
 use Rattle.ledger.proofs.Quiet.{quiet_at_cells, corners-first_erased}
 use Rattle.ledger.proofs.mapping.LedgerMapping.cell_event.Goals as goal

@@ -1,5 +1,5 @@
 use Rattle.std.proofs.Common.{refl, inl, inr}
-use Rattle.pe_mapping.proofs.Lawful.{all_triggered_same, leaves_same}
+use Rattle.pe_base.proofs.Lawful.{all_triggered_same, leaves_same}
 use Rattle.ledger.proofs.Quiet.{quiet_at_vertices}
 use Rattle.ledger.proofs.mapping.LedgerMapping.vertex_event.Goals as goal
 

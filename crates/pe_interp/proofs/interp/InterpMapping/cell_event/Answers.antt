@@ -2,8 +2,8 @@ use Rattle.std.proofs.Common.{rules, ◌≡◌, ◌∙◌, sym, ap, refl}
 use Rattle.std.specs.Option.{option_copied}
 use Rattle.pe_base.specs.declared.event.Sort.TheVariants.{Cell}
 use Rattle.pe_eval.specs.Sights.{sight, globals_of}
-use Rattle.pe_mapping.specs.Sights.{cell_sight}
-use Rattle.pe_mapping.proofs.Lawful.{leaves_same}
+use Rattle.pe_stacks.specs.Sights.{cell_sight}
+use Rattle.pe_base.proofs.Lawful.{leaves_same}
 use Rattle.pe_interp.specs.Held.{fields_numbers}
 use Rattle.pe_interp.proofs.Wider.{body_fits}
 use Rattle.pe_interp.proofs.Acting.{line_fails, line_adds, event_acts}

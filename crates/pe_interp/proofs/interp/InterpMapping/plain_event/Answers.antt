@@ -2,7 +2,7 @@ use Rattle.std.proofs.Common.{rules, ◌∙◌, sym, ap, refl}
 use Rattle.std.specs.Option.{option_copied}
 use Rattle.pe_base.specs.declared.event.Sort.TheVariants.{Plain}
 use Rattle.pe_eval.specs.Sights.{sight, globals_of}
-use Rattle.pe_mapping.specs.Sights.{plain_sight}
+use Rattle.pe_base.specs.Acts.Effects.{plain_sight}
 use Rattle.pe_interp.proofs.Wider.{body_fits}
 use Rattle.pe_interp.proofs.Acting.{line_fails, line_adds, event_acts}
 use Rattle.pe_interp.proofs.interp.InterpMapping.plain_event.Goals as goal

@@ -1,4 +1,4 @@
-use Rattle.pe_mapping.proofs.Lawful.{leaves_same}
+use Rattle.pe_base.proofs.Lawful.{leaves_same}
 use Rattle.traversals.proofs.planned.PlannedMapping.cell_event.Goals as goal
 
 pub returns-in-Ok-clause-lawful : goal.returns-in-Ok-clause-lawful

@@ -1,9 +1,0 @@
-use Rattle.std.proofs.Common.{◌≡◌, ◌+◌, ◌*◌, ◌≤◌, ◌∷◌, ◌++◌, length, take, map, decimal}
-use Rattle.std.specs.List.{flat_map}
-use Rattle.pe_run.proofs.lines.add_place.Given as goal
-
--- the level, and the position on the axes so far
-abbrev pub invariant-loop-axis : goal.invariant-loop-axis
-invariant-loop-axis l =
-    (l.line ≡ l.fn.line ++ flat_map (λ part. 32 ∷ part) (decimal l.place.level ∷ map decimal (take l.axis l.place.pos)))
-    × (length l.line ≤ length l.fn.line + 21 * (l.axis + 1))

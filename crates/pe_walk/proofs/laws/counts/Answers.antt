@@ -1,9 +1,0 @@
--- The law.
-use Rattle.pe_walk.proofs.laws.counts.Goals as goal
-use Rattle.pe_walk.proofs.Derived.{counts, stands_together}
-
-pub returns-clause-counted : goal.returns-clause-counted
-returns-clause-counted c = counts
-
-pub returns-clause-together : goal.returns-clause-together
-returns-clause-together c = stands_together

@@ -1,6 +1,0 @@
--- The law.
-use Rattle.pe_walk.proofs.laws.leaf_is_corners.Goals as goal
-use Rattle.pe_walk.proofs.Derived.{leaf_is_corners}
-
-pub returns : goal.returns
-returns c = record { corners = leaf_is_corners }

@@ -1,6 +1,0 @@
--- The law.
-use Rattle.pe_walk.proofs.laws.stretches_join.Goals as goal
-use Rattle.pe_walk.proofs.Derived.{stretches_join}
-
-pub returns : goal.returns
-returns c = record { join = stretches_join }

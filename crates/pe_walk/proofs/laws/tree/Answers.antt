@@ -1,6 +1,0 @@
--- The law.
-use Rattle.pe_walk.proofs.laws.tree.Goals as goal
-use Rattle.pe_walk.proofs.Derived.{cells_of_the_tree}
-
-pub returns : goal.returns
-returns c = record { cells = cells_of_the_tree }

@@ -1,6 +1,0 @@
--- The law.
-use Rattle.pe_walk.proofs.laws.unwalked_is_empty.Goals as goal
-use Rattle.pe_walk.proofs.Derived.{unwalked_is_empty}
-
-pub returns : goal.returns
-returns c = record { empty = unwalked_is_empty }

@@ -1,6 +1,0 @@
--- The law.
-use Rattle.pe_walk.proofs.laws.walk_of_a_cell.Goals as goal
-use Rattle.pe_walk.proofs.Tokens.Traversals.{walk_of_a_cell}
-
-pub returns : goal.returns
-returns c = record { runs = walk_of_a_cell }

@@ -1,6 +1,0 @@
--- The law.
-use Rattle.pe_walk.proofs.laws.whole_traversal.Goals as goal
-use Rattle.pe_walk.proofs.Tokens.Traversals.{whole_traversal}
-
-pub returns : goal.returns
-returns c = record { runs = whole_traversal }
