@@ -120,7 +120,7 @@ impl<K: Sink> Mapping for Mill<'_, K> {
     ghost held = { λ it. record {
       plan = it.wheel;
       list = it.entered ∷ [];
-      told = record { text = K.text it.sink.now; faults = K.faults it.sink.now };
+      told = record { text = K.text it.sink.now; writes = K.writes it.sink.now; faults = K.faults it.sink.now };
       dim = it.wheel.dim;
       sure = true;
       lent = it.sink.ghost_name ∷ [];
