@@ -1,12 +1,12 @@
 -- Events that leave what they see as it is.
-use Rattle.std.proofs.Common.{◌≡◌, ℕ, ℤ, List, Ok, refl}
+use Rattle.std.proofs.Common.{◌≡◌, ℕ, ℤ, List, None, refl}
 use Rattle.pe_base.specs.declared.event.Event.{Event}
 use Rattle.pe_base.specs.declared.event.Event.TheVariants.{TouchVertexFirstTime, TouchVertexLastTime, EnterCell, EndIteration}
 use Rattle.pe_base.specs.declared.event.Sort.TheVariants.{Plain, Vertex, Cell}
 use Rattle.pe_base.specs.Acts.Events.{sort_of}
 use Rattle.pe_base.specs.Acts.Effects.{Seen, Outcome}
-use Rattle.pe_mapping.specs.Held.{Held}
-use Rattle.pe_mapping.specs.Answers.{Answers}
+use Rattle.pe_base.specs.Calls.Told.{Told}
+use Rattle.pe_base.specs.Calls.Outcomes.{IsOutcome}
 use Rattle.pe_base.proofs.Calls.Texts.{adds-nothing}
 use Rattle.bench_walk.specs.declared.sphere.Sphere.{Sphere}
 use Rattle.bench_walk.specs.declared.mill.Wheel.{Wheel}
@@ -16,8 +16,8 @@ use Rattle.bench_walk.specs.Ring as ring
 use Rattle.bench_walk.specs.Mill as mill
 
 -- an event that does nothing
-pub quiet : {Plan : Type 0} (outcome : Outcome) (held : Held Plan) (seen : Seen) → outcome ≡ leaving held.list seen → Answers outcome held held seen (Ok tt)
-quiet outcome held seen is = rw is (record { fault = refl; seen = refl; list = refl; told = adds-nothing held.told })
+pub quiet : (outcome : Outcome) (told : Told) (list : List ℤ) (seen : Seen) → outcome ≡ leaving list seen → IsOutcome outcome None told told list seen
+quiet outcome told list seen is = rw is (record { fault = refl; seen = refl; list = refl; told = adds-nothing told })
 
 pub regular_at_cells : (event : Event) (list : List ℤ) (seen : Seen) → sort_of event ≡ Cell → (event ≡ EnterCell → ⊥) → regular.effect_of event list seen ≡ leaving list seen
 regular_at_cells EnterCell list seen sort other = absurd (other refl)

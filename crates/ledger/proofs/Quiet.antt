@@ -1,5 +1,5 @@
 -- What the mapping for tests does: the corner that it erases, and the events at which it does nothing.
-use Rattle.std.proofs.Common.{◌≡◌, ℕ, ℤ, List, [], ◌∷◌, Option, None, Some, Ok, refl, sym, ap}
+use Rattle.std.proofs.Common.{◌≡◌, ℕ, ℤ, List, [], ◌∷◌, Option, None, Some, refl, sym, ap}
 use Rattle.std.specs.Option.{option_map_or}
 use Rattle.pe_base.specs.declared.event.Event.{Event}
 use Rattle.pe_base.specs.declared.event.Event.TheVariants.{TouchVertexFirstTime, EnterCell}
@@ -10,8 +10,8 @@ use Rattle.pe_base.specs.Life.States.{erased_state}
 use Rattle.pe_stacks.specs.declared.record.Vertex.{Vertex as Held_vertex}
 use Rattle.pe_stacks.specs.Corners.{CornerList, vertex_at, with_vertex}
 use Rattle.pe_stacks.specs.Sights.{seen_vertex, seen_corners}
-use Rattle.pe_mapping.specs.Held.{Held, outcome_of}
-use Rattle.pe_mapping.specs.Answers.{Answers}
+use Rattle.pe_base.specs.Calls.Told.{Told}
+use Rattle.pe_base.specs.Calls.Outcomes.{IsOutcome}
 use Rattle.ledger.specs.Effects.{nothing_done, first_erased, ledger_rules}
 use Rattle.pe_base.proofs.Calls.Texts.{adds-nothing}
 
@@ -30,26 +30,31 @@ module _ {P : Type 0} (numbers : P → List ℤ) where
     first (None ∷ places) is = absurd cc
     first (Some w ∷ places) is = ap (λ there. first_erased (seen_vertex numbers (option_map_or (λ x. x) there v) ∷ seen_corners numbers (record corners { slots = places }))) (sym is)
 
-quiet : (held : Held ℕ) (event : Event) (traversal : ℕ) (seen : Seen) → outcome_of ledger_rules held event traversal seen ≡ nothing_done held.list seen None → Answers (outcome_of ledger_rules held event traversal seen) held held seen (Ok tt)
-quiet held event traversal seen is = record {
+-- an event that does nothing
+quiet : (outcome : Outcome) (told : Told) (list : List ℤ) (seen : Seen) → outcome ≡ nothing_done list seen None → IsOutcome outcome None told told list seen
+quiet outcome told list seen is = record {
   fault = ap (λ (o : Outcome). o.fault) is;
   seen = ap (λ (o : Outcome). o.seen) is;
   list = ap (λ (o : Outcome). o.list) is;
-  told = rw is (adds-nothing held.told);
+  told = rw is (adds-nothing told);
 }
 
-nothing_at_vertices : (held : Held ℕ) (event : Event) (traversal : ℕ) (seen : Seen) → sort_of event ≡ Vertex → (event ≡ TouchVertexFirstTime → ⊥) → outcome_of ledger_rules held event traversal seen ≡ nothing_done held.list seen None
-nothing_at_vertices held TouchVertexFirstTime traversal seen sort other = absurd (other refl)
-nothing_at_vertices held EnterCell traversal seen sort other = absurd cc
-nothing_at_vertices held _ traversal seen sort other = refl
+module _ (greatest : ℕ) (told : Told) (list : List ℤ) where
+  abbrev effect : Event → ℕ → Seen → Outcome
+  effect event traversal seen = ledger_rules.effect greatest event traversal list seen
 
-pub quiet_at_vertices : (held : Held ℕ) (event : Event) (traversal : ℕ) (seen : Seen) → sort_of event ≡ Vertex → (event ≡ TouchVertexFirstTime → ⊥) → Answers (outcome_of ledger_rules held event traversal seen) held held seen (Ok tt)
-quiet_at_vertices held event traversal seen sort other = quiet held event traversal seen (nothing_at_vertices held event traversal seen sort other)
+  nothing_at_vertices : (event : Event) (traversal : ℕ) (seen : Seen) → sort_of event ≡ Vertex → (event ≡ TouchVertexFirstTime → ⊥) → effect event traversal seen ≡ nothing_done list seen None
+  nothing_at_vertices TouchVertexFirstTime traversal seen sort other = absurd (other refl)
+  nothing_at_vertices EnterCell traversal seen sort other = absurd cc
+  nothing_at_vertices _ traversal seen sort other = refl
 
-nothing_at_cells : (held : Held ℕ) (event : Event) (traversal : ℕ) (seen : Seen) → sort_of event ≡ Cell → (event ≡ EnterCell → ⊥) → outcome_of ledger_rules held event traversal seen ≡ nothing_done held.list seen None
-nothing_at_cells held EnterCell traversal seen sort other = absurd (other refl)
-nothing_at_cells held TouchVertexFirstTime traversal seen sort other = absurd cc
-nothing_at_cells held _ traversal seen sort other = refl
+  pub quiet_at_vertices : (event : Event) (traversal : ℕ) (seen : Seen) → sort_of event ≡ Vertex → (event ≡ TouchVertexFirstTime → ⊥) → IsOutcome (effect event traversal seen) None told told list seen
+  quiet_at_vertices event traversal seen sort other = quiet (effect event traversal seen) told list seen (nothing_at_vertices event traversal seen sort other)
 
-pub quiet_at_cells : (held : Held ℕ) (event : Event) (traversal : ℕ) (seen : Seen) → sort_of event ≡ Cell → (event ≡ EnterCell → ⊥) → Answers (outcome_of ledger_rules held event traversal seen) held held seen (Ok tt)
-quiet_at_cells held event traversal seen sort other = quiet held event traversal seen (nothing_at_cells held event traversal seen sort other)
+  nothing_at_cells : (event : Event) (traversal : ℕ) (seen : Seen) → sort_of event ≡ Cell → (event ≡ EnterCell → ⊥) → effect event traversal seen ≡ nothing_done list seen None
+  nothing_at_cells EnterCell traversal seen sort other = absurd (other refl)
+  nothing_at_cells TouchVertexFirstTime traversal seen sort other = absurd cc
+  nothing_at_cells _ traversal seen sort other = refl
+
+  pub quiet_at_cells : (event : Event) (traversal : ℕ) (seen : Seen) → sort_of event ≡ Cell → (event ≡ EnterCell → ⊥) → IsOutcome (effect event traversal seen) None told told list seen
+  quiet_at_cells event traversal seen sort other = quiet (effect event traversal seen) told list seen (nothing_at_cells event traversal seen sort other)

@@ -3,4 +3,4 @@
 -- a body that fits a scenario fits what an event lends
 pub mod Wider
 -- a trace line, and then what a body does
-pub mod Acting
+pub mod Outcomes

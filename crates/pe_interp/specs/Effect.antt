@@ -8,9 +8,10 @@ use Rattle.pe_base.specs.declared.place.Place.{Place}
 use Rattle.pe_base.specs.Acts.Events.{sort_of}
 use Rattle.pe_base.specs.Acts.Payloads.{zeros}
 use Rattle.pe_base.specs.Acts.Effects.{Seen, Outcome, Rules, rules_through}
+use Rattle.pe_base.specs.Acts.Outcomes.{fine, after_text}
 use Rattle.pe_base.specs.Lines.{line_by}
 use Rattle.pe_check.specs.declared.checked.Stmt.{Stmt}
-use Rattle.pe_eval.specs.Meaning.{Setting, fine, behind, meaning}
+use Rattle.pe_eval.specs.Meaning.{Setting, meaning}
 use Rattle.pe_scene.specs.declared.scenario.Scenario.{Scenario}
 use Rattle.pe_scene.specs.Bodies.{body_at}
 use Rattle.pe_scene.specs.Said.{Said}
@@ -35,7 +36,7 @@ acted (Some body) setting seen list = meaning body setting seen list
 
 abbrev pub effect_of : Said → Event → ℕ → List ℤ → Seen → Outcome
 effect_of said event traversal list seen =
-    behind (trace_line said event traversal seen.place) (acted (body_at said.bodies event) (setting_at said event traversal) seen list)
+    after_text (trace_line said event traversal seen.place) (acted (body_at said.bodies event) (setting_at said event traversal) seen list)
 
 -- the rules of what a scenario says: what is fresh has zeros, and making it changes nothing
 abbrev pub said_rules : Rules Said

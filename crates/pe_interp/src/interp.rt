@@ -1,9 +1,9 @@
 ghost use Rattle.std.specs.Prelude.{◌≡◌};
 ghost use Rattle.pe_interp.specs.Held.{held_of};
 
-use crate::lines::write_trace;
+use crate::acting::act;
 use pe_base::{Effects, Event, Fields, Place, Stop};
-use pe_eval::{View, eval};
+use pe_eval::View;
 use pe_io::Sink;
 use pe_mapping::Mapping;
 use pe_scene::Scenario;
@@ -68,11 +68,12 @@ impl<K: Sink> Mapping for Interp<'_, K> {
 
     type C = Fields;
 
-    ghost use Rattle.pe_interp.specs.Held.{fields_numbers, held_of};
+    ghost use Rattle.pe_stacks.specs.Sights.{fields_numbers};
+    ghost use Rattle.pe_interp.specs.Held.{held_of};
 
     ghost numbers = { fields_numbers };
 
-    ghost held = { held_of K.text K.faults };
+    ghost held = { held_of K.text K.writes K.faults };
 
     fn fresh_v(&mut self) -> Result<Fields, AllocError> {
         Ok(Fields::zero())
@@ -83,30 +84,21 @@ impl<K: Sink> Mapping for Interp<'_, K> {
     }
 
     fn plain_event(&mut self, event: Event, traversal: u64) -> Result<(), Stop> {
-        let scenario = self.scenario;
-        match write_trace(scenario, event, traversal, &ROOT, self.sink) {
-            Ok(()) => {}
-            Err(_) => return Err(Stop::Sink),
+        let mut numbers = self.globals;
+        let mut view = View::Plain {
+            t: traversal,
+            globals: &mut numbers,
+        };
+        let answer = act(self.scenario, event, traversal, &ROOT, &mut view, self.sink);
+        match view {
+            View::Plain {
+                globals: _globals,
+                ..
+            } => {}
+            View::Vertex { .. } | View::Cell { .. } => unreachable!(),
         }
-        match scenario.bodies.of(event) {
-            Some(body) => {
-                let mut numbers = self.globals;
-                let mut view = View::Plain {
-                    t: traversal,
-                    globals: &mut numbers,
-                };
-                let answer = eval(body, &mut view, self.sink);
-                match view {
-                    View::Plain { globals, .. } => {
-                        let _ = globals;
-                    }
-                    View::Vertex { .. } | View::Cell { .. } => unreachable!(),
-                }
-                self.globals = numbers;
-                answer
-            }
-            None => Ok(()),
-        }
+        self.globals = numbers;
+        answer
     }
 
     fn vertex_event(
@@ -118,44 +110,29 @@ impl<K: Sink> Mapping for Interp<'_, K> {
         parents: &mut Corners<Fields>,
         parent: &mut CellRec<Fields>,
     ) -> Result<(), Stop> {
-        let scenario = self.scenario;
-        match write_trace(scenario, event, traversal, at, self.sink) {
-            Ok(()) => {}
-            Err(_) => return Err(Stop::Sink),
+        let mut numbers = self.globals;
+        let mut view = View::Vertex {
+            t: traversal,
+            max_level: self.scenario.setup.max_level,
+            at: *at,
+            globals: &mut numbers,
+            vertex,
+            parents,
+            parent,
+        };
+        let answer = act(self.scenario, event, traversal, at, &mut view, self.sink);
+        match view {
+            View::Vertex {
+                globals: _globals,
+                vertex: _vertex,
+                parents: _parents,
+                parent: _parent,
+                ..
+            } => {}
+            View::Plain { .. } | View::Cell { .. } => unreachable!(),
         }
-        match scenario.bodies.of(event) {
-            Some(body) => {
-                let mut numbers = self.globals;
-                let mut view = View::Vertex {
-                    t: traversal,
-                    max_level: scenario.setup.max_level,
-                    at: *at,
-                    globals: &mut numbers,
-                    vertex,
-                    parents,
-                    parent,
-                };
-                let answer = eval(body, &mut view, self.sink);
-                match view {
-                    View::Vertex {
-                        globals,
-                        vertex,
-                        parents,
-                        parent,
-                        ..
-                    } => {
-                        let _ = globals;
-                        let _ = vertex;
-                        let _ = parents;
-                        let _ = parent;
-                    }
-                    View::Plain { .. } | View::Cell { .. } => unreachable!(),
-                }
-                self.globals = numbers;
-                answer
-            }
-            None => Ok(()),
-        }
+        self.globals = numbers;
+        answer
     }
 
     fn cell_event(
@@ -168,46 +145,30 @@ impl<K: Sink> Mapping for Interp<'_, K> {
         parents: &mut Corners<Fields>,
         parent: &mut CellRec<Fields>,
     ) -> Result<(), Stop> {
-        let scenario = self.scenario;
-        match write_trace(scenario, event, traversal, at, self.sink) {
-            Ok(()) => {}
-            Err(_) => return Err(Stop::Sink),
+        let mut numbers = self.globals;
+        let mut view = View::Cell {
+            t: traversal,
+            max_level: self.scenario.setup.max_level,
+            at: *at,
+            globals: &mut numbers,
+            cell,
+            corners,
+            parents,
+            parent,
+        };
+        let answer = act(self.scenario, event, traversal, at, &mut view, self.sink);
+        match view {
+            View::Cell {
+                globals: _globals,
+                cell: _cell,
+                corners: _corners,
+                parents: _parents,
+                parent: _parent,
+                ..
+            } => {}
+            View::Plain { .. } | View::Vertex { .. } => unreachable!(),
         }
-        match scenario.bodies.of(event) {
-            Some(body) => {
-                let mut numbers = self.globals;
-                let mut view = View::Cell {
-                    t: traversal,
-                    max_level: scenario.setup.max_level,
-                    at: *at,
-                    globals: &mut numbers,
-                    cell,
-                    corners,
-                    parents,
-                    parent,
-                };
-                let answer = eval(body, &mut view, self.sink);
-                match view {
-                    View::Cell {
-                        globals,
-                        cell,
-                        corners,
-                        parents,
-                        parent,
-                        ..
-                    } => {
-                        let _ = globals;
-                        let _ = cell;
-                        let _ = corners;
-                        let _ = parents;
-                        let _ = parent;
-                    }
-                    View::Plain { .. } | View::Vertex { .. } => unreachable!(),
-                }
-                self.globals = numbers;
-                answer
-            }
-            None => Ok(()),
-        }
+        self.globals = numbers;
+        answer
     }
 }

@@ -1,10 +1,9 @@
 //! The trace lines of events.
-ghost use Rattle.std.specs.Prelude.{◌≡◌, ◌≤◌, [], ◌∷◌, ◌++◌, OnOk, OnErr};
+ghost use Rattle.std.specs.Prelude.{◌≡◌, [], ◌∷◌, ◌++◌};
 ghost use Rattle.pe_base.specs.Acts.Events.{sort_of};
-ghost use Rattle.pe_base.specs.Lines.{line_by, place_line};
-ghost use Rattle.pe_base.specs.Calls.Counters.{Rises};
-ghost use Rattle.pe_base.specs.Calls.Told.{Appends};
-ghost use Rattle.pe_io.specs.Sink.{AppendsPrefix};
+ghost use Rattle.pe_base.specs.Lines.{line_by};
+ghost use Rattle.pe_base.specs.Calls.Told.{Tells};
+ghost use Rattle.pe_io.specs.Sink.{told_by};
 ghost use Rattle.pe_scene.specs.SaidView.{said_of};
 ghost use Rattle.pe_interp.specs.Effect.{trace_line};
 
@@ -20,10 +19,8 @@ pub(crate) fn write_trace<K: Sink>(
     place: &Place,
     sink: &mut K,
 ) -> Result<(), SinkFailed>
-    ensures ok { OnOk result (Appends (K.text sink.old) (trace_line (said_of scenario.now) event traversal place.now) (K.text sink.new)) }
-    ensures err { OnErr result (AppendsPrefix (K.text sink.old) (trace_line (said_of scenario.now) event traversal place.now) (K.text sink.new)) }
-    ensures faults { K.faults sink.old ≤ K.faults sink.new }
-    ensures failed { OnErr result (Rises (K.faults sink.old) (K.faults sink.new)) }
+    ensures told { Tells (trace_line (said_of scenario.now) event traversal place.now)
+        (told_by K.text K.writes K.faults sink.old) (told_by K.text K.writes K.faults sink.new) result }
 {
     if scenario.trace.has(event) {
         trace_words(scenario.setup.dim, event, traversal, place).end(sink)
@@ -37,24 +34,10 @@ pub(crate) fn write_trace<K: Sink>(
 fn trace_words(dim: Dim, event: Event, traversal: u64, place: &Place) -> Line
     ensures { result ++ 10 ∷ [] ≡ line_by (sort_of event) dim event traversal place.now }
 {
-    match event.sort() {
-        Sort::Plain => {
-            let mut line = Line::of(event.name());
-            line.number(traversal);
-            line
-        }
-        Sort::Vertex | Sort::Cell => place_words(dim, event, place),
-    }
-}
-
-// The trace line of an event at a place, without its line feed.
-fn place_words(dim: Dim, event: Event, place: &Place) -> Line
-    ensures { result ++ 10 ∷ [] ≡ place_line dim event place.now }
-{
     let mut line = Line::of(event.name());
-    line.number(place.level as u64);
-    for axis in 0..dim.axes() as usize {
-        line.number(place.pos[axis]);
+    match event.sort() {
+        Sort::Plain => line.number(traversal),
+        Sort::Vertex | Sort::Cell => line.place(dim, place),
     }
     line
 }

@@ -13,7 +13,7 @@ use Rattle.pe_stacks.proofs.Raising.{within_new}
 use Rattle.pe_mapping.specs.Held.{Held}
 use Rattle.pe_scene.specs.declared.scenario.Scenario.{Scenario}
 use Rattle.pe_scene.specs.SaidView.{said_of}
-use Rattle.pe_interp.specs.Held.{fields_numbers}
+use Rattle.pe_stacks.specs.Sights.{fields_numbers}
 use Rattle.pe_walk.specs.Traversing.{most_rise, MayTraverse, HoldsNothing}
 use Rattle.pe_walk.proofs.Beginnings.{may_begin}
 use Rattle.pe_run.specs.declared.traversals.Between.{Between}

@@ -25,7 +25,7 @@ use Rattle.pe_adapt.specs.Stops.{failure_of}
 use Rattle.pe_scene.specs.declared.scenario.Scenario.{Scenario}
 use Rattle.pe_scene.specs.SaidView.{said_of}
 use Rattle.pe_interp.specs.Effect.{said_rules, scenario_rules}
-use Rattle.pe_interp.specs.Held.{fields_numbers}
+use Rattle.pe_stacks.specs.Sights.{fields_numbers}
 use Rattle.pe_walk.specs.Gridded.{HoldsGrid}
 use Rattle.pe_walk.specs.InHand.{machine_between}
 use Rattle.pe_order.specs.Outlooks.{IsNew, outlook}

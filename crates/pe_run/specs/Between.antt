@@ -14,7 +14,7 @@ use Rattle.pe_stacks.specs.Holdings.{Holdings, CountsWithin}
 use Rattle.pe_base.specs.Calls.Told.{Told, Adds, AddsPart, FailsToTell}
 use Rattle.pe_base.specs.Calls.Follows.{Failure, halted, unwritten, wanting, unheard_of}
 use Rattle.pe_scene.specs.Said.{Said}
-use Rattle.pe_interp.specs.Held.{fields_numbers}
+use Rattle.pe_stacks.specs.Sights.{fields_numbers}
 use Rattle.pe_walk.specs.Gridded.{HoldsGrid}
 use Rattle.pe_walk.specs.InHand.{machine_between}
 use Rattle.pe_order.specs.Outlooks.{IsNew}

@@ -1,4 +1,5 @@
 ghost use Rattle.std.specs.Prelude.{◌≡◌, ◌+◌, ◌^◌, ◌<◌, ◌≤◌, is_err, IfOk};
+ghost use Rattle.pe_base.specs.Limits.{most_traversals};
 ghost use Rattle.pe_base.specs.Walk.Grids.{Grid as AGrid};
 ghost use Rattle.pe_base.specs.Walk.Walk.{traverse};
 ghost use Rattle.pe_stacks.specs.Holdings.{CountsWithin};
@@ -36,7 +37,7 @@ pub fn traverse<M: Mapping, DV: Depot<Vertex<M::V>>, DC: Depot<CellRec<M::C>>>(
     requires dim { (M.held m.old).dim ≡ setup.now.dim }
     requires axes { grid.dim ≡ setup.now.dim }
     requires greatest { max_level M.rules (M.held m.old) ≡ setup.now.max_level }
-    requires finished { grid.finished < 1000000000 }
+    requires finished { grid.finished < most_traversals }
     requires counts { CountsWithin (DV.holds dv.old) (2 ^ 60) }
     requires cell_counts { CountsWithin (DC.holds dc.old) (2 ^ 60) }
     requires grid { HoldAGrid M.numbers (M.held m.old) setup.now.max_level (record { vertices = DV.holds dv.old; cells = DC.holds dc.old }) grid }

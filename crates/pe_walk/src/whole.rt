@@ -1,5 +1,6 @@
 // A whole traversal of the grid that depots hold.
 ghost use Rattle.std.specs.Prelude.{◌≡◌, ◌+◌, ◌^◌, ◌<◌, ◌≤◌, is_err, IfOk};
+ghost use Rattle.pe_base.specs.Limits.{most_traversals};
 ghost use Rattle.pe_base.specs.Walk.Working.{no_tally};
 ghost use Rattle.pe_stacks.specs.Holdings.{CountsWithin};
 ghost use Rattle.pe_mapping.specs.Held.{Keeps, found_of};
@@ -21,7 +22,7 @@ use pe_stacks::{CellRec, Depot, Grid, Vertex};
 
 // What is set for the traversal of a grid that comes next.
 fn settings_of<C>(grid: &Grid<C>, setup: &Setup) -> Settings
-    requires finished { grid.now.finished < 1000000000 }
+    requires finished { grid.now.finished < most_traversals }
     ensures setup { result.setup ≡ setup.now }
     ensures traversal { result.traversal ≡ grid.now.finished + 1 }
     ensures ports { ports_in result ≡ ports_of grid.now.swapped }
@@ -58,7 +59,7 @@ pub(crate) fn traverse_stacks<M: Mapping, DV: Depot<Vertex<M::V>>, DC: Depot<Cel
     dc: &mut DC,
 ) -> Result<(Grid<M::C>, Tally), WalkStop>
     requires dim { (M.held m.old).dim ≡ setup.now.dim }
-    requires finished { grid.finished < 1000000000 }
+    requires finished { grid.finished < most_traversals }
     requires cell_counts { CountsWithin (DC.holds dc.old) (2 ^ 60) }
     requires fits { Fits
         (traverse (setting_of M.rules (M.held m.old) setup.now.start_level setup.now.max_cells (grid.finished + 1)) (ports_of grid.swapped) setup.now.max_level

@@ -1,5 +1,6 @@
 -- Traversals of the machine for the worked rows.
 use Rattle.std.specs.Prelude.{ℕ, Bool, true, false, List, [], ◌∷◌, map}
+use Rattle.pe_base.specs.Limits.{most_cells}
 use Rattle.pe_base.specs.Lines.{tally_line}
 use Rattle.pe_base.specs.Walk.Course.{Course, Ending, done, halts, stuck, and_then}
 use Rattle.pe_base.specs.Walk.Working.{no_tally}
@@ -24,7 +25,7 @@ new_machine = record {
 -- the first two traversals of a trial
 abbrev pub nth : Trial → ℕ → Bool → Machine → Course Machine
 nth trial traversal swapped m =
-    and_then (traverse (record (trial_setting trial 1 4194304) { traversal = traversal }) (ports_of swapped) trial.greatest (record m { tally = no_tally traversal }))
+    and_then (traverse (record (trial_setting trial 1 most_cells) { traversal = traversal }) (ports_of swapped) trial.greatest (record m { tally = no_tally traversal }))
     (λ m. record { text = tally_line m.tally; log = []; ending = done m })
 
 abbrev pub twice : Trial → Course Machine

@@ -8,7 +8,8 @@ use Rattle.pe_base.specs.declared.event.Event.{Event}
 use Rattle.pe_base.specs.declared.event.Event.TheVariants.{TouchVertexFirstTime, EnterCell}
 use Rattle.pe_base.specs.Life.States.{refined_state, erased_state}
 use Rattle.pe_base.specs.Acts.Events.{number_of, sort_of, is_among}
-use Rattle.pe_base.specs.Acts.Effects.{VertexRecord, Seen, Outcome, Rules}
+use Rattle.pe_base.specs.Acts.Effects.{SeenVertex, Seen, Outcome, Rules}
+use Rattle.pe_base.specs.Limits.{most_cells}
 use Rattle.pe_base.specs.Lines.{line_by}
 use Rattle.pe_base.specs.Walk.Maps.{at}
 use Rattle.pe_base.specs.Walk.Course.{Ending, done, halts, stuck}
@@ -26,7 +27,7 @@ pub record Trial : Type 0 where
 
 module _ (trial : Trial) where
   -- a vertex at the event of triggers
-  abbrev pub triggered : ℕ → Place → VertexRecord → VertexRecord
+  abbrev pub triggered : ℕ → Place → SeenVertex → SeenVertex
   triggered t place vertex =
       let refined = if trial.refines t place then refined_state place.level trial.greatest vertex.kind vertex.state else vertex.state in
       record vertex { state = if trial.erases t place then erased_state vertex.kind refined else refined }
@@ -93,7 +94,7 @@ in_plane greatest refines erases =
 
 -- its run with one refinement at the start, and no limit of cells that it meets
 abbrev pub text_of : Trial → ℕ → List ℕ
-text_of trial count = (trial_run trial 1 4194304 count).text
+text_of trial count = (trial_run trial 1 most_cells count).text
 
 -- lines one behind the other
 abbrev pub joined : List (List ℕ) → List ℕ
@@ -105,7 +106,7 @@ abbrev pub one_more : List ℤ → List ℤ
 one_more [] = []
 one_more (n ∷ ns) = (n +ℤ pos 1) ∷ ns
 
-abbrev pub counted_vertex : VertexRecord → VertexRecord
+abbrev pub counted_vertex : SeenVertex → SeenVertex
 counted_vertex vertex = record vertex { numbers = one_more vertex.numbers }
 
 abbrev pub counted : Event → Seen → Seen
@@ -127,7 +128,7 @@ counting_rules = record {
 -- some traversals of it from the first on
 abbrev pub counting_run : Trial → ℕ → Traversals
 counting_run trial count =
-    traversals (record (trial_setting trial 1 4194304) { rules = counting_rules }) count (new_grid trial.axes trial.greatest (pos 0 ∷ []) (pos 0 ∷ []))
+    traversals (record (trial_setting trial 1 most_cells) { rules = counting_rules }) count (new_grid trial.axes trial.greatest (pos 0 ∷ []) (pos 0 ∷ []))
 
 -- what a run that is done leaves of a vertex, of a cell, of the root and of the list
 abbrev pub left_by : Place → Place → Ending Grid → Option (Option StoredVertex × Option (List ℤ) × List ℤ × List ℤ)
@@ -137,7 +138,7 @@ left_by vertex cell stuck = None
 
 -- the first traversals of a plane that is refined down to a level at once
 abbrev pub text_of_start : ℕ → ℕ → List ℕ
-text_of_start start_level count = (trial_run (quiet 2 5 []) start_level 4194304 count).text
+text_of_start start_level count = (trial_run (quiet 2 5 []) start_level most_cells count).text
 
 -- how many lines a run adds, the last bytes of its text, and how it ends
 abbrev pub last_line : ℕ → Traversals → ℕ × List ℕ × Ending Grid

@@ -13,7 +13,7 @@ pub returns-in-Err-clause-lawful : goal.returns-in-Err-clause-lawful
 returns-in-Err-clause-lawful g c = record { place = refl; vertex = tt; cell = tt; corners = all_triggered_same _ _ _; parents = all_triggered_same _ _ _ }
 
 pub returns-in_default-clause-answer : goal.returns-in_default-clause-answer
-returns-in_default-clause-answer g c = quiet _ _ _ (mill_at_cells c.args.self.now.wheel c.args.event c.args._traversal _ _ c.requires.sort c.in_default.not-EnterCell)
+returns-in_default-clause-answer g c = quiet _ _ _ _ (mill_at_cells c.args.self.now.wheel c.args.event c.args._traversal _ _ c.requires.sort c.in_default.not-EnterCell)
 
 pub returns-in_default-clause-lawful : goal.returns-in_default-clause-lawful
 returns-in_default-clause-lawful g c = leaves_same _ _

@@ -18,7 +18,7 @@ pub returns-in-Err-clause-lawful : goal.returns-in-Err-clause-lawful
 returns-in-Err-clause-lawful g c = record { place = refl; vertex = record { kind = refl; state = inl refl }; cell = tt; corners = tt; parents = all_triggered_same _ _ _ }
 
 pub returns-in_default-clause-answer : goal.returns-in_default-clause-answer
-returns-in_default-clause-answer g c = quiet _ _ _ (mill_at_vertices c.args.self.now.wheel c.args.event c.args.traversal _ _ c.requires.sort c.in_default.not-TouchVertexLastTime)
+returns-in_default-clause-answer g c = quiet _ _ _ _ (mill_at_vertices c.args.self.now.wheel c.args.event c.args.traversal _ _ c.requires.sort c.in_default.not-TouchVertexLastTime)
 
 pub returns-in_default-clause-lawful : goal.returns-in_default-clause-lawful
 returns-in_default-clause-lawful g c = leaves_same _ _

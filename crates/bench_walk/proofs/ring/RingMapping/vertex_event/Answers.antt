@@ -14,7 +14,7 @@ returns-in-TouchVertexFirstTime-clause-lawful c = record {
 }
 
 pub returns-in_default-clause-answer : goal.returns-in_default-clause-answer
-returns-in_default-clause-answer c = quiet _ _ _ (ring_at_vertices c.args.self.now.sphere c.args.event c.args.traversal _ _ c.requires.sort c.in_default.not-TouchVertexFirstTime)
+returns-in_default-clause-answer c = quiet _ _ _ _ (ring_at_vertices c.args.self.now.sphere c.args.event c.args.traversal _ _ c.requires.sort c.in_default.not-TouchVertexFirstTime)
 
 pub returns-in_default-clause-lawful : goal.returns-in_default-clause-lawful
 returns-in_default-clause-lawful c = leaves_same _ _

@@ -16,7 +16,7 @@ returns-in-EnterCell-clause-lawful c =
     }
 
 pub returns-in_default-clause-answer : goal.returns-in_default-clause-answer
-returns-in_default-clause-answer c = quiet_at_cells _ c.args.event c.args._traversal _ c.requires.sort c.in_default.not-EnterCell
+returns-in_default-clause-answer c = quiet_at_cells _ _ _ c.args.event c.args._traversal _ c.requires.sort c.in_default.not-EnterCell
 
 pub returns-in_default-clause-lawful : goal.returns-in_default-clause-lawful
 returns-in_default-clause-lawful c = leaves_same _ _

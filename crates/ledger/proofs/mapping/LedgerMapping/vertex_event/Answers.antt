@@ -16,7 +16,7 @@ returns-in-Some-clause-lawful c = record {
 }
 
 pub returns-in_default-clause-answer : goal.returns-in_default-clause-answer
-returns-in_default-clause-answer c = quiet_at_vertices _ c.args.event c.args._traversal _ c.requires.sort c.in_default.not-TouchVertexFirstTime
+returns-in_default-clause-answer c = quiet_at_vertices _ _ _ c.args.event c.args._traversal _ c.requires.sort c.in_default.not-TouchVertexFirstTime
 
 pub returns-in_default-clause-lawful : goal.returns-in_default-clause-lawful
 returns-in_default-clause-lawful c = leaves_same _ _
