@@ -56,3 +56,5 @@ pub mod CornerLaw
 pub mod FaceLaw
 -- the children of the root may be walked one after another
 pub mod FirstCells
+-- and those of each cell that is entered
+pub mod InnerCells

@@ -11,7 +11,7 @@ ghost use Rattle.pe_walk.specs.CoreKeeps.{CoreKeeps};
 ghost use Rattle.pe_walk.specs.Standing.{KindsAreFound};
 ghost use Rattle.pe_walk.specs.Gridded.{StacksAreAddresses};
 ghost use Rattle.pe_walk.specs.CornerLaw.{LoadOfACorner, StoreOfACorner};
-ghost use Rattle.pe_walk.specs.FaceLaw.{LawOfAFace, CellsAreExact, FirstCellMayBeWalked, NextCellMayBeWalked};
+ghost use Rattle.pe_walk.specs.FaceLaw.{LawOfAFace, CellsAreExact, FirstCellMayBeWalked, FirstChildMayBeWalked, NextCellMayBeWalked};
 ghost use Rattle.pe_walk.specs.Traversing.{CountsStay};
 ghost use Rattle.pe_walk.specs.TraversalTraffic.{TallyIsForeseen, TraversalsAreExact};
 
@@ -58,10 +58,12 @@ pub fn cells_are_exact<E: Effects>()
     ensures exact { CellsAreExact E.Plan }
 {}
 
-/// Where a traversal may begin and its first event is done, the first child of the root may be walked by `walk_cell`; and once
-/// a child was walked, so may the next.
+/// Where a traversal may begin and its first event is done, the first child of the root may be walked by `walk_cell`. So may the
+/// first child of a cell of any level, once the cell was entered where it may be walked; and at every level, once a child was
+/// walked, so may the next.
 pub fn cells_in_turn<E: Effects>()
     ensures first { FirstCellMayBeWalked E.Plan }
+    ensures below { FirstChildMayBeWalked E.Plan }
     ensures next { NextCellMayBeWalked E.Plan }
 {}
 
