@@ -70,7 +70,7 @@ fn walked_cell(
 /// earlier cells, and on the input stacks the vertices and cells that it reads. `parents` and `parent` are the corners and the
 /// record of the cell's parent, `digits` the cell's digits there, and `state` is its state in the way of this traversal.
 /// Afterwards what arrived and was read is gone. What leaves the cell at its faces to later cells lies on their stacks, what
-/// it writes on the output stacks, and all beneath is as it was. All values are those of the walk by address. The tally counts
+/// it writes on the output stacks, and all beneath is as it was, each vertex there with its values. All values are those of the walk by address. The tally counts
 /// on, and each stack has moved just what the loads and stores within the cell ask for.
 ///
 /// It ends as `traverse` does: with `Event`, `CellLimit` or `Memory`. After an error nothing of the cell stays out.
