@@ -16,7 +16,13 @@ ghost use Rattle.pe_walk.specs.TraversalTraffic.{TallyIsForeseen, TraversalsAreE
 
 pub use crate::face::walk_cell;
 use pe_base::Effects;
-pub use pe_order::laws::{beneath_untouched, cells_are_few, cells_stand_apart, composition, corners_on_stacks, counts, faces_are_one_way, first_and_last, grids_fit, leaf_is_corners, loads_are_due, moves_and_frames, neighbours_agree, places_stand_apart, stacks_are_short, steps, streams_are_one, streams_of_grids, stretches_join, tallies, traffic, tree, turning_round, unwalked_is_empty, walk_of_a_cell, whole_traversal};
+pub use pe_order::laws::{
+    beneath_untouched, cells_are_few, cells_stand_apart, composition, corners_on_stacks, counts,
+    faces_are_one_way, first_and_last, grids_fit, leaf_is_corners, loads_are_due, moves_and_frames,
+    neighbours_agree, places_stand_apart, stacks_are_short, steps, streams_are_one,
+    streams_of_grids, stretches_join, tallies, traffic, tree, turning_round, unwalked_is_empty,
+    walk_of_a_cell, whole_traversal,
+};
 
 /// The core of a walk keeps kinds, and old and new, of all that its events see, by the law of effects.
 pub fn core_keeps<E: Effects>()
