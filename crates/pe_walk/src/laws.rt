@@ -10,7 +10,8 @@
 ghost use Rattle.pe_walk.specs.CoreKeeps.{CoreKeeps};
 ghost use Rattle.pe_walk.specs.Standing.{KindsAreFound};
 ghost use Rattle.pe_walk.specs.Gridded.{StacksAreAddresses};
-ghost use Rattle.pe_walk.specs.FaceLaw.{LawOfAFace, CellsAreExact, FirstCellMayBeWalked, NextCellMayBeWalked};
+ghost use Rattle.pe_walk.specs.CornerLaw.{LoadOfACorner, StoreOfACorner};
+ghost use Rattle.pe_walk.specs.FaceLaw.{LawOfAFace, CellsAreExact, FirstCellMayBeWalked, FirstChildMayBeWalked, NextCellMayBeWalked};
 ghost use Rattle.pe_walk.specs.Traversing.{CountsStay};
 ghost use Rattle.pe_walk.specs.TraversalTraffic.{TallyIsForeseen, TraversalsAreExact};
 
@@ -34,6 +35,17 @@ pub fn kinds_are_found<E: Effects>()
     ensures found { KindsAreFound E.Plan }
 {}
 
+/// A corner is loaded by the machine of lists as by address, where the stack that the order around it names has it on top. So
+/// its record is the one under its address, and no stack has grown.
+pub fn load_of_a_corner<E: Effects>()
+    ensures same { LoadOfACorner E.Plan }
+{}
+
+/// A corner is stored by the machine of lists as by address: on top of the stack that the order around it names.
+pub fn store_of_a_corner<E: Effects>()
+    ensures same { StoreOfACorner E.Plan }
+{}
+
 /// The walk of a cell of the machine of lists adds the text of the walk by address and ends alike: what it takes was on top of
 /// each stack, what it gives is, and all beneath is as it was. Each push leaves its stack short.
 pub fn law_of_a_face<E: Effects>()
@@ -46,10 +58,12 @@ pub fn cells_are_exact<E: Effects>()
     ensures exact { CellsAreExact E.Plan }
 {}
 
-/// Where a traversal may begin and its first event is done, the first child of the root may be walked by `walk_cell`; and once
-/// a child was walked, so may the next.
+/// Where a traversal may begin and its first event is done, the first child of the root may be walked by `walk_cell`. So may the
+/// first child of a cell of any level, once the cell was entered where it may be walked; and at every level, once a child was
+/// walked, so may the next.
 pub fn cells_in_turn<E: Effects>()
     ensures first { FirstCellMayBeWalked E.Plan }
+    ensures below { FirstChildMayBeWalked E.Plan }
     ensures next { NextCellMayBeWalked E.Plan }
 {}
 
