@@ -1,6 +1,6 @@
 //! The events of a mill in the plane as functions.
 ghost use Rattle.std.specs.Prelude.{◌≤◌, ◌^◌};
-ghost use Rattle.pe_eval.specs.Sights.{IsBelowRoot};
+ghost use Rattle.pe_base.specs.Acts.Moments.{IsBelowRoot};
 
 use pe_base::{Fields, Place, Stop};
 use pe_io::{Line, Sink};

@@ -3,7 +3,8 @@ ghost use Rattle.std.specs.Prelude.{◌≡◌, IsTrue};
 ghost use Rattle.pe_stacks.specs.Corners.{IsFull};
 ghost use Rattle.pe_check.specs.Fits.{fits};
 ghost use Rattle.pe_base.specs.declared.event.Event.TheVariants as event;
-ghost use Rattle.pe_eval.specs.Sights.{frame, reach_of, IsTraversal, IsBelowRoot, IsReady};
+ghost use Rattle.pe_base.specs.Acts.Moments.{IsTraversal, IsBelowRoot};
+ghost use Rattle.pe_eval.specs.Sights.{frame, reach_of, IsReady};
 ghost use Rattle.bench_eval.specs.Mill.{reach_at};
 
 use crate::functions::{end, enter, touch};

@@ -10,5 +10,3 @@ pub mod Entering
 pub mod Quiet
 -- lengths that fit
 pub mod Lengths
--- a line at which the sink failed
-pub mod Failing

@@ -1,8 +1,7 @@
 ghost use Rattle.std.specs.Prelude.{◌≡◌, ◌+◌, ◌≤◌, [], ◌∷◌, Ok, Err, OnOk, OnErr, if◌then◌else◌};
 ghost use Rattle.pe_base.specs.declared.stop.Stop.TheVariants.{Overflow};
-ghost use Rattle.pe_base.specs.Calls.Counters.{Rises};
-ghost use Rattle.pe_base.specs.Calls.Told.{Appends};
-ghost use Rattle.pe_io.specs.Sink.{AppendsPrefix};
+ghost use Rattle.pe_base.specs.Calls.Told.{Tells};
+ghost use Rattle.pe_io.specs.Sink.{told_by};
 ghost use Rattle.pe_base.specs.Acts.Moments.{IsTraversal, IsBelowRoot};
 ghost use Rattle.bench_walk.specs.Mill.{is_last, raised, entered_line, sum_of, erased_by, refined_by};
 
@@ -48,10 +47,7 @@ impl<'a, K: Sink> Mill<'a, K> {
 
 // Prints how many cells were entered up to a traversal.
 fn print_entered<K: Sink>(traversal: u64, entered: i64, sink: &mut K) -> Result<(), SinkFailed>
-    ensures ok { OnOk result (Appends (K.text sink.old) (entered_line traversal (entered ∷ [])) (K.text sink.new)) }
-    ensures err { OnErr result (AppendsPrefix (K.text sink.old) (entered_line traversal (entered ∷ [])) (K.text sink.new)) }
-    ensures faults { K.faults sink.old ≤ K.faults sink.new }
-    ensures failed { OnErr result (Rises (K.faults sink.old) (K.faults sink.new)) }
+    ensures told { Tells (entered_line traversal (entered ∷ [])) (told_by K.text K.writes K.faults sink.old) (told_by K.text K.writes K.faults sink.new) result }
 {
     let mut line = Line::of("print");
     line.number(traversal);
@@ -114,13 +110,14 @@ impl<K: Sink> Mapping for Mill<'_, K> {
 
     ghost use Rattle.std.specs.Prelude.{true};
     ghost use Rattle.bench_walk.specs.Counting.{fields_numbers};
+    ghost use Rattle.pe_io.specs.Sink.{told_by};
 
     ghost numbers = { fields_numbers };
 
     ghost held = { λ it. record {
       plan = it.wheel;
       list = it.entered ∷ [];
-      told = record { text = K.text it.sink.now; faults = K.faults it.sink.now };
+      told = told_by K.text K.writes K.faults it.sink.now;
       dim = it.wheel.dim;
       sure = true;
       lent = it.sink.ghost_name ∷ [];

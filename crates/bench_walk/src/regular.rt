@@ -46,7 +46,7 @@ impl Mapping for Regular {
     ghost held = { λ it. record {
       plan = it.greatest;
       list = [];
-      told = record { text = Some []; faults = 0 };
+      told = record { text = Some []; writes = 0; faults = 0 };
       dim = it.dim;
       sure = true;
       lent = [];

@@ -155,7 +155,7 @@ impl Mapping for Ring {
     ghost held = { λ it. record {
       plan = it.sphere;
       list = [];
-      told = record { text = Some []; faults = 0 };
+      told = record { text = Some []; writes = 0; faults = 0 };
       dim = it.sphere.dim;
       sure = true;
       lent = [];

@@ -56,7 +56,7 @@ impl Mapping for Ledger {
     ghost held = { λ it. record {
       plan = it.greatest;
       list = pos it.made ∷ [];
-      told = record { text = Some []; faults = 0 };
+      told = record { text = Some []; writes = 0; faults = 0 };
       dim = it.dim;
       sure = false;
       lent = [];

@@ -19,3 +19,5 @@ pub mod Touching
 pub mod StackLaws
 -- when a touch fits
 pub mod Fitting
+-- one corner of the cell that is walked
+pub mod CountedTouches

@@ -17,8 +17,8 @@ use Rattle.pe_base.specs.Calls.Follows.{Follows, Fits, Failure, BeforeCall, IsRo
 use Rattle.pe_stacks.specs.RecordsOut.{held_by}
 use Rattle.pe_base.proofs.Calls.Leading.{and_then-fits, follows-map, leads_start, leads_rest, leads_next, leads_err, leads_last}
 use Rattle.pe_hang.proofs.Moving.{give_up-is, push-may, push-is}
-use Rattle.pe_adapt.specs.declared.stop.Halt.{Halt}
-use Rattle.pe_adapt.specs.declared.stop.Halt.TheVariants.{Memory as ForMemory}
+use Rattle.pe_adapt.specs.declared.stop.Inner.{Inner}
+use Rattle.pe_adapt.specs.declared.stop.Inner.TheVariants.{Memory as ForMemory}
 use Rattle.pe_adapt.specs.Stops.{failure_of_halt}
 use Rattle.pe_adapt.specs.Touches.{Desk, goes, stack_or, store_as}
 use Rattle.pe_adapt.proofs.Loading.{desk}
@@ -36,7 +36,7 @@ room-kept held held' room room' s (Err e) keeps same none =
     omega (arith, keeps s, len, none)
 
 -- a record is put on a stack, or there is no room
-pub put-follows : {X : Type 0} (f : X → VertexRecord) (s : ℕ) (x : X) (held held' : Holdings X) (room cells : ℕ → ℕ) (told : Told) (sure : Bool) (at : Place) (result : Result (Unit {0}) Halt)
+pub put-follows : {X : Type 0} (f : X → VertexRecord) (s : ℕ) (x : X) (held held' : Holdings X) (room cells : ℕ → ℕ) (told : Told) (sure : Bool) (at : Place) (result : Result (Unit {0}) Inner)
     → Fits (push false s (f x) (map_holdings f held)) → OnOk result (held' ≡ pushed held s x) → IfErr result (λ halt. halt ≡ ForMemory) → OnErr result (room s ≡ 0)
     → Follows (push false s (f x) (map_holdings f held)) (λ (u : Unit {0}). map_holdings f held') (read_by (failure_of_halt at) result) (seen_by told sure held room cells) told
 put-follows f s x held held' room cells told sure at (Ok u) fits same memory full =
@@ -96,7 +96,7 @@ module _ {Plan X : Type 0} (f : X → VertexRecord) (set : Setting Plan) (output
       (and_then-fits (push false (stack_or set output to) (f x) (map_holdings f held)) _ (leads_rest (leave (Some (f x), family')) lead fits))
 
   -- and it is, or there is no room
-  pub stored-put : (x : X) (held' : Holdings X) (family' : Family) (told new : Told) (sure : Bool) (room cells : ℕ → ℕ) (at : Place) (result : Result (Unit {0}) Halt)
+  pub stored-put : (x : X) (held' : Holdings X) (family' : Family) (told new : Told) (sure : Bool) (room cells : ℕ → ℕ) (at : Place) (result : Result (Unit {0}) Inner)
       → Fits stores → Follows touch (λ (u : Unit {0}). (Some (f x), family')) (Ok tt) (seen_by told sure held room cells) new
       → OnOk result (held' ≡ pushed held (stack_or set output to) x) → IfErr result (λ halt. halt ≡ ForMemory) → OnErr result (room (stack_or set output to) ≡ 0)
       → Follows stores (λ (u : Unit {0}). desk f held' family') (read_by (failure_of_halt at) result) (seen_by told sure held room cells) new

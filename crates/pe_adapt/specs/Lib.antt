@@ -10,3 +10,11 @@ pub mod Stops
 pub mod Slots
 -- which corners are old and new
 pub mod Ages
+-- the stacks of a traversal's streams
+pub mod Streams
+-- a corner touched and counted, as lists
+pub mod CountedTouches
+-- the cell that is walked, and what is in hand there
+pub mod WalkedCells
+-- what a call that touches a corner has in hand and does
+pub mod TouchCalls

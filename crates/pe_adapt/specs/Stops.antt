@@ -4,8 +4,8 @@ use Rattle.pe_base.specs.Acts.Effects.{Overflow as overflows, Division as divide
 use Rattle.pe_base.specs.Walk.Course.{fault_at, limit_at}
 use Rattle.pe_base.specs.Calls.Follows.{Failure, halted, unwritten, wanting, unheard_of}
 use Rattle.pe_base.specs.declared.place.Place.{Place}
-use Rattle.pe_adapt.specs.declared.stop.Halt.{Halt}
-use Rattle.pe_adapt.specs.declared.stop.Halt.TheVariants.{Event as ByEvent, CellLimit as ByLimit, Memory as ForMemory}
+use Rattle.pe_adapt.specs.declared.stop.Inner.{Inner}
+use Rattle.pe_adapt.specs.declared.stop.Inner.TheVariants.{Event as ByEvent, CellLimit as ByLimit, Memory as ForMemory}
 use Rattle.pe_adapt.specs.declared.stop.WalkStop.{WalkStop}
 use Rattle.pe_adapt.specs.declared.stop.WalkStop.TheVariants.{Event, CellLimit, Memory as OutOfMemory}
 
@@ -19,7 +19,7 @@ failure_of (CellLimit place) = halted (limit_at place)
 failure_of OutOfMemory = wanting
 
 -- a halt at a place
-abbrev pub failure_of_halt : Place → Halt → Failure
+abbrev pub failure_of_halt : Place → Inner → Failure
 failure_of_halt at (ByEvent Overflow event) = halted (fault_at overflows event at)
 failure_of_halt at (ByEvent Division event) = halted (fault_at divides event at)
 failure_of_halt at (ByEvent Sink event) = unwritten

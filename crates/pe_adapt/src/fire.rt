@@ -12,7 +12,7 @@ ghost use Rattle.pe_mapping.specs.Held.{found_of};
 ghost use Rattle.pe_adapt.specs.Stops.{failure_of_halt};
 ghost use Rattle.pe_adapt.specs.Slots.{seen_slot};
 
-use crate::Halt;
+use crate::Inner;
 use pe_base::{Event, Place};
 use pe_mapping::Mapping;
 use pe_stacks::{CellRec, Corners, Depot, Vertex, filled_mut};
@@ -29,7 +29,7 @@ pub fn fire<M: Mapping, DV: Depot<Vertex<M::V>>>(
     dv: &mut DV,
     parents: &mut Corners<M::V>,
     parent: &mut CellRec<M::C>,
-) -> Result<(), Halt>
+) -> Result<(), Inner>
     requires sort { sort_of event ≡ OfVertex }
     requires traversal { IsTraversal traversal }
     requires place { IsBelowRoot at.now }
@@ -51,7 +51,7 @@ pub fn fire<M: Mapping, DV: Depot<Vertex<M::V>>>(
         Ok(()) => Ok(()),
         Err(stop) => {
             dv.give_up(slot.take().unwrap());
-            Err(Halt::of_event(stop, event))
+            Err(Inner::of_event(stop, event))
         }
     }
 }

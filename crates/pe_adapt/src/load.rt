@@ -21,7 +21,7 @@ ghost use Rattle.pe_adapt.specs.Spots.{IsSpot, stack_of, desk_in_hand};
 ghost use Rattle.pe_adapt.specs.Touches.{load_as};
 
 use crate::fire::fire;
-use crate::{Halt, WalkStop};
+use crate::{Inner, WalkStop};
 use pe_access::Route;
 use pe_base::{Event, Kind, Place};
 use pe_hang::make_hanging;
@@ -39,7 +39,7 @@ pub fn load_hanging<M: Mapping, DV: Depot<Vertex<M::V>>>(
     dv: &mut DV,
     parents: &mut Corners<M::V>,
     parent: &mut CellRec<M::C>,
-) -> Result<(), Halt>
+) -> Result<(), Inner>
     requires traversal { IsTraversal traversal }
     requires place { IsBelowRoot at.now }
     requires empty { slot.old ≡ None }
@@ -61,7 +61,7 @@ pub fn load_hanging<M: Mapping, DV: Depot<Vertex<M::V>>>(
             fill_slot(slot, v);
             Ok(())
         }
-        Err(stop) => Err(Halt::of_event(stop, Event::CreateHangingVertex)),
+        Err(stop) => Err(Inner::of_event(stop, Event::CreateHangingVertex)),
     }
 }
 
@@ -76,7 +76,7 @@ fn load_born<M: Mapping, DV: Depot<Vertex<M::V>>>(
     dv: &mut DV,
     parents: &mut Corners<M::V>,
     parent: &mut CellRec<M::C>,
-) -> Result<(), Halt>
+) -> Result<(), Inner>
     requires traversal { IsTraversal traversal }
     requires place { IsBelowRoot at.now }
     requires empty { slot.old ≡ None }
@@ -95,7 +95,7 @@ fn load_born<M: Mapping, DV: Depot<Vertex<M::V>>>(
 {
     let payload = match m.fresh_v() {
         Ok(payload) => payload,
-        Err(_) => return Err(Halt::Memory),
+        Err(_) => return Err(Inner::Memory),
     };
     let state = start_state(traversal, at.level, start_level);
     fill_slot(slot, dv.lend(Vertex::new(state, Kind::Born, payload)));
@@ -133,7 +133,7 @@ fn load_stored<M: Mapping, DV: Depot<Vertex<M::V>>>(
     dv: &mut DV,
     parents: &mut Corners<M::V>,
     parent: &mut CellRec<M::C>,
-) -> Result<(), Halt>
+) -> Result<(), Inner>
     requires traversal { IsTraversal traversal }
     requires place { IsBelowRoot at.now }
     requires empty { slot.old ≡ None }
@@ -182,7 +182,7 @@ pub fn load_first<M: Mapping, DV: Depot<Vertex<M::V>>>(
     dv: &mut DV,
     parents: &mut Corners<M::V>,
     parent: &mut CellRec<M::C>,
-) -> Result<(), Halt>
+) -> Result<(), Inner>
     requires traversal { IsTraversal traversal }
     requires place { IsBelowRoot at.now }
     requires counts { kind ≡ Hanging → ⊥ }
@@ -219,7 +219,7 @@ fn load_slot<M: Mapping, DV: Depot<Vertex<M::V>>>(
     dv: &mut DV,
     parents: &mut Corners<M::V>,
     parent: &mut CellRec<M::C>,
-) -> Result<(), Halt>
+) -> Result<(), Inner>
     requires traversal { IsTraversal traversal }
     requires place { IsBelowRoot at.now }
     requires empty { slot.old ≡ None }

@@ -11,14 +11,14 @@ ghost use Rattle.pe_hang.specs.Moves.{MayPush};
 ghost use Rattle.pe_base.specs.Calls.Follows.{Follows, Fits, read_by};
 ghost use Rattle.pe_stacks.specs.RecordsOut.{RecordsOut, held_by};
 ghost use Rattle.pe_mapping.specs.Held.{found_of};
-ghost use Rattle.pe_adapt.specs.declared.stop.Halt.TheVariants.{Memory as ForMemory};
+ghost use Rattle.pe_adapt.specs.declared.stop.Inner.TheVariants.{Memory as ForMemory};
 ghost use Rattle.pe_adapt.specs.Stops.{failure_of, failure_of_halt};
 ghost use Rattle.pe_adapt.specs.Slots.{seen_slot};
 ghost use Rattle.pe_adapt.specs.Spots.{stack_of, desk_in_hand};
 ghost use Rattle.pe_adapt.specs.Touches.{store_as};
 
 use crate::fire::fire;
-use crate::{Halt, WalkStop};
+use crate::{Inner, WalkStop};
 use pe_access::Route;
 use pe_base::{Event, Kind, Place};
 use pe_hang::end_hanging;
@@ -29,7 +29,7 @@ use pe_states::last_touch;
 // Puts a record on a stack that may have no room for it. Where there is no memory it is given up.
 #[cold]
 #[inline(never)]
-fn put_down_grown<X, D: Depot<X>>(d: &mut D, s: u8, r: X) -> Result<(), Halt>
+fn put_down_grown<X, D: Depot<X>>(d: &mut D, s: u8, r: X) -> Result<(), Inner>
     requires may { MayPush (D.holds d.old) s }
     ensures pushed { OnOk result (D.holds d.new ≡ pushed (D.holds d.old) s r) }
     ensures memory { IfErr result (λ halt. halt ≡ ForMemory) }
@@ -41,14 +41,14 @@ fn put_down_grown<X, D: Depot<X>>(d: &mut D, s: u8, r: X) -> Result<(), Halt>
         Ok(()) => Ok(()),
         Err(back) => {
             d.give_up(back);
-            Err(Halt::Memory)
+            Err(Inner::Memory)
         }
     }
 }
 
 /// Puts a record on a stack. Where there is no memory it is given up.
 #[inline(always)]
-pub fn put_down<X, D: Depot<X>>(d: &mut D, s: u8, r: X) -> Result<(), Halt>
+pub fn put_down<X, D: Depot<X>>(d: &mut D, s: u8, r: X) -> Result<(), Inner>
     requires may { MayPush (D.holds d.old) s }
     ensures pushed { OnOk result (D.holds d.new ≡ pushed (D.holds d.old) s r) }
     ensures memory { IfErr result (λ halt. halt ≡ ForMemory) }
@@ -74,7 +74,7 @@ pub fn store_hanging<M: Mapping, DV: Depot<Vertex<M::V>>>(
     dv: &mut DV,
     parents: &mut Corners<M::V>,
     parent: &mut CellRec<M::C>,
-) -> Result<(), Halt>
+) -> Result<(), Inner>
     requires traversal { IsTraversal traversal }
     requires place { IsBelowRoot at.now }
     requires hanging { IsSomeAnd slot.old (λ v. v.kind ≡ Hanging) }
@@ -91,7 +91,7 @@ pub fn store_hanging<M: Mapping, DV: Depot<Vertex<M::V>>>(
 {
     match end_hanging(m, dv, traversal, at, slot.take().unwrap(), parents, parent) {
         Ok(()) => Ok(()),
-        Err(stop) => Err(Halt::of_event(stop, Event::DestroyHangingVertex)),
+        Err(stop) => Err(Inner::of_event(stop, Event::DestroyHangingVertex)),
     }
 }
 
@@ -105,7 +105,7 @@ fn store_dying<M: Mapping, DV: Depot<Vertex<M::V>>>(
     dv: &mut DV,
     parents: &mut Corners<M::V>,
     parent: &mut CellRec<M::C>,
-) -> Result<(), Halt>
+) -> Result<(), Inner>
     requires traversal { IsTraversal traversal }
     requires place { IsBelowRoot at.now }
     requires filled { IsSome slot.old }
@@ -158,7 +158,7 @@ fn store_staying<M: Mapping, DV: Depot<Vertex<M::V>>>(
     dv: &mut DV,
     parents: &mut Corners<M::V>,
     parent: &mut CellRec<M::C>,
-) -> Result<(), Halt>
+) -> Result<(), Inner>
     requires traversal { IsTraversal traversal }
     requires place { IsBelowRoot at.now }
     requires filled { IsSome slot.old }
@@ -206,7 +206,7 @@ pub fn store_last<M: Mapping, DV: Depot<Vertex<M::V>>>(
     dv: &mut DV,
     parents: &mut Corners<M::V>,
     parent: &mut CellRec<M::C>,
-) -> Result<(), Halt>
+) -> Result<(), Inner>
     requires traversal { IsTraversal traversal }
     requires place { IsBelowRoot at.now }
     requires counts { IsSomeAnd slot.old (λ v. v.kind ≡ Hanging → ⊥) }
@@ -241,7 +241,7 @@ fn store_slot<M: Mapping, DV: Depot<Vertex<M::V>>>(
     dv: &mut DV,
     parents: &mut Corners<M::V>,
     parent: &mut CellRec<M::C>,
-) -> Result<(), Halt>
+) -> Result<(), Inner>
     requires traversal { IsTraversal traversal }
     requires place { IsBelowRoot at.now }
     requires filled { IsSome slot.old }

@@ -8,6 +8,7 @@ use Rattle.pe_base.specs.declared.kind.Kind.{Kind}
 use Rattle.pe_base.specs.declared.kind.Kind.TheVariants.{Kept, Born, Dying, Hanging}
 use Rattle.pe_base.specs.Life.States.{refined_state, erased_state, is_stored}
 use Rattle.pe_base.specs.Acts.Effects.{SeenVertex, Seen, MayBecome, IsTriggered, AreTriggered, IsTriggeredIfAny, AreBoth, MayLeave}
+use Rattle.pe_base.proofs.Lawful.{triggered_same, all_triggered_same, any_triggered_same, both_same, leaves_same}
 use Rattle.pe_parse.specs.declared.tree.Trigger.{Trigger}
 use Rattle.pe_parse.specs.declared.tree.Trigger.TheVariants.{Refine, Erase}
 use Rattle.pe_check.specs.declared.checked.VertexName.{VertexName}
@@ -84,17 +85,10 @@ module _ (greatest level : ℕ) where
     becomes second third before (inr (inl is)) = let P : State → Type 0 = λ s. MayBecome greatest level kind first s in subst P (sym is) (refined_on second before)
     becomes second third before (inr (inr is)) = let P : State → Type 0 = λ s. MayBecome greatest level kind first s in subst P (sym is) (erased_on second before)
 
-  triggered-same : (it : SeenVertex) → IsTriggered greatest level it it
-  triggered-same it = record { kind = refl; state = inl refl }
-
   triggered-then : (first second third : SeenVertex) → IsTriggered greatest level first second → IsTriggered greatest level second third → IsTriggered greatest level first third
   triggered-then first second third a b =
       let P : Kind → Type 0 = λ kind. MayBecome greatest level kind second.state third.state in
       record { kind = b.kind ∙ a.kind; state = becomes first.kind first.state second.state third.state a.state (subst P a.kind b.state) }
-
-  all_triggered-same : (them : List SeenVertex) → AreTriggered greatest level them them
-  all_triggered-same [] = tt
-  all_triggered-same (it ∷ them) = (triggered-same it, all_triggered-same them)
 
   all_triggered-then : (first second third : List SeenVertex) → AreTriggered greatest level first second → AreTriggered greatest level second third → AreTriggered greatest level first third
   all_triggered-then [] [] [] a b = tt
@@ -103,10 +97,6 @@ module _ (greatest level : ℕ) where
   all_triggered-then (x ∷ xs) [] third a b = absurd a
   all_triggered-then (x ∷ xs) (y ∷ ys) [] a b = absurd b
   all_triggered-then (x ∷ xs) (y ∷ ys) (z ∷ zs) a b = (triggered-then x y z a.0 b.0, all_triggered-then xs ys zs a.1 b.1)
-
-  if_any-same : (it : Option SeenVertex) → IsTriggeredIfAny greatest level it it
-  if_any-same None = tt
-  if_any-same (Some it) = triggered-same it
 
   if_any-then : (first second third : Option SeenVertex) → IsTriggeredIfAny greatest level first second → IsTriggeredIfAny greatest level second third → IsTriggeredIfAny greatest level first third
   if_any-then None None None a b = tt
@@ -119,17 +109,13 @@ module _ (greatest level : ℕ) where
   -- a change that triggers at most, of one among many
   all_triggered-changed : (change : SeenVertex → SeenVertex) → ((it : SeenVertex) → IsTriggered greatest level it (change it)) → (k : ℕ) (them : List SeenVertex) → AreTriggered greatest level them (changed_at k change them)
   all_triggered-changed change each k [] = tt
-  all_triggered-changed change each zero (it ∷ them) = (each it, all_triggered-same them)
+  all_triggered-changed change each zero (it ∷ them) = (each it, all_triggered_same greatest level them)
   all_triggered-changed change each (suc k) (it ∷ them) = behind_first (slice_get them k) (all_triggered-changed change each k them)
     where
       behind_first : (found : Option SeenVertex) → AreTriggered greatest level them (option_map_or (λ x. slice_set them k (change x)) found them)
           → AreTriggered greatest level (it ∷ them) (option_map_or (λ x. it ∷ slice_set them k (change x)) found (it ∷ them))
-      behind_first None rest = (triggered-same it, rest)
-      behind_first (Some x) rest = (triggered-same it, rest)
-
-both-same : {X : Type 0} (it : Option X) → AreBoth it it
-both-same None = tt
-both-same (Some x) = tt
+      behind_first None rest = (triggered_same greatest level it, rest)
+      behind_first (Some x) rest = (triggered_same greatest level it, rest)
 
 both-then : {X : Type 0} (first second third : Option X) → AreBoth first second → AreBoth second third → AreBoth first third
 both-then None None None a b = tt
@@ -140,16 +126,6 @@ both-then (Some x) (Some y) None a b = absurd b
 both-then (Some x) (Some y) (Some z) a b = tt
 
 module _ (greatest : ℕ) where
-  -- nothing changes
-  pub lawful-same : (seen : Seen) → MayLeave greatest seen seen
-  lawful-same seen = record {
-    place = refl;
-    vertex = if_any-same greatest seen.place.level seen.vertex;
-    cell = both-same seen.cell;
-    corners = all_triggered-same greatest seen.place.level seen.corners;
-    parents = all_triggered-same greatest (seen.place.level - 1) seen.parents;
-  }
-
   -- one after another
   pub lawful-then : (first second third : Seen) → MayLeave greatest first second → MayLeave greatest second third → MayLeave greatest first third
   lawful-then first second third a b =
@@ -170,9 +146,9 @@ module _ (greatest : ℕ) where
   lawful-vertex change Own seen each = record {
     place = refl;
     vertex = of_any seen.vertex;
-    cell = both-same seen.cell;
-    corners = all_triggered-same greatest seen.place.level seen.corners;
-    parents = all_triggered-same greatest (seen.place.level - 1) seen.parents;
+    cell = both_same seen.cell;
+    corners = all_triggered_same greatest seen.place.level seen.corners;
+    parents = all_triggered_same greatest (seen.place.level - 1) seen.parents;
   }
     where
       of_any : (it : Option SeenVertex) → IsTriggeredIfAny greatest seen.place.level it (option_map change it)
@@ -180,29 +156,29 @@ module _ (greatest : ℕ) where
       of_any (Some it) = each it
   lawful-vertex change (Corner k) seen each = record {
     place = refl;
-    vertex = if_any-same greatest seen.place.level seen.vertex;
-    cell = both-same seen.cell;
+    vertex = any_triggered_same greatest seen.place.level seen.vertex;
+    cell = both_same seen.cell;
     corners = all_triggered-changed greatest seen.place.level change each k seen.corners;
-    parents = all_triggered-same greatest (seen.place.level - 1) seen.parents;
+    parents = all_triggered_same greatest (seen.place.level - 1) seen.parents;
   }
   lawful-vertex change (ParentCorner k) seen each = record {
     place = refl;
-    vertex = if_any-same greatest seen.place.level seen.vertex;
-    cell = both-same seen.cell;
-    corners = all_triggered-same greatest seen.place.level seen.corners;
+    vertex = any_triggered_same greatest seen.place.level seen.vertex;
+    cell = both_same seen.cell;
+    corners = all_triggered_same greatest seen.place.level seen.corners;
     parents = all_triggered-changed greatest (seen.place.level - 1) change each k seen.parents;
   }
 
   -- a number is set
   pub lawful-number : (slot : Slot) (n : ℤ) (seen : Seen) → MayLeave greatest seen (with_number slot n seen)
-  lawful-number (slot.Global field) n seen = lawful-same seen
+  lawful-number (slot.Global field) n seen = leaves_same greatest seen
   lawful-number (slot.Vertex name field) n seen = lawful-vertex (with_field field n) name seen (λ it. record { kind = refl; state = inl refl })
   lawful-number (slot.Cell field) n seen = record {
     place = refl;
-    vertex = if_any-same greatest seen.place.level seen.vertex;
+    vertex = any_triggered_same greatest seen.place.level seen.vertex;
     cell = of_any seen.cell;
-    corners = all_triggered-same greatest seen.place.level seen.corners;
-    parents = all_triggered-same greatest (seen.place.level - 1) seen.parents;
+    corners = all_triggered_same greatest seen.place.level seen.corners;
+    parents = all_triggered_same greatest (seen.place.level - 1) seen.parents;
   }
     where
       of_any : (it : Option (List ℤ)) → AreBoth it (option_map (λ numbers. slice_set numbers field n) it)
@@ -210,10 +186,10 @@ module _ (greatest : ℕ) where
       of_any (Some numbers) = tt
   lawful-number (slot.Parent field) n seen = record {
     place = refl;
-    vertex = if_any-same greatest seen.place.level seen.vertex;
-    cell = both-same seen.cell;
-    corners = all_triggered-same greatest seen.place.level seen.corners;
-    parents = all_triggered-same greatest (seen.place.level - 1) seen.parents;
+    vertex = any_triggered_same greatest seen.place.level seen.vertex;
+    cell = both_same seen.cell;
+    corners = all_triggered_same greatest seen.place.level seen.corners;
+    parents = all_triggered_same greatest (seen.place.level - 1) seen.parents;
   }
 
   -- a vertex is asked to refine or to erase

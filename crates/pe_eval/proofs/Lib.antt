@@ -4,5 +4,4 @@ pub mod Prints
 pub mod Lawful
 pub mod Meanings
 pub mod Runs
-pub mod Pieces
 pub mod Interrupted

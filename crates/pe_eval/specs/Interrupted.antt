@@ -3,14 +3,13 @@ use Rattle.std.specs.Prelude.{◌≡◌, ℕ, suc, ℤ, true, false, List, [], �
 use Rattle.pe_base.specs.declared.stop.Stop.{Stop}
 use Rattle.pe_base.specs.declared.stop.Stop.TheVariants.{Overflow, Division, Sink, Memory}
 use Rattle.pe_base.specs.Acts.Effects.{Seen}
-use Rattle.pe_base.specs.Calls.Told.{Appends}
+use Rattle.pe_base.specs.Calls.Told.{Told, Appends, counted}
 use Rattle.pe_check.specs.declared.checked.Expr.{Expr}
 use Rattle.pe_check.specs.declared.checked.Stmt.{Stmt, Print, If, IfElse}
 use Rattle.pe_eval.specs.Arithmetic.{is_zero}
 use Rattle.pe_eval.specs.Names.{Situation}
 use Rattle.pe_eval.specs.Values.{value_of, values_of}
-use Rattle.pe_eval.specs.Meaning.{Setting, scene_of, act_of, print_line}
-use Rattle.pe_eval.specs.Pieces.{Given, counted, print_lines}
+use Rattle.pe_eval.specs.Meaning.{Setting, scene_of, act_of, print_line, print_lines}
 
 -- A body comes to a print of these numbers, behind prints of others: all statements before it were run without a fault, and then
 -- this is what the event sees, and these are the numbers of the whole grid.
@@ -34,7 +33,7 @@ pub data ComesTo (setting : Setting) (numbers : List ℤ) (there : Seen) (held :
       → ComesTo setting numbers there held other seen list before → ComesTo setting numbers there held (IfElse test inner other ∷ body) seen list before
 
 -- the sink failed at a print to which the body came: it was given each line before, and then the line of this print, of which it has a part
-pub record StoodAt (setting : Setting) (body : List Stmt) (seen : Seen) (list : List ℤ) (old new : Given) (there : Seen) (held : List ℤ) : Type 0 where
+pub record StoodAt (setting : Setting) (body : List Stmt) (seen : Seen) (list : List ℤ) (old new : Told) (there : Seen) (held : List ℤ) : Type 0 where
   pub before : List (List ℤ)
   pub numbers : List ℤ
   pub comes : ComesTo setting numbers there held body seen list before
@@ -43,7 +42,7 @@ pub record StoodAt (setting : Setting) (body : List Stmt) (seen : Seen) (list : 
   pub count : new.writes ≡ counted (suc (length before)) old.writes
 
 -- the sink failed at the line of a print of these values
-pub record PrintFails (values : List Expr) (situation : Situation) (old new : Given) : Type 0 where
+pub record PrintFails (values : List Expr) (situation : Situation) (old new : Told) : Type 0 where
   pub numbers : List ℤ
   pub are : values_of values situation ≡ Ok numbers
   pub part : ℕ

@@ -14,9 +14,5 @@ pub mod Meaning
 pub mod Law
 -- what a view shows
 pub mod Sights
--- what a call that runs a body answers
-pub mod Answers
--- what a sink is given while a body runs
-pub mod Pieces
 -- where a body is when the sink fails
 pub mod Interrupted

@@ -1,5 +1,5 @@
 -- What a body does at an event: its statements run in order, and a fault stops it.
-use Rattle.std.specs.Prelude.{ℕ, ℤ, ◌-◌, List, [], ◌∷◌, ◌++◌, map, codes, slice_get, slice_set, Option, Some, None, option_map, Result, Ok, Err, if◌then◌else◌}
+use Rattle.std.specs.Prelude.{ℕ, ℤ, ◌-◌, List, [], ◌∷◌, ◌++◌, map, codes, slice_get, slice_set, option_map, Result, Ok, Err, if◌then◌else◌}
 use Rattle.std.specs.Option.{option_map_or}
 use Rattle.std.specs.List.{flat_map}
 use Rattle.std.specs.Fmt.{signed_decimal}
@@ -8,7 +8,7 @@ use Rattle.pe_base.specs.declared.kind.Kind.{Kind}
 use Rattle.pe_base.specs.Life.States.{refined_state, erased_state}
 use Rattle.pe_base.specs.Lines.{line}
 use Rattle.pe_base.specs.Acts.Effects.{SeenVertex, Seen, Outcome}
-use Rattle.pe_base.specs.Acts.Effects as effects
+use Rattle.pe_base.specs.Acts.Outcomes.{fine, faulty, after_text, unless_stopped}
 use Rattle.pe_parse.specs.declared.tree.Trigger.{Trigger}
 use Rattle.pe_parse.specs.declared.tree.Trigger.TheVariants.{Refine, Erase}
 use Rattle.pe_check.specs.declared.checked.VertexName.{VertexName}
@@ -37,23 +37,7 @@ Act = Setting → Seen → List ℤ → Outcome
 abbrev pub scene_of : Setting → Seen → List ℤ → Situation
 scene_of setting seen list = record { traversal = setting.traversal; list = list; seen = seen }
 
--- all is as given, and nothing is wrong
-abbrev pub fine : Seen → List ℤ → Outcome
-fine seen list = record { seen = seen; list = list; text = []; fault = None }
-
--- all is as given, and the body stops
-abbrev pub faulty : Seen → List ℤ → Fault → Outcome
-faulty seen list fault = record { seen = seen; list = list; text = []; fault = Some (fault_of fault) }
-
--- text that was written before
-abbrev pub behind : List ℕ → Outcome → Outcome
-behind text outcome = record outcome { text = text ++ outcome.text }
-
 -- what is done next, unless the body has stopped
-abbrev pub unless_stopped : Option effects.Fault → Outcome → (Seen → List ℤ → Outcome) → Outcome
-unless_stopped None outcome next = behind outcome.text (next outcome.seen outcome.list)
-unless_stopped (Some fault) outcome next = outcome
-
 abbrev pub and_then : Outcome → (Seen → List ℤ → Outcome) → Outcome
 and_then outcome next = unless_stopped outcome.fault outcome next
 
@@ -65,7 +49,7 @@ in_turn (act ∷ acts) setting seen list = and_then (act setting seen list) (in_
 -- what is done with a value, if there is one
 abbrev pub with_value : {X : Type 0} → Seen → List ℤ → Result X Fault → (X → Outcome) → Outcome
 with_value seen list (Ok x) next = next x
-with_value seen list (Err fault) next = faulty seen list fault
+with_value seen list (Err fault) next = faulty seen list (fault_of fault)
 
 -- the item at a place, if there is one, is changed
 abbrev pub changed_at : {X : Type 0} → ℕ → (X → X) → List X → List X
@@ -125,9 +109,13 @@ print_start numbers = codes "print" ++ number_parts numbers
 abbrev pub print_line : List ℤ → List ℕ
 print_line numbers = line (codes "print") (map signed_decimal numbers)
 
+-- the lines of prints of these numbers, one after another
+abbrev pub print_lines : List (List ℤ) → List ℕ
+print_lines = flat_map print_line
+
 -- a print at an event
 abbrev pub printed : List Expr → Situation → Outcome
-printed values situation = with_value situation.seen situation.list (values_of values situation) (λ numbers. behind (print_line numbers) (fine situation.seen situation.list))
+printed values situation = with_value situation.seen situation.list (values_of values situation) (λ numbers. after_text (print_line numbers) (fine situation.seen situation.list))
 
 -- a statement whose bodies do this
 abbrev pub stmt_step : Stmt-F Act → Act

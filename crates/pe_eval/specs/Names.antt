@@ -1,10 +1,7 @@
 -- What names stand for at an event.
 use Rattle.std.specs.Prelude.{ℕ, ℤ, pos, List, Option, slice_get, slice_index, slice_index_or}
 use Rattle.std.specs.Option.{option_map_or}
-use Rattle.pe_base.specs.declared.state.State.{State}
-use Rattle.pe_base.specs.declared.state.State.TheVariants.{Unrefined, RefinementTriggered, Refining, Refined, EraseTriggered, Erasing}
-use Rattle.pe_base.specs.declared.kind.Kind.{Kind}
-use Rattle.pe_base.specs.declared.kind.Kind.TheVariants.{Kept, Born, Dying, Hanging}
+use Rattle.pe_base.specs.Life.Numbers.{state_number, kind_number}
 use Rattle.pe_base.specs.Acts.Effects.{SeenVertex, Seen}
 use Rattle.pe_check.specs.declared.checked.VertexName.{VertexName}
 use Rattle.pe_check.specs.declared.checked.VertexName.TheVariants.{Own, Corner, ParentCorner}
@@ -18,20 +15,6 @@ pub record Situation : Type 0 where
   pub traversal : ℕ
   pub list : List ℤ
   pub seen : Seen
-
-abbrev pub state_number : State → ℕ
-state_number Unrefined = 0
-state_number RefinementTriggered = 1
-state_number Refining = 2
-state_number Refined = 3
-state_number EraseTriggered = 4
-state_number Erasing = 5
-
-abbrev pub kind_number : Kind → ℕ
-kind_number Kept = 0
-kind_number Born = 1
-kind_number Dying = 2
-kind_number Hanging = 3
 
 -- the vertex that a name speaks of
 abbrev pub vertex_named : VertexName → Seen → Option SeenVertex

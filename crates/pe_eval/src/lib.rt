@@ -11,6 +11,6 @@ mod value;
 mod view;
 mod writes;
 
-pub use laws::bodies_are_lawful;
+pub use laws::{bodies_are_lawful, bodies_print_lines};
 pub use run::eval;
 pub use view::View;

@@ -1,10 +1,12 @@
 ghost use Rattle.std.specs.Prelude.{◌≡◌, ◌≤◌, ◌^◌, Some, IsTrue, slice_index, pos};
+ghost use Rattle.pe_base.specs.Acts.Moments.{IsBelowRoot};
+ghost use Rattle.pe_stacks.specs.Sights.{fields_numbers, seen_vertex};
 ghost use Rattle.pe_check.specs.Fits.{name_fits, slot_fits, vertex_fits, has_place, is_cell};
-ghost use Rattle.pe_eval.specs.Names.{name_value, slot_value, vertex_named, state_number as number_of_state, kind_number as number_of_kind};
-ghost use Rattle.pe_eval.specs.Sights.{sight, globals_of, frame, reach_of, IsBelowRoot, IsReady, seen_vertex, situation};
+ghost use Rattle.pe_eval.specs.Names.{name_value, slot_value, vertex_named};
+ghost use Rattle.pe_eval.specs.Sights.{sight, globals_of, frame, reach_of, IsReady, situation};
 
 use crate::view::View;
-use pe_base::{Fields, Kind, Place, State};
+use pe_base::{Fields, Place};
 use pe_check::{Name, Slot, VertexName};
 use pe_stacks::{CellRec, Vertex};
 
@@ -20,8 +22,8 @@ impl View<'_> {
             Name::Traversal => self.traversal(),
             Name::Level => self.level(),
             Name::Axis(axis) => self.position(axis),
-            Name::State(vertex) => state_number(self.vertex(vertex).state()),
-            Name::Kind(vertex) => kind_number(self.vertex(vertex).kind()),
+            Name::State(vertex) => i64::from(self.vertex(vertex).state().number()),
+            Name::Kind(vertex) => i64::from(self.vertex(vertex).kind().number()),
             Name::Slot(slot) => self.slot(slot),
         }
     }
@@ -122,7 +124,7 @@ impl View<'_> {
     fn vertex(&self, name: VertexName) -> &Vertex<Fields>
         requires fits { IsTrue (vertex_fits (reach_of self.now) name) }
         requires ready { IsReady self.now }
-        ensures { vertex_named name (sight self.now) ≡ Some (seen_vertex result.now) }
+        ensures { vertex_named name (sight self.now) ≡ Some (seen_vertex fields_numbers.vertex result.now) }
     {
         match (self, name) {
             (View::Vertex { vertex, .. }, VertexName::Own) => vertex,
@@ -143,31 +145,5 @@ fn position_on(place: &Place, axis: u8) -> u64
     match place.pos.get(axis as usize) {
         Some(x) => *x,
         None => 0,
-    }
-}
-
-/// The number of a state in the event language.
-fn state_number(state: State) -> i64
-    ensures { result ≡ pos (number_of_state state) }
-{
-    match state {
-        State::Unrefined => 0,
-        State::RefinementTriggered => 1,
-        State::Refining => 2,
-        State::Refined => 3,
-        State::EraseTriggered => 4,
-        State::Erasing => 5,
-    }
-}
-
-/// The number of a kind in the event language.
-fn kind_number(kind: Kind) -> i64
-    ensures { result ≡ pos (number_of_kind kind) }
-{
-    match kind {
-        Kind::Kept => 0,
-        Kind::Born => 1,
-        Kind::Dying => 2,
-        Kind::Hanging => 3,
     }
 }

@@ -1,11 +1,11 @@
-ghost use Rattle.std.specs.Prelude.{◌≡◌, ◌∷◌, List, IsTrue};
+ghost use Rattle.std.specs.Prelude.{◌≡◌, ◌∷◌, List, IsTrue, true};
 ghost use Rattle.std.specs.List.{list_all};
 ghost use Rattle.pe_base.specs.Acts.Effects.{MayLeave};
+ghost use Rattle.pe_base.specs.Calls.Outcomes.{AnswersBy};
+ghost use Rattle.pe_io.specs.Sink.{told_by};
 ghost use Rattle.pe_check.specs.Fits.{fits, stmt_fits, expr_fits};
 ghost use Rattle.pe_eval.specs.Meaning.{meaning, act_of, printed};
 ghost use Rattle.pe_eval.specs.Sights.{sight, globals_of, frame, reach_of, situation, IsReady};
-ghost use Rattle.pe_eval.specs.Answers.{Answers};
-ghost use Rattle.pe_eval.specs.Pieces.{GivesPieces};
 ghost use Rattle.pe_eval.specs.Interrupted.{IfSinkFails, StoodAt, PrintFails};
 ghost use Rattle.pe_check.specs.declared.checked.Stmt.{Stmt as Statement};
 
@@ -23,15 +23,10 @@ use pe_io::Sink;
 pub fn eval<K: Sink>(body: &Checked, view: &mut View, sink: &mut K) -> Result<(), Stop>
     requires fits { IsTrue (fits (reach_of view.old) body.now) }
     requires ready { IsReady view.old }
-    ensures answer { Answers (meaning body.now (frame view.old).setting (sight view.old) (globals_of view.old))
-        (record { text = K.text sink.old; faults = K.faults sink.old })
-        (record { text = K.text sink.new; faults = K.faults sink.new }) view.new result }
-    ensures pieces { GivesPieces (meaning body.now (frame view.old).setting (sight view.old) (globals_of view.old)).text
-        (record { text = K.text sink.old; writes = K.writes sink.old })
-        (record { text = K.text sink.new; writes = K.writes sink.new }) result }
+    ensures answer { AnswersBy (meaning body.now (frame view.old).setting (sight view.old) (globals_of view.old)) true
+        (told_by K.text K.writes K.faults sink.old) (told_by K.text K.writes K.faults sink.new) (globals_of view.new) (sight view.new) result }
     ensures interrupted { IfSinkFails result (StoodAt (frame view.old).setting body.now (sight view.old) (globals_of view.old)
-        (record { text = K.text sink.old; writes = K.writes sink.old })
-        (record { text = K.text sink.new; writes = K.writes sink.new }) (sight view.new) (globals_of view.new)) }
+        (told_by K.text K.writes K.faults sink.old) (told_by K.text K.writes K.faults sink.new) (sight view.new) (globals_of view.new)) }
     ensures lawful { MayLeave (frame view.old).setting.max_level (sight view.old) (sight view.new) }
     ensures frame { frame view.new ≡ frame view.old }
     ensures ready { IsReady view.new }
@@ -44,15 +39,10 @@ pub fn eval<K: Sink>(body: &Checked, view: &mut View, sink: &mut K) -> Result<()
 fn run<K: Sink>(body: &[Stmt], view: &mut View, sink: &mut K) -> Result<(), Stop>
     requires fits { IsTrue (fits (reach_of view.old) body.now) }
     requires ready { IsReady view.old }
-    ensures answer { Answers (meaning body.now (frame view.old).setting (sight view.old) (globals_of view.old))
-        (record { text = K.text sink.old; faults = K.faults sink.old })
-        (record { text = K.text sink.new; faults = K.faults sink.new }) view.new result }
-    ensures pieces { GivesPieces (meaning body.now (frame view.old).setting (sight view.old) (globals_of view.old)).text
-        (record { text = K.text sink.old; writes = K.writes sink.old })
-        (record { text = K.text sink.new; writes = K.writes sink.new }) result }
+    ensures answer { AnswersBy (meaning body.now (frame view.old).setting (sight view.old) (globals_of view.old)) true
+        (told_by K.text K.writes K.faults sink.old) (told_by K.text K.writes K.faults sink.new) (globals_of view.new) (sight view.new) result }
     ensures interrupted { IfSinkFails result (StoodAt (frame view.old).setting body.now (sight view.old) (globals_of view.old)
-        (record { text = K.text sink.old; writes = K.writes sink.old })
-        (record { text = K.text sink.new; writes = K.writes sink.new }) (sight view.new) (globals_of view.new)) }
+        (told_by K.text K.writes K.faults sink.old) (told_by K.text K.writes K.faults sink.new) (sight view.new) (globals_of view.new)) }
     ensures lawful { MayLeave (frame view.old).setting.max_level (sight view.old) (sight view.new) }
     ensures frame { frame view.new ≡ frame view.old }
     ensures ready { IsReady view.new }
@@ -71,15 +61,10 @@ fn run<K: Sink>(body: &[Stmt], view: &mut View, sink: &mut K) -> Result<(), Stop
 fn step<K: Sink>(stmt: &Stmt, view: &mut View, sink: &mut K) -> Result<(), Stop>
     requires fits { IsTrue (stmt_fits (reach_of view.old) stmt.now) }
     requires ready { IsReady view.old }
-    ensures answer { Answers (act_of stmt.now (frame view.old).setting (sight view.old) (globals_of view.old))
-        (record { text = K.text sink.old; faults = K.faults sink.old })
-        (record { text = K.text sink.new; faults = K.faults sink.new }) view.new result }
-    ensures pieces { GivesPieces (act_of stmt.now (frame view.old).setting (sight view.old) (globals_of view.old)).text
-        (record { text = K.text sink.old; writes = K.writes sink.old })
-        (record { text = K.text sink.new; writes = K.writes sink.new }) result }
+    ensures answer { AnswersBy (act_of stmt.now (frame view.old).setting (sight view.old) (globals_of view.old)) true
+        (told_by K.text K.writes K.faults sink.old) (told_by K.text K.writes K.faults sink.new) (globals_of view.new) (sight view.new) result }
     ensures interrupted { (rest : List Statement) → IfSinkFails result (StoodAt (frame view.old).setting (stmt.now ∷ rest) (sight view.old) (globals_of view.old)
-        (record { text = K.text sink.old; writes = K.writes sink.old })
-        (record { text = K.text sink.new; writes = K.writes sink.new }) (sight view.new) (globals_of view.new)) }
+        (told_by K.text K.writes K.faults sink.old) (told_by K.text K.writes K.faults sink.new) (sight view.new) (globals_of view.new)) }
     ensures lawful { MayLeave (frame view.old).setting.max_level (sight view.old) (sight view.new) }
     ensures frame { frame view.new ≡ frame view.old }
     ensures ready { IsReady view.new }
@@ -114,15 +99,10 @@ fn step<K: Sink>(stmt: &Stmt, view: &mut View, sink: &mut K) -> Result<(), Stop>
 fn print<K: Sink>(values: &Values, view: &View, sink: &mut K) -> Result<(), Stop>
     requires fits { IsTrue (list_all (expr_fits (reach_of view.now)) values.now) }
     requires ready { IsReady view.now }
-    ensures answer { Answers (printed values.now (situation view.now))
-        (record { text = K.text sink.old; faults = K.faults sink.old })
-        (record { text = K.text sink.new; faults = K.faults sink.new }) view.now result }
-    ensures pieces { GivesPieces (printed values.now (situation view.now)).text
-        (record { text = K.text sink.old; writes = K.writes sink.old })
-        (record { text = K.text sink.new; writes = K.writes sink.new }) result }
+    ensures answer { AnswersBy (printed values.now (situation view.now)) true
+        (told_by K.text K.writes K.faults sink.old) (told_by K.text K.writes K.faults sink.new) (globals_of view.now) (sight view.now) result }
     ensures interrupted { IfSinkFails result (PrintFails values.now (situation view.now)
-        (record { text = K.text sink.old; writes = K.writes sink.old })
-        (record { text = K.text sink.new; writes = K.writes sink.new })) }
+        (told_by K.text K.writes K.faults sink.old) (told_by K.text K.writes K.faults sink.new)) }
 {
     let line = match print_line(values.as_slice(), view) {
         Ok(line) => line,

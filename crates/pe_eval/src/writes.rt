@@ -1,8 +1,9 @@
 ghost use Rattle.std.specs.Prelude.{◌≡◌, ℕ, ◌^◌, ◌<◌, IsTrue, slice_set};
 ghost use Rattle.pe_stacks.specs.Corners.{IsFull};
+ghost use Rattle.pe_stacks.specs.Sights.{fields_numbers, seen_corners, seen_vertex};
 ghost use Rattle.pe_check.specs.Fits.{slot_fits, vertex_fits};
 ghost use Rattle.pe_eval.specs.Meaning.{with_number, with_global, with_field, with_trigger, triggered, triggered_state, changed_at};
-ghost use Rattle.pe_eval.specs.Sights.{sight, globals_of, frame, reach_of, IsReady, seen_corners, seen_vertex};
+ghost use Rattle.pe_eval.specs.Sights.{sight, globals_of, frame, reach_of, IsReady};
 
 use crate::view::View;
 use pe_base::Fields;
@@ -165,7 +166,7 @@ fn set_of_corner(corners: &mut Corners<Fields>, k: u8, field: u8, x: i64)
     requires corner { k < 2 ^ corners.old.dim }
     requires full { IsFull corners.old.dim corners.old }
     requires field { field < 8 }
-    ensures seen { seen_corners corners.new ≡ changed_at k (with_field field x) (seen_corners corners.old) }
+    ensures seen { seen_corners fields_numbers.vertex corners.new ≡ changed_at k (with_field field x) (seen_corners fields_numbers.vertex corners.old) }
     ensures dim { corners.new.dim ≡ corners.old.dim }
     ensures full { (axes : ℕ) → IsFull axes corners.old → IsFull axes corners.new }
 {
@@ -176,7 +177,7 @@ fn set_of_corner(corners: &mut Corners<Fields>, k: u8, field: u8, x: i64)
 fn trigger_corner(corners: &mut Corners<Fields>, k: u8, trigger: Trigger, level: u8, max_level: u8)
     requires corner { k < 2 ^ corners.old.dim }
     requires full { IsFull corners.old.dim corners.old }
-    ensures seen { seen_corners corners.new ≡ changed_at k (with_trigger trigger level max_level) (seen_corners corners.old) }
+    ensures seen { seen_corners fields_numbers.vertex corners.new ≡ changed_at k (with_trigger trigger level max_level) (seen_corners fields_numbers.vertex corners.old) }
     ensures dim { corners.new.dim ≡ corners.old.dim }
     ensures full { (axes : ℕ) → IsFull axes corners.old → IsFull axes corners.new }
 {
@@ -194,7 +195,7 @@ fn set_in_cell(cell: &mut CellRec<Fields>, field: u8, x: i64)
 /// Sets a number of a vertex.
 fn set_in_vertex(vertex: &mut Vertex<Fields>, field: u8, x: i64)
     requires { field < 8 }
-    ensures { seen_vertex vertex.new ≡ with_field field x (seen_vertex vertex.old) }
+    ensures { seen_vertex fields_numbers.vertex vertex.new ≡ with_field field x (seen_vertex fields_numbers.vertex vertex.old) }
 {
     vertex.payload_mut().set(field, x);
 }

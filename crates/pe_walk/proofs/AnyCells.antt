@@ -13,7 +13,8 @@ use Rattle.pe_stacks.specs.Holdings.{Holdings}
 use Rattle.pe_base.specs.Calls.Follows.{Fits, is_fit}
 use Rattle.pe_adapt.specs.Touches.{Desk, kind_in_hand}
 use Rattle.pe_adapt.specs.Touches as corners
-use Rattle.pe_walk.specs.Machine.{Machine, Ports, output, tally_may_rise, is_placed, desk_of, with_desk, load_corner, store_corner, load_all, store_all}
+use Rattle.pe_adapt.specs.CountedTouches.{Machine, Ports, output, tally_may_rise, is_placed, desk_of, with_desk, load_corner, store_corner}
+use Rattle.pe_walk.specs.Machine.{load_all, store_all}
 
 module _ {Plan : Type 0} (set : Setting Plan) (ports : Ports) (cell : Place) (cells : Holdings (List ℤ)) where
   abbrev with_cells : Machine → Machine

@@ -10,7 +10,8 @@ use Rattle.pe_base.specs.Walk.Core.{Setting, way, Own}
 use Rattle.pe_base.specs.Walk.Touches.{kind_below}
 use Rattle.pe_base.specs.Calls.Follows.{Fits}
 use Rattle.pe_base.proofs.Calls.Leading.{and_then-fits}
-use Rattle.pe_walk.specs.Machine.{Machine, Ports, if_walked, inside, outside, walk_cell}
+use Rattle.pe_adapt.specs.CountedTouches.{Machine, Ports}
+use Rattle.pe_walk.specs.Machine.{if_walked, inside, outside, walk_cell}
 use Rattle.pe_walk.specs.Visits.{walk_children, walk_below}
 
 module _ {Plan : Type 0} (set : Setting Plan) (ports : Ports) (levels : ℕ) (cell : Place) (it : Own × Machine) where

@@ -7,7 +7,8 @@ use Rattle.pe_base.specs.Walk.Course.{Ending, done, halts, stuck, Course, limit_
 use Rattle.pe_base.specs.Walk.Core.{Setting, Own}
 use Rattle.pe_base.specs.Walk.Touches.{tally_cell}
 use Rattle.pe_base.specs.Calls.Follows.{BeforeCall, halted, Follows, Fits}
-use Rattle.pe_walk.specs.Machine.{Machine, Ports, count_cell, load_all, enter_cell, leave_cell, store_all}
+use Rattle.pe_adapt.specs.CountedTouches.{Machine, Ports}
+use Rattle.pe_walk.specs.Machine.{count_cell, load_all, enter_cell, leave_cell, store_all}
 use Rattle.pe_walk.specs.Visits.{walk_below, visit_cell}
 use Rattle.pe_walk.proofs.Simulation.Matching.{then-grouped}
 use Rattle.pe_walk.proofs.Visiting.{counts-on, counts-past}

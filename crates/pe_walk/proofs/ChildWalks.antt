@@ -10,7 +10,8 @@ use Rattle.pe_base.specs.Walk.Course.{Course, each}
 use Rattle.pe_base.specs.Walk.Core.{Setting}
 use Rattle.pe_base.specs.Calls.Follows.{BeforeCall, Failure, Follows, Fits, Leads, IsRoomier}
 use Rattle.pe_base.proofs.Calls.Leading.{leads_fits, leads_next, leads_err, leads_end}
-use Rattle.pe_walk.specs.Machine.{Machine, Ports, walk_cell}
+use Rattle.pe_adapt.specs.CountedTouches.{Machine, Ports}
+use Rattle.pe_walk.specs.Machine.{walk_cell}
 
 -- the children by their digits
 pub all-children : (axes : ℕ) (way way' : Way) (place : Place) (es : ℕ) (digits digits' : List Digits) → way' ≡ way → digits' ≡ digits → digits ≡ child_digits axes way' (bits axes es) → bits axes es ≡ flips axes place.pos

@@ -15,10 +15,10 @@ use Rattle.pe_adapt.proofs.KindLaws.{kind-carried, kind-first}
 use Rattle.pe_access.specs.declared.state.CellState.{CellState}
 use Rattle.pe_access.specs.States.{StandsFor, odd_count, row_turns}
 use Rattle.pe_base.specs.Steps.Routes.{way_turns}
-use Rattle.pe_walk.specs.declared.settings.Settings.{Settings}
+use Rattle.pe_adapt.specs.declared.settings.Settings.{Settings}
 use Rattle.pe_walk.specs.declared.child.Above.{Above}
 use Rattle.pe_walk.specs.declared.child.Child.{Child}
-use Rattle.pe_walk.specs.InHand.{IsWalked}
+use Rattle.pe_adapt.specs.WalkedCells.{IsWalked}
 use Rattle.pe_walk.specs.Children.{IsAbove, IsChild, AreInOneRow}
 
 -- a cell is its child's parent

@@ -10,7 +10,8 @@ use Rattle.pe_stacks.specs.Filled.{FullFrom}
 use Rattle.pe_stacks.proofs.Filling.{full_take, seen_put}
 use Rattle.pe_stacks.specs.Sights.{record_of, corner_records}
 use Rattle.pe_adapt.specs.Slots.{seen_slot}
-use Rattle.pe_walk.specs.Corners.{filled_in, filled_in_corners, seen_slots, AreOf}
+use Rattle.pe_adapt.specs.TouchCalls.{filled_in}
+use Rattle.pe_walk.specs.Corners.{filled_in_corners, seen_slots, AreOf}
 
 -- # Slots
 module _ {X : Type 0} where

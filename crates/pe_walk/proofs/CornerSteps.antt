@@ -15,14 +15,16 @@ use Rattle.pe_stacks.specs.Sights.{Numbers, record_of, corner_records}
 use Rattle.pe_hang.specs.InHand.{Stays}
 use Rattle.pe_base.specs.Calls.Follows.{Fits}
 use Rattle.pe_hang.proofs.Staying.{stays-full}
-use Rattle.pe_adapt.specs.declared.stop.Halt.{Halt}
+use Rattle.pe_adapt.specs.declared.stop.Inner.{Inner}
 use Rattle.pe_adapt.specs.Ages.{GiveKinds}
 use Rattle.pe_adapt.specs.Slots.{seen_slot}
-use Rattle.pe_walk.specs.declared.settings.Settings.{Settings}
-use Rattle.pe_walk.specs.declared.walked.WalkedCell.{WalkedCell}
-use Rattle.pe_walk.specs.Machine.{Machine, load_corner, load_all, store_corner, store_all}
-use Rattle.pe_walk.specs.InHand.{IsWalked, setting_in, ports_of}
-use Rattle.pe_walk.specs.Corners.{Hand, machine_of, MayGo, GoesAlong, TouchesOn, HasLast, MayLoad, MayStore, AreOf, left_of, loads_left, stores_left, filled_in, filled_in_corners, seen_slots}
+use Rattle.pe_adapt.specs.declared.settings.Settings.{Settings}
+use Rattle.pe_adapt.specs.declared.walked.WalkedCell.{WalkedCell}
+use Rattle.pe_adapt.specs.CountedTouches.{Machine, load_corner, store_corner}
+use Rattle.pe_walk.specs.Machine.{load_all, store_all}
+use Rattle.pe_adapt.specs.WalkedCells.{IsWalked, setting_in, ports_of}
+use Rattle.pe_adapt.specs.TouchCalls.{Hand, machine_of, MayGo, GoesAlong, filled_in}
+use Rattle.pe_walk.specs.Corners.{TouchesOn, HasLast, MayLoad, MayStore, AreOf, left_of, loads_left, stores_left, filled_in_corners, seen_slots}
 use Rattle.pe_walk.proofs.Going.{on-ok, on-always, may-first, may-next, first-goes, goes-same, goes-all}
 use Rattle.pe_walk.proofs.CornerLists.{full-of, empty-of, seen_corners-full, filled-last, seen-take}
 use Rattle.pe_walk.proofs.KindsKept.{kinds-kept}
@@ -107,14 +109,14 @@ module _ {Plan V C : Type 0} {rules : Rules Plan} {numbers : Numbers V C} {setti
         ap (λ its. load_all (setting_in rules old.held settings) (ports_of settings) cell.place k its machine) (sym seen)
         ∙ ap (λ n. load_all (setting_in rules old.held settings) (ports_of settings) cell.place n (corner_records numbers.vertex after) machine) same
 
-    module _ (slot : Option (Vertex V)) {result : Result (Unit {0}) Halt} {new : Hand Plan V C} (loaded : OnOk result (IsSome slot)) where
+    module _ (slot : Option (Vertex V)) {result : Result (Unit {0}) Inner} {new : Hand Plan V C} (loaded : OnOk result (IsSome slot)) where
       pub load-goes : GoesAlong rules numbers settings load_first (λ machine. (seen_slot numbers.vertex slot, machine)) 0 (filled_in slot) result old new
           → TouchesOn rules numbers settings (λ set. loads_left set) cell.place corners (with_vertex corners k slot) result old new
       load-goes goes =
           goes-same _ _ (filled_in_corners corners) (filled_in_corners (with_vertex corners k slot)) (first-goes load_first load_rest (λ machine. (seen_slot numbers.vertex slot, machine)) goes)
           (λ machine. sym (load-whole machine)) (on-ok result loaded (load-rest slot)) (omega (arith, filled-put slot))
 
-    pub load-ready : (slot : Option (Vertex V)) (result : Result (Unit {0}) Halt) (new : Hand Plan V C) → OnOk result (IsSome slot)
+    pub load-ready : (slot : Option (Vertex V)) (result : Result (Unit {0}) Inner) (new : Hand Plan V C) → OnOk result (IsSome slot)
         → TouchesOn rules numbers settings (λ set. loads_left set) cell.place corners (with_vertex corners k slot) result old new
         → OnOk result (MayLoad rules numbers settings cell (with_vertex corners k slot) new)
     load-ready slot (Err halt) new loaded goes = tt
@@ -173,13 +175,13 @@ module _ {Plan V C : Type 0} {rules : Rules Plan} {numbers : Numbers V C} {setti
     pub store-filled : filled_in_corners after_store ≡ 2 ^ settings.setup.dim - (k + 1)
     store-filled = omega (arith, filled-last settings.setup.dim (k + 1) after_store last_stored, last_stored.count)
 
-    pub store-goes : {result : Result (Unit {0}) Halt} {new : Hand Plan V C} → GoesAlong rules numbers settings store_first (λ machine. machine) 1 0 result old new
+    pub store-goes : {result : Result (Unit {0}) Inner} {new : Hand Plan V C} → GoesAlong rules numbers settings store_first (λ machine. machine) 1 0 result old new
         → TouchesOn rules numbers settings (λ set. stores_left set) cell.place corners after_store result old new
     store-goes {result} goes =
         goes-same _ _ (filled_in_corners corners) (filled_in_corners after_store) (first-goes store_first store_rest (λ machine. machine) goes)
         (λ machine. sym (store-whole machine)) (on-always result store-rest) (omega (arith, behind, store-filled, inside))
 
-    pub store-ready : (result : Result (Unit {0}) Halt) (new : Hand Plan V C) → TouchesOn rules numbers settings (λ set. stores_left set) cell.place corners after_store result old new
+    pub store-ready : (result : Result (Unit {0}) Inner) (new : Hand Plan V C) → TouchesOn rules numbers settings (λ set. stores_left set) cell.place corners after_store result old new
         → OnOk result (MayStore rules numbers settings cell after_store new)
     store-ready (Err halt) new goes = tt
     store-ready (Ok done) new goes = record {
@@ -217,7 +219,7 @@ module _ {Plan V C : Type 0} (rules : Rules Plan) (numbers : Numbers V C) (setti
           fits = λ cells. subst Fits (sym (loads-all (machine_of numbers cells old))) (fits cells);
         }
 
-    pub loads-end : {corners' : CornerList (Vertex V)} {result : Result (Unit {0}) Halt} {new : Hand Plan V C} → AreOf settings.setup.dim corners' → OnOk result (filled_in_corners corners' ≡ 2 ^ settings.setup.dim - 0)
+    pub loads-end : {corners' : CornerList (Vertex V)} {result : Result (Unit {0}) Inner} {new : Hand Plan V C} → AreOf settings.setup.dim corners' → OnOk result (filled_in_corners corners' ≡ 2 ^ settings.setup.dim - 0)
         → TouchesOn rules numbers settings (λ set. loads_left set) cell.place corners corners' result old new
         → GoesAlong rules numbers settings (λ set. load_all set (ports_of settings) cell.place (2 ^ old.held.dim) []) (λ machine. (seen_slots numbers.vertex corners', machine)) 0 (filled_in_corners corners') result old new
     loads-end {corners'} {result} are filled goes =
@@ -250,7 +252,7 @@ module _ {Plan V C : Type 0} (rules : Rules Plan) (numbers : Numbers V C) (setti
           fits = λ cells. subst Fits (sym (stores-all (machine_of numbers cells old))) (fits cells);
         }
 
-    pub stores-end : {corners' : CornerList (Vertex V)} {result : Result (Unit {0}) Halt} {new : Hand Plan V C} → AreOf settings.setup.dim corners' → OnOk result (filled_in_corners corners' ≡ 0)
+    pub stores-end : {corners' : CornerList (Vertex V)} {result : Result (Unit {0}) Inner} {new : Hand Plan V C} → AreOf settings.setup.dim corners' → OnOk result (filled_in_corners corners' ≡ 0)
         → TouchesOn rules numbers settings (λ set. stores_left set) cell.place corners corners' result old new
         → GoesAlong rules numbers settings (λ set. store_all set (ports_of settings) cell.place 0 (seen_slots numbers.vertex corners)) (λ machine. machine) (2 ^ old.held.dim) (filled_in_corners corners') result old new
     stores-end {corners'} {result} are' filled goes =

@@ -12,7 +12,8 @@ use Rattle.pe_base.specs.Calls.Follows.{Follows, Fits, BeforeCall}
 use Rattle.pe_base.proofs.Calls.Leading.{and_then-fits}
 use Rattle.pe_hang.proofs.Moving.{give_up-is}
 use Rattle.pe_walk.specs.GivenUp.{given_up_times}
-use Rattle.pe_walk.specs.Machine.{Machine, Ports, give_up_all}
+use Rattle.pe_adapt.specs.CountedTouches.{Machine, Ports}
+use Rattle.pe_walk.specs.Machine.{give_up_all}
 
 pub given_up-more : {X : Type 0} (n : ℕ) (held : Holdings X) → given_up (given_up_times n held) ≡ given_up_times (n + 1) held
 given_up-more n held = ap (λ k. given_up_times k held) (sym (add-one n))

@@ -11,11 +11,12 @@ use Rattle.pe_base.specs.Calls.Follows.{Failure, BeforeCall, Follows, Leads, Fit
 use Rattle.pe_stacks.specs.RecordsOut.{RecordsOut}
 use Rattle.pe_hang.proofs.Staying.{keeps-same, stays-beside, stays-then, setting-kept}
 use Rattle.pe_base.proofs.Calls.Leading.{and_then-fits, leads_start, leads_next, leads_err, leads_last, leads_end, leads_rest}
-use Rattle.pe_adapt.specs.declared.stop.Halt.{Halt}
-use Rattle.pe_walk.specs.declared.settings.Settings.{Settings}
-use Rattle.pe_walk.specs.Machine.{Machine}
-use Rattle.pe_walk.specs.InHand.{setting_in, failure_in}
-use Rattle.pe_walk.specs.Corners.{Hand, machine_of, found_in, MayGo, GoesAlong, GoesOn, LeadsOn}
+use Rattle.pe_adapt.specs.declared.stop.Inner.{Inner}
+use Rattle.pe_adapt.specs.declared.settings.Settings.{Settings}
+use Rattle.pe_adapt.specs.CountedTouches.{Machine}
+use Rattle.pe_adapt.specs.WalkedCells.{setting_in, failure_in}
+use Rattle.pe_adapt.specs.TouchCalls.{Hand, machine_of, found_in, MayGo, GoesAlong}
+use Rattle.pe_walk.specs.Corners.{GoesOn, LeadsOn}
 
 -- of a result
 pub on-ok : {A E : Type 0} {P Q : Type 0} (result : Result A E) → OnOk result P → (P → Q) → OnOk result Q
@@ -44,14 +45,14 @@ module _ {X : Type 0} where
   leads-then whole rest last (Err failure) old mid now first second = λ after. leads_last rest after (Err failure) now.told first (second after)
 
   -- the same, written otherwise
-  leads-same : (whole whole' rest rest' : Course X) (result : Result (Unit {0}) Halt) (means : Halt → Failure) (old now : BeforeCall) → whole ≡ whole' → OnOk result (rest ≡ rest')
+  leads-same : (whole whole' rest rest' : Course X) (result : Result (Unit {0}) Inner) (means : Inner → Failure) (old now : BeforeCall) → whole ≡ whole' → OnOk result (rest ≡ rest')
       → LeadsOn whole rest (read_by means result) old now → LeadsOn whole' rest' (read_by means result) old now
   leads-same whole whole' rest rest' (Ok done) means old now same after is = subst (λ course. Leads course old now rest') same (subst (λ course. Leads whole old now course) after is)
   leads-same whole whole' rest rest' (Err halt) means old now same after is =
       λ to. subst (λ course. Follows course to (Err (means halt)) old now.told) same (is to)
 
   -- all is done
-  leads-all : (whole rest : Course X) (x : X) (result : Result (Unit {0}) Halt) (means : Halt → Failure) (old now : BeforeCall) → OnOk result (rest ≡ at_once x)
+  leads-all : (whole rest : Course X) (x : X) (result : Result (Unit {0}) Inner) (means : Inner → Failure) (old now : BeforeCall) → OnOk result (rest ≡ at_once x)
       → LeadsOn whole rest (read_by means result) old now → Follows whole (λ (done : Unit {0}). x) (read_by means result) old now.told
   leads-all whole rest x (Ok done) means old now end is = leads_end (λ (done : Unit {0}). x) done (subst (λ course. Leads whole old now course) end is)
   leads-all whole rest x (Err halt) means old now end is = is (λ (done : Unit {0}). x)
@@ -74,7 +75,7 @@ may-first rules numbers settings first next old may cells =
 
 module _ {Plan V C : Type 0} {rules : Rules Plan} {numbers : Numbers V C} {settings : Settings} where
   -- it is some of what is left
-  pub first-goes : {A Y : Type 0} (first : Setting Plan → Machine → Course A) (next : Setting Plan → A → Course Y) (reached : Machine → A) {had has : ℕ} {result : Result (Unit {0}) Halt} {old new : Hand Plan V C}
+  pub first-goes : {A Y : Type 0} (first : Setting Plan → Machine → Course A) (next : Setting Plan → A → Course Y) (reached : Machine → A) {had has : ℕ} {result : Result (Unit {0}) Inner} {old new : Hand Plan V C}
       → GoesAlong rules numbers settings first reached had has result old new
       → GoesOn rules numbers settings (λ set machine. and_then (first set machine) (next set)) (λ set machine. next set (reached machine)) had has result old new
   first-goes first next reached {had} {has} {result} {old} {new} goes = record {
@@ -106,7 +107,7 @@ module _ {Plan V C : Type 0} {rules : Rules Plan} {numbers : Numbers V C} {setti
           (leads_rest (rest (setting_in rules old.held settings) machine) (goes.leads cells (λ s. 0)) (may cells))
 
       -- some of it, and then more
-      pub goes-then : {last : Setting Plan → Machine → Course X} {has' : ℕ} {result : Result (Unit {0}) Halt} {new : Hand Plan V C}
+      pub goes-then : {last : Setting Plan → Machine → Course X} {has' : ℕ} {result : Result (Unit {0}) Inner} {new : Hand Plan V C}
           → GoesOn rules numbers settings whole rest had has (Ok tt) old mid → GoesOn rules numbers settings rest last has has' result mid new → GoesOn rules numbers settings whole last had has' result old new
       goes-then {last} {has'} {result} {new} first second = record {
         leads = λ cells room.
@@ -126,7 +127,7 @@ module _ {Plan V C : Type 0} {rules : Rules Plan} {numbers : Numbers V C} {setti
         counted = second.counted ∙ first.counted;
       }
 
-    module _ {whole rest : Setting Plan → Machine → Course X} {had has : ℕ} {result : Result (Unit {0}) Halt} {old new : Hand Plan V C} where
+    module _ {whole rest : Setting Plan → Machine → Course X} {had has : ℕ} {result : Result (Unit {0}) Inner} {old new : Hand Plan V C} where
       -- the same, written otherwise
       pub goes-same : (whole' rest' : Setting Plan → Machine → Course X) (had' has' : ℕ) → GoesOn rules numbers settings whole rest had has result old new
           → ((machine : Machine) → whole (setting_in rules old.held settings) machine ≡ whole' (setting_in rules old.held settings) machine)

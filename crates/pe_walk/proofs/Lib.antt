@@ -2,8 +2,6 @@
 
 -- calls that go along with the machine
 pub mod Going
--- one corner of the cell that is walked
-pub mod CornerTouches
 -- the kinds of its corners stay
 pub mod KindsKept
 -- its corners in their slots

@@ -14,7 +14,8 @@ use Rattle.pe_hang.specs.Moves.{lend}
 use Rattle.pe_base.specs.Calls.Follows.{Follows, Fits, BeforeCall, Leads, IsRoomier}
 use Rattle.pe_base.proofs.Calls.Leading.{and_then-fits, leads_step, leads_end}
 use Rattle.pe_hang.proofs.Moving.{lend-is}
-use Rattle.pe_walk.specs.Machine.{Machine, Ports, root_corners}
+use Rattle.pe_adapt.specs.CountedTouches.{Machine, Ports}
+use Rattle.pe_walk.specs.Machine.{root_corners}
 use Rattle.pe_walk.specs.Visits.{with_vertices}
 
 module _ {Plan V : Type 0} (numbers : V → List ℤ) (set : Setting Plan) (ports : Ports) (rest : Machine) where

@@ -12,10 +12,11 @@ use Rattle.pe_stacks.specs.Sights.{Numbers, record_of, corner_records}
 use Rattle.pe_hang.specs.InHand.{vertices_on_stacks}
 use Rattle.pe_base.specs.Calls.Follows.{BeforeCall, Failure, Follows, Fits}
 use Rattle.pe_base.proofs.Calls.Leading.{follows-map}
-use Rattle.pe_walk.specs.declared.settings.Settings.{Settings}
+use Rattle.pe_adapt.specs.declared.settings.Settings.{Settings}
 use Rattle.pe_walk.specs.GivenUp.{given_up_times}
-use Rattle.pe_walk.specs.InHand.{ports_of}
-use Rattle.pe_walk.specs.Machine.{Machine, Ports, with_parents, root_corners, plain, give_up_all}
+use Rattle.pe_adapt.specs.WalkedCells.{ports_of}
+use Rattle.pe_adapt.specs.CountedTouches.{Machine, Ports}
+use Rattle.pe_walk.specs.Machine.{with_parents, root_corners, plain, give_up_all}
 use Rattle.pe_walk.specs.Visits.{walk_children, walk_root, Hands, machine_of, found_in}
 use Rattle.pe_walk.proofs.Simulation.Matching.{then-grouped}
 use Rattle.pe_walk.proofs.GivingUp.{gives-follow}

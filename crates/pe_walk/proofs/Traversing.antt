@@ -18,7 +18,7 @@ use Rattle.pe_base.specs.Calls.Told.{Adds, AddsPart}
 use Rattle.pe_stacks.specs.Sights.{Numbers, record_of, seen_cell}
 use Rattle.pe_hang.specs.InHand.{setting_of, map_holdings}
 use Rattle.pe_base.specs.Calls.Follows.{is_fit, Fits, BeforeCall, HasOverfull, Failure, halted, unwritten, wanting, unheard_of, Follows, Does, read_by}
-use Rattle.pe_walk.specs.Machine.{Machine}
+use Rattle.pe_adapt.specs.CountedTouches.{Machine}
 use Rattle.pe_walk.specs.Machine as machine
 use Rattle.pe_walk.specs.Gridded.{HoldsGrid, MachineMayTraverse, MachineHasTraversed, EndAlike, IsShort, IsWalked, ports_of}
 use Rattle.pe_walk.specs.InHand.{machine_between}

@@ -22,7 +22,8 @@ use Rattle.pe_stacks.specs.RecordsOut.{held_by}
 use Rattle.pe_base.proofs.Calls.Leading.{and_then-fits, follows-map, follows-behind, leads_start, leads_next, leads_rest, leads_err, leads_last}
 use Rattle.pe_hang.proofs.Moving.{allowed-fits, allowed-is, lend-is, pop-is, give_up-is, push-is}
 use Rattle.pe_base.specs.Walk.Touches.{tally_cell}
-use Rattle.pe_walk.specs.Machine.{Machine, Ports, tally_may_rise, within_limit, count_cell, cell_output, kind_of_cell, cell_comes, cell_goes, enter_cell, leave_cell}
+use Rattle.pe_adapt.specs.CountedTouches.{Machine, Ports, tally_may_rise, cell_output}
+use Rattle.pe_walk.specs.Machine.{within_limit, count_cell, kind_of_cell, cell_comes, cell_goes, enter_cell, leave_cell}
 
 module _ {Plan X : Type 0} (f : X → List ℤ) (set : Setting Plan) (ports : Ports) (cell : Place) (vertices : Holdings VertexRecord) (tally : Tally) where
   -- what is in hand and on stacks, with cells of some type on theirs

@@ -11,11 +11,11 @@ use Rattle.pe_mapping.specs.Held.{Held}
 use Rattle.pe_base.specs.Calls.Told.{Told, Adds, AddsPart}
 use Rattle.pe_hang.specs.InHand.{setting_of}
 use Rattle.pe_base.specs.Calls.Follows.{is_fit, Fits, BeforeCall, Failure, halted, unwritten, wanting, unheard_of, Follows, Does, read_by}
-use Rattle.pe_walk.specs.declared.settings.Settings.{Settings}
-use Rattle.pe_walk.specs.Machine.{Machine, Ports}
+use Rattle.pe_adapt.specs.declared.settings.Settings.{Settings}
+use Rattle.pe_adapt.specs.CountedTouches.{Machine, Ports}
 use Rattle.pe_walk.specs.Machine as machine
 use Rattle.pe_walk.specs.Gridded.{ports_of}
-use Rattle.pe_walk.specs.InHand.{setting_in, ports_of as ports_in}
+use Rattle.pe_adapt.specs.WalkedCells.{setting_in, ports_of as ports_in}
 use Rattle.pe_order.specs.CellTraffic.{CountsAreFew}
 use Rattle.pe_walk.specs.Traversing.{Stores}
 use Rattle.pe_walk.specs.FaceLaw.{Moment, MayWalk, IsAt, HasWalked, CellEndsAlike, IsBrief, IsCellWalked, WalksCell, CellAnswers, by_address}

@@ -9,9 +9,9 @@ use Rattle.pe_stacks.specs.Sights.{Numbers}
 use Rattle.pe_base.specs.Calls.Follows.{Failure, Follows, Fits, IsRoomier}
 use Rattle.pe_base.proofs.Calls.Leading.{follows-then, leads_start, leads_rest, leads_next, leads_err}
 use Rattle.pe_hang.proofs.Staying.{setting-kept, stays-then}
-use Rattle.pe_adapt.specs.declared.stop.Halt.{Halt}
-use Rattle.pe_walk.specs.declared.settings.Settings.{Settings}
-use Rattle.pe_walk.specs.InHand.{setting_in}
+use Rattle.pe_adapt.specs.declared.stop.Inner.{Inner}
+use Rattle.pe_adapt.specs.declared.settings.Settings.{Settings}
+use Rattle.pe_adapt.specs.WalkedCells.{setting_in}
 use Rattle.pe_walk.specs.Visits.{Hands, found_in, WalkLeft}
 
 -- two courses, one after the other
@@ -66,7 +66,7 @@ module _ {Plan V C : Type 0} (rules : Rules Plan) (settings : Settings) where
   runs-as course course' after answer old new same is = subst (λ course. Follows course after answer (found_in old) new.held.told) same is
 
 -- some cells are walked, and then others
-pub left-then : {Plan V C : Type 0} {numbers : Numbers V C} {settings : Settings} {result : Result (Unit {0}) Halt} {old mid new : Hands Plan V C}
+pub left-then : {Plan V C : Type 0} {numbers : Numbers V C} {settings : Settings} {result : Result (Unit {0}) Inner} {old mid new : Hands Plan V C}
     → WalkLeft numbers settings 0 (Ok tt) old mid → WalkLeft numbers settings 0 result mid new → WalkLeft numbers settings 0 result old new
 left-then first second = record {
   vertices = record { count = second.vertices.count ∙ first.vertices.count; keeps = λ n. omega (arith, first.vertices.keeps n, second.vertices.keeps n); out = omega (arith, first.vertices.out, second.vertices.out) };

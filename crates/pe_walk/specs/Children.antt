@@ -7,7 +7,7 @@ use Rattle.pe_access.specs.States.{StandsFor, row_turns}
 use Rattle.pe_access.specs.Rows.{IsRow}
 use Rattle.pe_states.specs.Sides.{IsRow as IsRowOfAges}
 use Rattle.pe_adapt.specs.Ages.{AreAgesOf, GiveKinds}
-use Rattle.pe_walk.specs.declared.settings.Settings.{Settings}
+use Rattle.pe_adapt.specs.declared.settings.Settings.{Settings}
 use Rattle.pe_walk.specs.declared.child.Above.{Above}
 use Rattle.pe_walk.specs.declared.child.Child.{Child}
 

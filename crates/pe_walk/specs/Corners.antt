@@ -14,39 +14,18 @@ use Rattle.pe_stacks.specs.Sights.{Numbers, corner_records}
 use Rattle.pe_hang.specs.InHand.{Stays}
 use Rattle.pe_base.specs.Calls.Follows.{BeforeCall, Failure, Follows, Leads, Fits, read_by}
 use Rattle.pe_stacks.specs.RecordsOut.{RecordsOut, held_by}
-use Rattle.pe_adapt.specs.declared.stop.Halt.{Halt}
+use Rattle.pe_adapt.specs.declared.stop.Inner.{Inner}
 use Rattle.pe_adapt.specs.Slots.{seen_slot}
 use Rattle.pe_adapt.specs.Ages.{GiveKinds}
-use Rattle.pe_walk.specs.declared.settings.Settings.{Settings}
-use Rattle.pe_walk.specs.declared.progress.Progress.{Progress}
-use Rattle.pe_walk.specs.declared.walked.WalkedCell.{WalkedCell}
-use Rattle.pe_walk.specs.Machine.{Machine, Ports, load_all, store_all}
-use Rattle.pe_walk.specs.InHand.{IsWalked, setting_in, ports_of, machine_in_hand, failure_in}
-
--- what a call that touches corners has in hand
-pub record Hand (Plan V C : Type 0) : Type 0 where
-  pub held : Held Plan
-  pub vertices : Holdings (Vertex V)
-  pub room : ℕ → ℕ
-  pub parents : CornerList (Vertex V)
-  pub parent : CellRec C
-  pub progress : Progress
-
-abbrev pub hand_of : {Plan V C : Type 0} → Held Plan → Holdings (Vertex V) → (ℕ → ℕ) → CornerList (Vertex V) → CellRec C → Progress → Hand Plan V C
-hand_of held vertices room parents parent progress =
-    record { held = held; vertices = vertices; room = room; parents = parents; parent = parent; progress = progress }
-
-abbrev pub machine_of : {Plan V C : Type 0} → Numbers V C → Holdings (List ℤ) → Hand Plan V C → Machine
-machine_of numbers cells hand = machine_in_hand numbers hand.vertices cells hand.parents hand.parent hand.held.list hand.progress.tally
-
-abbrev pub found_in : {Plan V C : Type 0} → Hand Plan V C → (ℕ → ℕ) → BeforeCall
-found_in hand room = found_of hand.held (held_by hand.vertices hand.room) room
+use Rattle.pe_adapt.specs.declared.settings.Settings.{Settings}
+use Rattle.pe_adapt.specs.declared.progress.Progress.{Progress}
+use Rattle.pe_adapt.specs.declared.walked.WalkedCell.{WalkedCell}
+use Rattle.pe_adapt.specs.CountedTouches.{Machine, Ports}
+use Rattle.pe_adapt.specs.TouchCalls.{Hand, machine_of, found_in, filled_in, MayGo}
+use Rattle.pe_walk.specs.Machine.{load_all, store_all}
+use Rattle.pe_adapt.specs.WalkedCells.{IsWalked, setting_in, ports_of, machine_in_hand, failure_in}
 
 -- how many vertices are in slots
-abbrev pub filled_in : {X : Type 0} → Option X → ℕ
-filled_in None = 0
-filled_in (Some x) = 1
-
 abbrev pub filled_in_corners : {X : Type 0} → CornerList X → ℕ
 filled_in_corners corners = sum_by filled_in corners.slots
 
@@ -66,21 +45,6 @@ loads_left set ports cell its m = load_all set ports cell (2 ^ set.axes - length
 abbrev pub stores_left : {Plan : Type 0} → Setting Plan → Ports → Place → List VertexRecord → Machine → Course Machine
 stores_left set ports cell its m = store_all set ports cell (2 ^ set.axes - length its) its m
 
--- the machine does not get stuck, whatever lies on the stacks of cells
-abbrev pub MayGo : {Plan V C X : Type 0} → Rules Plan → Numbers V C → Settings → (Setting Plan → Machine → Course X) → Hand Plan V C → Type 0
-MayGo rules numbers settings course hand =
-    (cells : Holdings (List ℤ)) → Fits (course (setting_in rules hand.held settings) (machine_of numbers cells hand))
-
--- A call does what the machine does. `had` and `has` are how many vertices its slots held before and hold afterwards: no
--- other record came out or went. It counts vertices, and no cells.
-pub record GoesAlong {Plan V C X : Type 0} (rules : Rules Plan) (numbers : Numbers V C) (settings : Settings) (course : Setting Plan → Machine → Course X) (after : Machine → X) (had has : ℕ) (result : Result (Unit {0}) Halt) (old new : Hand Plan V C) : Type 0 where
-  pub follows : (cells : Holdings (List ℤ)) (room : ℕ → ℕ) → Follows
-      (course (setting_in rules old.held settings) (machine_of numbers cells old)) (λ (done : Unit {0}). after (machine_of numbers cells new))
-      (read_by (failure_in new.progress) result) (found_in old room) new.held.told
-  pub left : RecordsOut had has old.vertices old.room new.vertices new.room false
-  pub stays : Stays numbers.vertex old.held new.held old.parents new.parents
-  pub counted : new.progress.tally.cells ≡ old.progress.tally.cells
-
 -- A course is left, and then another one. Where a call comes through, the first leads to the second; where it fails, the first
 -- fails, whatever would have come of it.
 module _ {X : Type 0} where
@@ -89,7 +53,7 @@ module _ {X : Type 0} where
   LeadsOn whole rest (Err failure) old now = (after : Unit {0} → X) → Follows whole after (Err failure) old now.told
 
 -- A call does some of what is left for the machine to do.
-pub record GoesOn {Plan V C X : Type 0} (rules : Rules Plan) (numbers : Numbers V C) (settings : Settings) (whole rest : Setting Plan → Machine → Course X) (had has : ℕ) (result : Result (Unit {0}) Halt) (old new : Hand Plan V C) : Type 0 where
+pub record GoesOn {Plan V C X : Type 0} (rules : Rules Plan) (numbers : Numbers V C) (settings : Settings) (whole rest : Setting Plan → Machine → Course X) (had has : ℕ) (result : Result (Unit {0}) Inner) (old new : Hand Plan V C) : Type 0 where
   pub leads : (cells : Holdings (List ℤ)) (room : ℕ → ℕ) → LeadsOn
       (whole (setting_in rules old.held settings) (machine_of numbers cells old)) (rest (setting_in rules old.held settings) (machine_of numbers cells new))
       (read_by (failure_in new.progress) result) (found_in old room) (found_in new room)
@@ -102,7 +66,7 @@ abbrev pub left_of : {Plan V C X : Type 0} → (Setting Plan → Ports → Place
 left_of course numbers settings cell corners set m = course set (ports_of settings) cell (corner_records numbers.vertex corners) m
 
 -- some of it is done
-abbrev pub TouchesOn : {Plan V C X : Type 0} → Rules Plan → Numbers V C → Settings → (Setting Plan → Ports → Place → List VertexRecord → Machine → Course X) → Place → CornerList (Vertex V) → CornerList (Vertex V) → Result (Unit {0}) Halt → Hand Plan V C → Hand Plan V C → Type 0
+abbrev pub TouchesOn : {Plan V C X : Type 0} → Rules Plan → Numbers V C → Settings → (Setting Plan → Ports → Place → List VertexRecord → Machine → Course X) → Place → CornerList (Vertex V) → CornerList (Vertex V) → Result (Unit {0}) Inner → Hand Plan V C → Hand Plan V C → Type 0
 TouchesOn rules numbers settings course cell before after result old new =
     GoesOn rules numbers settings (left_of course numbers settings cell before) (left_of course numbers settings cell after) (filled_in_corners before) (filled_in_corners after) result old new
 

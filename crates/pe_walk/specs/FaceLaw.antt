@@ -21,7 +21,8 @@ use Rattle.pe_stacks.specs.Grid.{input_stack, cell_input_stack}
 use Rattle.pe_base.specs.Calls.Told.{Told, AddsPart, FailsToTell}
 use Rattle.pe_base.specs.Acts.Moments.{IsTraversal}
 use Rattle.pe_base.specs.Calls.Follows.{BeforeCall, Failure, halted, unwritten, wanting, unheard_of, IsOverfull, Does}
-use Rattle.pe_walk.specs.Machine.{Machine, Ports, with_parents}
+use Rattle.pe_adapt.specs.CountedTouches.{Machine, Ports}
+use Rattle.pe_walk.specs.Machine.{with_parents}
 use Rattle.pe_walk.specs.Machine as machine
 use Rattle.pe_order.specs.Tokens.{Tokens}
 use Rattle.pe_order.specs.Takings.{loads_of, takes, gives, cell_takes, cell_gives, met_after, Due, MayBegin, HasEnded}

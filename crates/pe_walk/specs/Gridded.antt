@@ -17,7 +17,7 @@ use Rattle.pe_base.specs.Walk.Walk as model
 use Rattle.pe_stacks.specs.Holdings.{CountsWithin}
 use Rattle.pe_stacks.specs.Grid.{input_stack, cell_input_stack}
 use Rattle.pe_stacks.specs.StreamsHeld.{Streams, DepotsHold}
-use Rattle.pe_walk.specs.Machine.{Machine, Ports}
+use Rattle.pe_adapt.specs.CountedTouches.{Machine, Ports}
 use Rattle.pe_walk.specs.Machine as machine
 use Rattle.pe_order.specs.Outlooks.{IsNew}
 

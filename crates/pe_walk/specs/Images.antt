@@ -7,7 +7,7 @@ use Rattle.pe_base.specs.Acts.Effects.{VertexRecord}
 use Rattle.pe_base.specs.Walk.Core.{Setting}
 use Rattle.pe_base.specs.Walk.Working.{Working, vertex_at, cell_at, family_of}
 use Rattle.pe_hang.specs.InHand.{map_holdings}
-use Rattle.pe_walk.specs.Machine.{Machine}
+use Rattle.pe_adapt.specs.CountedTouches.{Machine}
 use Rattle.pe_order.specs.Tokens.{Tokens}
 use Rattle.pe_walk.specs.Standing.{Outset}
 

@@ -8,9 +8,7 @@ pub mod CoreKeeps
 pub mod Standing
 -- the machine as an image of it
 pub mod Images
--- the stacks of a traversal's streams
-pub mod Streams
--- what the calls of a traversal have in hand, as the machine sees it
+-- what the calls of a traversal have on stacks between two of them, as the machine sees it
 pub mod InHand
 -- a grid on stacks, and a traversal of it
 pub mod Gridded

@@ -17,41 +17,7 @@ use Rattle.pe_base.specs.Walk.Core.{Setting, way, Family, Own, fresh_vertex, pla
 use Rattle.pe_base.specs.Walk.Touches.{tally_load, tally_store, tally_cell, kind_below}
 use Rattle.pe_stacks.specs.Holdings.{Holdings}
 use Rattle.pe_hang.specs.Moves.{may_rise, lend, give_up, pop, push}
-use Rattle.pe_adapt.specs.Touches.{Desk, kind_in_hand}
-use Rattle.pe_adapt.specs.Touches as corners
-
-pub record Machine : Type 0 where
-  pub vertices : Holdings VertexRecord
-  pub cells : Holdings (List ℤ)
-  pub family : Family
-  pub tally : Tally
-
--- the stacks of the streams: the inputs, and the outputs beside them
-pub record Ports : Type 0 where
-  pub input : ℕ
-  pub cell_input : ℕ
-
-abbrev pub output : Ports → ℕ
-output ports = 17 - ports.input
-
-abbrev pub cell_output : Ports → ℕ
-cell_output ports = 1 - ports.cell_input
-
--- every number of a tally may rise
-abbrev pub tally_may_rise : Tally → Bool
-tally_may_rise tally =
-    may_rise tally.cells && may_rise tally.read && may_rise tally.written
-    && may_rise tally.created && may_rise tally.destroyed && may_rise tally.hanging
-
--- a vertex that counts lies inside the root cube
-abbrev pub is_placed : ℕ → Kind → Place → Bool
-is_placed axes kind vertex = is_hanging kind || is_inside axes vertex
-
-abbrev pub desk_of : Machine → Desk
-desk_of m = record { vertices = m.vertices; family = m.family }
-
-abbrev pub with_desk : Desk → Machine → Machine
-with_desk desk m = record m { vertices = desk.vertices; family = desk.family }
+use Rattle.pe_adapt.specs.CountedTouches.{Machine, Ports, cell_output, tally_may_rise, load_corner, store_corner}
 
 -- corners become the parents, or there are none
 abbrev pub with_parents : List VertexRecord → Machine → Machine
@@ -72,33 +38,15 @@ module _ {Plan : Type 0} (set : Setting Plan) (ports : Ports) where
       let counted = record m { tally = tally_cell cell m.tally } in
       allowed (tally_may_rise m.tally) (within_limit cell counted (nat_lt set.max_cells counted.tally.cells))
 
-  -- a corner is loaded, and stored
-  abbrev pub load_corner : Place → ℕ → Machine → Course (VertexRecord × Machine)
-  load_corner cell k m =
-      let vertex = corner set.axes cell k in
-      let kind = kind_in_hand set cell m.family.parents vertex in
-      let first = is_none (stack_in set.axes (way set) vertex cell) in
-      allowed (tally_may_rise m.tally && is_placed set.axes kind vertex)
-      (course_map (λ it. (it.0, with_desk it.1 (record m { tally = tally_load kind first m.tally })))
-      (corners.load_corner set ports.input cell k (desk_of m)))
-
-  abbrev pub store_corner : Place → ℕ → VertexRecord → Machine → Course Machine
-  store_corner cell k it m =
-      let vertex = corner set.axes cell k in
-      let last = is_none (stack_out set.axes (way set) vertex cell) in
-      allowed (tally_may_rise m.tally && is_placed set.axes it.kind vertex)
-      (course_map (λ desk. with_desk desk (record m { tally = tally_store it.kind last m.tally }))
-      (corners.store_corner set (output ports) cell k it (desk_of m)))
-
   -- the corners of a cell, in descending number; they are kept in ascending number
   abbrev pub load_all : Place → ℕ → List VertexRecord → Machine → Course (List VertexRecord × Machine)
   load_all cell zero its m = at_once (its, m)
-  load_all cell (suc k) its m = and_then (load_corner cell k m) (λ it. load_all cell k (it.0 ∷ its) it.1)
+  load_all cell (suc k) its m = and_then (load_corner set ports cell k m) (λ it. load_all cell k (it.0 ∷ its) it.1)
 
   -- and in ascending number
   abbrev pub store_all : Place → ℕ → List VertexRecord → Machine → Course Machine
   store_all cell k [] m = at_once m
-  store_all cell k (it ∷ its) m = and_then (store_corner cell k it m) (store_all cell (k + 1) its)
+  store_all cell k (it ∷ its) m = and_then (store_corner set ports cell k it m) (store_all cell (k + 1) its)
 
   -- the kind of a cell, by the corners of its parent in hand
   abbrev pub kind_of_cell : Place → Machine → Kind

@@ -6,7 +6,7 @@ use Rattle.pe_base.specs.Walk.Core.{Setting}
 use Rattle.pe_base.specs.Walk.Grids.{Grid}
 use Rattle.pe_base.specs.Walk.Walk as model
 use Rattle.pe_stacks.specs.Holdings.{RaisesCounts}
-use Rattle.pe_walk.specs.Machine.{Machine}
+use Rattle.pe_adapt.specs.CountedTouches.{Machine}
 use Rattle.pe_walk.specs.Machine as machine
 use Rattle.pe_order.specs.Outlooks.{outlook}
 use Rattle.pe_order.specs.FewCells.{most_cells}

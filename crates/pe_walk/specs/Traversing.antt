@@ -22,7 +22,7 @@ use Rattle.pe_stacks.specs.Sights.{Numbers}
 use Rattle.pe_base.specs.Calls.Follows.{BeforeCall, Failure, halted, unwritten, wanting, unheard_of, Does}
 use Rattle.pe_walk.specs.Gridded.{HoldsGrid, size}
 use Rattle.pe_order.specs.Outlooks.{IsNew, outlook}
-use Rattle.pe_order.specs.FewCells.{most_cells}
+use Rattle.pe_order.specs.FewCells.{most_cells as most_by_vertices}
 use Rattle.pe_order.specs.Tallies.{ExactTraffic}
 use Rattle.pe_walk.specs.InHand.{machine_between}
 
@@ -78,7 +78,7 @@ pub record Traverses {Plan V C : Type 0} (numbers : Numbers V C) (set : Setting 
   pub greatest : next.greatest ≡ grid.greatest
   pub holds : HoldIt numbers mapping after answer.0 next
   pub traffic : ExactTraffic (outlook set.start_level grid swapped) grid.greatest before.vertices after.vertices before.cells after.cells answer.1
-  pub few : answer.1.cells ≤ most_cells grid.axes (answer.1.read + answer.1.created)
+  pub few : answer.1.cells ≤ most_by_vertices grid.axes (answer.1.read + answer.1.created)
   pub rises : RaisesCounts before.vertices after.vertices (64 * (answer.1.cells + 1))
   pub cells_rise : RaisesCounts before.cells after.cells (64 * (answer.1.cells + 1))
 

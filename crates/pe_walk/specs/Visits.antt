@@ -17,11 +17,12 @@ use Rattle.pe_stacks.specs.Sights.{Numbers}
 use Rattle.pe_hang.specs.InHand.{cells_on_stacks, Stays}
 use Rattle.pe_base.specs.Calls.Follows.{BeforeCall, Follows, Fits, read_by}
 use Rattle.pe_stacks.specs.RecordsOut.{RecordsOut, held_by}
-use Rattle.pe_adapt.specs.declared.stop.Halt.{Halt}
-use Rattle.pe_walk.specs.declared.settings.Settings.{Settings}
-use Rattle.pe_walk.specs.declared.progress.Progress.{Progress}
-use Rattle.pe_walk.specs.InHand.{setting_in, machine_in_hand, failure_in}
-use Rattle.pe_walk.specs.Machine.{Machine, Ports, enter_cell, leave_cell, inside, outside, if_walked, walk_cell, plain}
+use Rattle.pe_adapt.specs.declared.stop.Inner.{Inner}
+use Rattle.pe_adapt.specs.declared.settings.Settings.{Settings}
+use Rattle.pe_adapt.specs.declared.progress.Progress.{Progress}
+use Rattle.pe_adapt.specs.WalkedCells.{setting_in, machine_in_hand, failure_in}
+use Rattle.pe_adapt.specs.CountedTouches.{Machine, Ports}
+use Rattle.pe_walk.specs.Machine.{enter_cell, leave_cell, inside, outside, if_walked, walk_cell, plain}
 
 module _ {Plan : Type 0} (set : Setting Plan) (ports : Ports) where
   -- the walks of the children of a cell
@@ -87,14 +88,14 @@ pub record MayWalkCells {Plan V C X : Type 0} (rules : Rules Plan) (numbers : Nu
   pub fits : Fits (course (setting_in rules hands.held settings) (machine_of numbers hands))
 
 -- a call does what the machine does
-abbrev pub Walks : {Plan V C X : Type 0} → Rules Plan → Numbers V C → Settings → (Setting Plan → Machine → Course X) → (Machine → X) → Result (Unit {0}) Halt → Hands Plan V C → Hands Plan V C → Type 0
+abbrev pub Walks : {Plan V C X : Type 0} → Rules Plan → Numbers V C → Settings → (Setting Plan → Machine → Course X) → (Machine → X) → Result (Unit {0}) Inner → Hands Plan V C → Hands Plan V C → Type 0
 Walks rules numbers settings course after result old new = Follows
     (course (setting_in rules old.held settings) (machine_of numbers old)) (λ (done : Unit {0}). after (machine_of numbers new))
     (read_by (failure_in new.progress) result) (found_in old) new.held.told
 
 -- What a call that walks cells leaves, whatever its answer: no other record is out or in, no more cells are made than are counted,
 -- so many of them ahead of the call, and what no event changes stays.
-pub record WalkLeft {Plan V C : Type 0} (numbers : Numbers V C) (settings : Settings) (ahead : ℕ) (result : Result (Unit {0}) Halt) (old new : Hands Plan V C) : Type 0 where
+pub record WalkLeft {Plan V C : Type 0} (numbers : Numbers V C) (settings : Settings) (ahead : ℕ) (result : Result (Unit {0}) Inner) (old new : Hands Plan V C) : Type 0 where
   pub vertices : RecordsOut 0 0 old.vertices old.room new.vertices new.room (is_err result)
   pub cells : RecordsOut 0 0 old.cells old.cell_room new.cells new.cell_room (is_err result)
   pub counts : CountsCells settings.setup.max_cells ahead old.progress old.cells new.progress new.cells (is_err result)

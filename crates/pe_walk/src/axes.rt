@@ -5,16 +5,13 @@ ghost use Rattle.pe_stacks.specs.Corners.{no_vertices};
 ghost use Rattle.pe_stacks.specs.Sights.{corner_records};
 ghost use Rattle.pe_adapt.specs.Ages.{AreAgesOf, GiveKinds};
 ghost use Rattle.pe_walk.specs.Machine.{kind_among, walk_cell};
-ghost use Rattle.pe_walk.specs.InHand.{ports_of, IsWalked};
+ghost use Rattle.pe_adapt.specs.WalkedCells.{ports_of, IsWalked};
 ghost use Rattle.pe_walk.specs.Children.{IsAbove};
 ghost use Rattle.pe_walk.specs.Visits.{walk_children, MayWalkCells, Walks, WalkLeft, hands_of};
 
 use crate::cell;
 use crate::child::Above;
-use crate::progress::Progress;
-use crate::settings::Settings;
-use crate::walked::WalkedCell;
-use pe_adapt::Halt;
+use pe_adapt::{Inner, Progress, Settings, WalkedCell};
 use pe_base::Kind;
 use pe_mapping::Mapping;
 use pe_stacks::{CellRec, Corners, Depot, Vertex};
@@ -32,7 +29,7 @@ pub(crate) fn walk_cell<M: Mapping, DV: Depot<Vertex<M::V>>, DC: Depot<CellRec<M
     corners: &mut Corners<M::V>,
     parents: &mut Corners<M::V>,
     parent: &mut CellRec<M::C>,
-) -> Result<(), Halt>
+) -> Result<(), Inner>
     requires may { MayWalkCells M.rules M.numbers settings.now cell.now.place.level levels
         (λ set. walk_cell set (ports_of settings.now) (suc levels) cell.now.place)
         (hands_of (M.held m.old) (DV.holds dv.old) (DV.room dv.old) (DC.holds dc.old) (DC.room dc.old) parents.old parent.old progress.old) }
@@ -75,7 +72,7 @@ pub(crate) fn walk_children<M: Mapping, DV: Depot<Vertex<M::V>>, DC: Depot<CellR
     dc: &mut DC,
     parents: &mut Corners<M::V>,
     parent: &mut CellRec<M::C>,
-) -> Result<(), Halt>
+) -> Result<(), Inner>
     requires may { MayWalkCells M.rules M.numbers settings.now above.now.place.level levels
         (λ set. walk_children set (ports_of settings.now) levels above.now.place)
         (hands_of (M.held m.old) (DV.holds dv.old) (DV.room dv.old) (DC.holds dc.old) (DC.room dc.old) parents.old parent.old progress.old) }

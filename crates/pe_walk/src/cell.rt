@@ -7,7 +7,7 @@ ghost use Rattle.pe_stacks.specs.Sights.{corner_records};
 ghost use Rattle.pe_hang.specs.InHand.{own_in_hand, CornersStay};
 ghost use Rattle.pe_adapt.specs.Ages.{AreAgesOf, GiveKinds};
 ghost use Rattle.pe_walk.specs.Machine.{kind_among, walk_cell};
-ghost use Rattle.pe_walk.specs.InHand.{ports_of, IsWalked};
+ghost use Rattle.pe_adapt.specs.WalkedCells.{ports_of, IsWalked};
 ghost use Rattle.pe_walk.specs.Children.{IsAbove};
 ghost use Rattle.pe_walk.specs.Visits.{walk_children, walk_below, visit_cell, with_family, MayWalkCells, Walks, WalkLeft, hands_of};
 
@@ -15,11 +15,9 @@ use crate::child::{Above, child_of, move_to};
 use crate::corners::{load_corners, store_corners};
 use crate::count::count_cell;
 use crate::hand::give_up_from;
-use crate::progress::Progress;
-use crate::settings::{Settings, cursor_in};
+use crate::order::cursor_in;
 use crate::visit::{enter_cell, leave_cell};
-use crate::walked::WalkedCell;
-use pe_adapt::{Halt, ages_of};
+use pe_adapt::{Inner, Progress, Settings, WalkedCell, ages_of};
 use pe_base::{Digits, Kind};
 use pe_mapping::Mapping;
 use pe_stacks::{CellRec, Corners, Depot, Vertex};
@@ -44,7 +42,7 @@ pub(crate) fn walk_cell<
     corners: &mut Corners<M::V>,
     parents: &mut Corners<M::V>,
     parent: &mut CellRec<M::C>,
-) -> Result<(), Halt>
+) -> Result<(), Inner>
     requires axes { settings.now.setup.dim ≡ AXES }
     requires may { MayWalkCells M.rules M.numbers settings.now cell.now.place.level levels
         (λ set. walk_cell set (ports_of settings.now) (suc levels) cell.now.place)
@@ -99,7 +97,7 @@ fn visit_cell<const AXES: u8, M: Mapping, DV: Depot<Vertex<M::V>>, DC: Depot<Cel
     corners: &mut Corners<M::V>,
     parents: &mut Corners<M::V>,
     parent: &mut CellRec<M::C>,
-) -> Result<(), Halt>
+) -> Result<(), Inner>
     requires axes { settings.now.setup.dim ≡ AXES }
     requires may { MayWalkCells M.rules M.numbers settings.now cell.now.place.level levels
         (λ set. visit_cell set (ports_of settings.now) levels cell.now.place (corner_records M.numbers.vertex corners.old))
@@ -151,7 +149,7 @@ fn walk_below<const AXES: u8, M: Mapping, DV: Depot<Vertex<M::V>>, DC: Depot<Cel
     dc: &mut DC,
     corners: &mut Corners<M::V>,
     own: &mut CellRec<M::C>,
-) -> Result<(), Halt>
+) -> Result<(), Inner>
     requires axes { settings.now.setup.dim ≡ AXES }
     requires may { (outer : Family) × MayWalkCells M.rules M.numbers settings.now cell.now.place.level levels
         (λ set machine. walk_below set (ports_of settings.now) levels cell.now.place (own_in_hand M.numbers own.old corners.old, with_family outer machine))
@@ -205,7 +203,7 @@ pub(crate) fn walk_children<
     dc: &mut DC,
     parents: &mut Corners<M::V>,
     parent: &mut CellRec<M::C>,
-) -> Result<(), Halt>
+) -> Result<(), Inner>
     requires axes { settings.now.setup.dim ≡ AXES }
     requires may { MayWalkCells M.rules M.numbers settings.now above.now.place.level levels
         (λ set. walk_children set (ports_of settings.now) levels above.now.place)

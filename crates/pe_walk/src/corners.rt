@@ -9,14 +9,12 @@ ghost use Rattle.pe_stacks.specs.RecordsOut.{RecordsOut, held_by};
 ghost use Rattle.pe_mapping.specs.Held.{found_of};
 ghost use Rattle.pe_adapt.specs.Ages.{GiveKinds};
 ghost use Rattle.pe_walk.specs.Machine.{load_all, store_all};
-ghost use Rattle.pe_walk.specs.InHand.{IsWalked, setting_in, ports_of, machine_in_hand, failure_in};
-ghost use Rattle.pe_walk.specs.Corners.{MayGo, GoesAlong, AreOf, hand_of, filled_in, filled_in_corners, seen_slots};
+ghost use Rattle.pe_adapt.specs.WalkedCells.{IsWalked, setting_in, ports_of, machine_in_hand, failure_in};
+ghost use Rattle.pe_adapt.specs.TouchCalls.{MayGo, GoesAlong, hand_of, filled_in};
+ghost use Rattle.pe_walk.specs.Corners.{AreOf, filled_in_corners, seen_slots};
 
-use crate::progress::Progress;
 use crate::quad::{load_last, load_quad, store_quad};
-use crate::settings::Settings;
-use crate::walked::WalkedCell;
-use pe_adapt::Halt;
+use pe_adapt::{Inner, Progress, Settings, WalkedCell};
 use pe_base::Dim;
 use pe_mapping::Mapping;
 use pe_stacks::{CellRec, Corners, Depot, Vertex};
@@ -58,7 +56,7 @@ fn load_quads<const AXES: u8, M: Mapping, DV: Depot<Vertex<M::V>>>(
     corners: &mut Corners<M::V>,
     parents: &mut Corners<M::V>,
     parent: &mut CellRec<M::C>,
-) -> Result<(), Halt>
+) -> Result<(), Inner>
     requires axes { settings.now.setup.dim ≡ AXES }
     requires dim { (M.held m.old).dim ≡ settings.now.setup.dim }
     requires walked { IsWalked (M.held m.old).dim settings.now cell.now }
@@ -90,7 +88,7 @@ fn store_quads<const AXES: u8, M: Mapping, DV: Depot<Vertex<M::V>>>(
     corners: &mut Corners<M::V>,
     parents: &mut Corners<M::V>,
     parent: &mut CellRec<M::C>,
-) -> Result<(), Halt>
+) -> Result<(), Inner>
     requires axes { settings.now.setup.dim ≡ AXES }
     requires dim { (M.held m.old).dim ≡ settings.now.setup.dim }
     requires walked { IsWalked (M.held m.old).dim settings.now cell.now }
@@ -124,7 +122,7 @@ pub(crate) fn load_corners<const AXES: u8, M: Mapping, DV: Depot<Vertex<M::V>>>(
     corners: &mut Corners<M::V>,
     parents: &mut Corners<M::V>,
     parent: &mut CellRec<M::C>,
-) -> Result<(), Halt>
+) -> Result<(), Inner>
     requires axes { settings.now.setup.dim ≡ AXES }
     requires dim { (M.held m.old).dim ≡ settings.now.setup.dim }
     requires walked { IsWalked (M.held m.old).dim settings.now cell.now }
@@ -166,7 +164,7 @@ pub(crate) fn store_corners<const AXES: u8, M: Mapping, DV: Depot<Vertex<M::V>>>
     corners: &mut Corners<M::V>,
     parents: &mut Corners<M::V>,
     parent: &mut CellRec<M::C>,
-) -> Result<(), Halt>
+) -> Result<(), Inner>
     requires axes { settings.now.setup.dim ≡ AXES }
     requires dim { (M.held m.old).dim ≡ settings.now.setup.dim }
     requires walked { IsWalked (M.held m.old).dim settings.now cell.now }

@@ -1,10 +1,8 @@
 ghost use Rattle.std.specs.Prelude.{◌≡◌, ◌^◌, ◌<◌, ◌≤◌, OnOk, OnErr, IfErr};
 ghost use Rattle.pe_base.specs.Walk.Touches.{tally_cell};
-ghost use Rattle.pe_adapt.specs.declared.stop.Halt.TheVariants.{CellLimit as ByLimit};
+ghost use Rattle.pe_adapt.specs.declared.stop.Inner.TheVariants.{CellLimit as ByLimit};
 
-use crate::progress::Progress;
-use crate::settings::Settings;
-use pe_adapt::Halt;
+use pe_adapt::{Inner, Progress, Settings};
 use pe_base::Place;
 
 /// Counts a cell. One more than may be walked halts the walk.
@@ -12,7 +10,7 @@ pub(crate) fn count_cell(
     settings: &Settings,
     at: &Place,
     progress: &mut Progress,
-) -> Result<(), Halt>
+) -> Result<(), Inner>
     requires { progress.old.tally.cells < 2 ^ 63 }
     ensures tally { progress.new.tally ≡ tally_cell at.now progress.old.tally }
     ensures within { OnOk result (progress.new.tally.cells ≤ settings.now.setup.max_cells) }
@@ -24,7 +22,7 @@ pub(crate) fn count_cell(
     progress.tally.deepest = progress.tally.deepest.max(at.level);
     if progress.tally.cells > settings.setup.max_cells {
         progress.at = *at;
-        return Err(Halt::CellLimit);
+        return Err(Inner::CellLimit);
     }
     Ok(())
 }

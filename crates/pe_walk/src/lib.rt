@@ -4,21 +4,16 @@
 mod axes;
 mod cell;
 mod child;
-mod corner;
 mod corners;
 mod count;
 mod face;
 mod hand;
 pub mod laws;
-mod progress;
+mod order;
 mod quad;
 mod root;
-mod settings;
-mod tallies;
-mod touch;
 mod traversal;
 mod visit;
-mod walked;
 mod whole;
 
 pub use pe_adapt::WalkStop;

@@ -1,13 +1,10 @@
 // The corners of the cell that is walked in their slots, one by one and four by four: loaded in descending number and stored in
 // ascending number.
 ghost use Rattle.std.specs.Prelude.{◌≡◌, ◌+◌, ◌-◌, ◌*◌, ◌<◌, ◌^◌, OnOk};
-ghost use Rattle.pe_walk.specs.Corners.{AreOf, MayLoad, MayStore, TouchesOn, hand_of, filled_in_corners, loads_left, stores_left};
+ghost use Rattle.pe_adapt.specs.TouchCalls.{hand_of};
+ghost use Rattle.pe_walk.specs.Corners.{AreOf, MayLoad, MayStore, TouchesOn, filled_in_corners, loads_left, stores_left};
 
-use crate::corner::{load_corner, store_corner};
-use crate::progress::Progress;
-use crate::settings::{Settings, corners_in};
-use crate::walked::WalkedCell;
-use pe_adapt::Halt;
+use pe_adapt::{Inner, Progress, Settings, WalkedCell, corners_in, load_in_slot, store_in_slot};
 use pe_mapping::Mapping;
 use pe_stacks::{CellRec, Corners, Depot, Vertex};
 
@@ -23,7 +20,7 @@ fn load_next<M: Mapping, DV: Depot<Vertex<M::V>>>(
     corners: &mut Corners<M::V>,
     parents: &mut Corners<M::V>,
     parent: &mut CellRec<M::C>,
-) -> Result<(), Halt>
+) -> Result<(), Inner>
     requires ready { MayLoad M.rules M.numbers settings.now cell.now corners.old
         (hand_of (M.held m.old) (DV.holds dv.old) (DV.room dv.old) parents.old parent.old progress.old) }
     requires inside { k < 2 ^ settings.now.setup.dim }
@@ -37,7 +34,7 @@ fn load_next<M: Mapping, DV: Depot<Vertex<M::V>>>(
     ensures corners { AreOf settings.now.setup.dim corners.new }
 {
     let slot = corners.slot_mut(k);
-    load_corner(settings, cell, k, progress, slot, m, dv, parents, parent)
+    load_in_slot(settings, cell, k, progress, slot, m, dv, parents, parent)
 }
 
 // Stores corner `k`. All behind it are still to be stored, and none before it is.
@@ -52,7 +49,7 @@ fn store_next<M: Mapping, DV: Depot<Vertex<M::V>>>(
     corners: &mut Corners<M::V>,
     parents: &mut Corners<M::V>,
     parent: &mut CellRec<M::C>,
-) -> Result<(), Halt>
+) -> Result<(), Inner>
     requires ready { MayStore M.rules M.numbers settings.now cell.now corners.old
         (hand_of (M.held m.old) (DV.holds dv.old) (DV.room dv.old) parents.old parent.old progress.old) }
     requires inside { k < 2 ^ settings.now.setup.dim }
@@ -66,7 +63,7 @@ fn store_next<M: Mapping, DV: Depot<Vertex<M::V>>>(
     ensures corners { AreOf settings.now.setup.dim corners.new }
 {
     let slot = corners.slot_mut(k);
-    store_corner(settings, cell, k, progress, slot, m, dv, parents, parent)
+    store_in_slot(settings, cell, k, progress, slot, m, dv, parents, parent)
 }
 
 // Loads corners `4 q` to `4 q + 3`, if the cell has them. All behind them are loaded, and none before them is.
@@ -81,7 +78,7 @@ pub(crate) fn load_quad<const AXES: u8, M: Mapping, DV: Depot<Vertex<M::V>>>(
     corners: &mut Corners<M::V>,
     parents: &mut Corners<M::V>,
     parent: &mut CellRec<M::C>,
-) -> Result<(), Halt>
+) -> Result<(), Inner>
     requires axes { settings.now.setup.dim ≡ AXES }
     requires ready { MayLoad M.rules M.numbers settings.now cell.now corners.old
         (hand_of (M.held m.old) (DV.holds dv.old) (DV.room dv.old) parents.old parent.old progress.old) }
@@ -149,7 +146,7 @@ pub(crate) fn store_quad<const AXES: u8, M: Mapping, DV: Depot<Vertex<M::V>>>(
     corners: &mut Corners<M::V>,
     parents: &mut Corners<M::V>,
     parent: &mut CellRec<M::C>,
-) -> Result<(), Halt>
+) -> Result<(), Inner>
     requires axes { settings.now.setup.dim ≡ AXES }
     requires ready { MayStore M.rules M.numbers settings.now cell.now corners.old
         (hand_of (M.held m.old) (DV.holds dv.old) (DV.room dv.old) parents.old parent.old progress.old) }
@@ -216,7 +213,7 @@ fn load_upper<const AXES: u8, M: Mapping, DV: Depot<Vertex<M::V>>>(
     corners: &mut Corners<M::V>,
     parents: &mut Corners<M::V>,
     parent: &mut CellRec<M::C>,
-) -> Result<(), Halt>
+) -> Result<(), Inner>
     requires axes { settings.now.setup.dim ≡ AXES }
     requires ready { MayLoad M.rules M.numbers settings.now cell.now corners.old
         (hand_of (M.held m.old) (DV.holds dv.old) (DV.room dv.old) parents.old parent.old progress.old) }
@@ -244,7 +241,7 @@ pub(crate) fn load_last<const AXES: u8, M: Mapping, DV: Depot<Vertex<M::V>>>(
     corners: &mut Corners<M::V>,
     parents: &mut Corners<M::V>,
     parent: &mut CellRec<M::C>,
-) -> Result<(), Halt>
+) -> Result<(), Inner>
     requires axes { settings.now.setup.dim ≡ AXES }
     requires ready { MayLoad M.rules M.numbers settings.now cell.now corners.old
         (hand_of (M.held m.old) (DV.holds dv.old) (DV.room dv.old) parents.old parent.old progress.old) }

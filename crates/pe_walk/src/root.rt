@@ -10,17 +10,17 @@ ghost use Rattle.pe_stacks.specs.Sights.{corner_records};
 ghost use Rattle.pe_hang.specs.InHand.{vertices_on_stacks, cells_on_stacks};
 ghost use Rattle.pe_base.specs.Calls.Follows.{Follows, Fits, wanting, read_by};
 ghost use Rattle.pe_stacks.specs.RecordsOut.{RecordsOut, held_by};
-ghost use Rattle.pe_walk.specs.Machine.{Machine as AMachine, root_corners, traverse};
-ghost use Rattle.pe_walk.specs.InHand.{setting_in, ports_of, machine_in_hand, machine_between, failure_in};
+ghost use Rattle.pe_adapt.specs.CountedTouches.{Machine as AMachine};
+ghost use Rattle.pe_walk.specs.Machine.{root_corners, traverse};
+ghost use Rattle.pe_adapt.specs.WalkedCells.{setting_in, ports_of, machine_in_hand, failure_in};
+ghost use Rattle.pe_walk.specs.InHand.{machine_between};
 ghost use Rattle.pe_walk.specs.Visits.{walk_root, with_vertices, CountsCells, Walks, WalkLeft, hands_of};
 
 use crate::axes::walk_children;
 use crate::child::Above;
 use crate::hand::give_up_from;
-use crate::progress::Progress;
-use crate::settings::Settings;
 use pe_access::CellState;
-use pe_adapt::{Halt, ages_of};
+use pe_adapt::{Inner, Progress, Settings, ages_of};
 use pe_base::{Event, Kind, Place, State};
 use pe_mapping::Mapping;
 use pe_stacks::{CellRec, Corners, Depot, Vertex};
@@ -78,7 +78,7 @@ fn fire_plain<M: Mapping>(
     settings: &Settings,
     progress: &mut Progress,
     m: &mut M,
-) -> Result<(), Halt>
+) -> Result<(), Inner>
     requires sort { sort_of event ≡ Plain }
     ensures follows { (vertices cells : ℕ → ℕ) → Follows (plain_event (setting_in M.rules (M.held m.old) settings.now) event (M.held m.old).list)
         (λ done. (M.held m.new).list) (read_by (failure_in progress.new) result) (found_of (M.held m.old) vertices cells) (M.held m.new).told }
@@ -89,7 +89,7 @@ fn fire_plain<M: Mapping>(
         Ok(()) => Ok(()),
         Err(stop) => {
             progress.at = ROOT;
-            Err(Halt::of_event(stop, event))
+            Err(Inner::of_event(stop, event))
         }
     }
 }
@@ -114,7 +114,7 @@ fn walk_root<M: Mapping, DV: Depot<Vertex<M::V>>, DC: Depot<CellRec<M::C>>>(
     dc: &mut DC,
     corners: &mut Corners<M::V>,
     root: &mut CellRec<M::C>,
-) -> Result<(), Halt>
+) -> Result<(), Inner>
     requires dim { (M.held m.old).dim ≡ settings.now.setup.dim }
     requires full { IsFull settings.now.setup.dim corners.old }
     requires few { progress.old.tally.cells ≤ settings.now.setup.max_cells }
@@ -157,7 +157,7 @@ pub(crate) fn walk_stacks<M: Mapping, DV: Depot<Vertex<M::V>>, DC: Depot<CellRec
     dv: &mut DV,
     dc: &mut DC,
     root: &mut CellRec<M::C>,
-) -> Result<(), Halt>
+) -> Result<(), Inner>
     requires dim { (M.held m.old).dim ≡ settings.now.setup.dim }
     requires few { progress.old.tally.cells ≤ settings.now.setup.max_cells }
     requires fits { Fits
@@ -180,7 +180,7 @@ pub(crate) fn walk_stacks<M: Mapping, DV: Depot<Vertex<M::V>>, DC: Depot<CellRec
         Ok(()) => {}
         Err(_) => {
             corners.close();
-            return Err(Halt::Memory);
+            return Err(Inner::Memory);
         }
     }
     let walked = walk_root(settings, progress, m, dv, dc, &mut corners, root);

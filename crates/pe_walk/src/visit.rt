@@ -15,11 +15,9 @@ ghost use Rattle.pe_base.specs.Calls.Follows.{Follows, Fits, read_by};
 ghost use Rattle.pe_stacks.specs.RecordsOut.{RecordsOut, held_by};
 ghost use Rattle.pe_mapping.specs.Held.{found_of};
 ghost use Rattle.pe_walk.specs.Machine.{kind_among, enter_cell, leave_cell};
-ghost use Rattle.pe_walk.specs.InHand.{setting_in, ports_of, machine_in_hand, failure_in};
+ghost use Rattle.pe_adapt.specs.WalkedCells.{setting_in, ports_of, machine_in_hand, failure_in};
 
-use crate::progress::Progress;
-use crate::settings::Settings;
-use pe_adapt::{Halt, put_down};
+use pe_adapt::{Inner, Progress, Settings, put_down};
 use pe_base::{Event, Kind, Place};
 use pe_mapping::Mapping;
 use pe_stacks::{CellRec, Corners, Depot};
@@ -36,7 +34,7 @@ fn fire_cell<M: Mapping>(
     corners: &mut Corners<M::V>,
     parents: &mut Corners<M::V>,
     parent: &mut CellRec<M::C>,
-) -> Result<(), Halt>
+) -> Result<(), Inner>
     requires sort { sort_of event ≡ OfCell }
     requires place { IsBelowRoot at.now }
     requires full { IsFull (M.held m.old).dim parents.old }
@@ -62,7 +60,7 @@ fn fire_cell<M: Mapping>(
         Ok(()) => Ok(()),
         Err(stop) => {
             progress.at = *at;
-            Err(Halt::of_event(stop, event))
+            Err(Inner::of_event(stop, event))
         }
     }
 }
@@ -78,7 +76,7 @@ fn enter_found<M: Mapping, DC: Depot<CellRec<M::C>>>(
     corners: &mut Corners<M::V>,
     parents: &mut Corners<M::V>,
     parent: &mut CellRec<M::C>,
-) -> Result<CellRec<M::C>, Halt>
+) -> Result<CellRec<M::C>, Inner>
     requires place { IsBelowRoot at.now }
     requires full { IsFull (M.held m.old).dim parents.old }
     requires own_full { IsFull (M.held m.old).dim corners.old }
@@ -118,7 +116,7 @@ fn enter_born<M: Mapping, DC: Depot<CellRec<M::C>>>(
     corners: &mut Corners<M::V>,
     parents: &mut Corners<M::V>,
     parent: &mut CellRec<M::C>,
-) -> Result<CellRec<M::C>, Halt>
+) -> Result<CellRec<M::C>, Inner>
     requires place { IsBelowRoot at.now }
     requires full { IsFull (M.held m.old).dim parents.old }
     requires own_full { IsFull (M.held m.old).dim corners.old }
@@ -137,7 +135,7 @@ fn enter_born<M: Mapping, DC: Depot<CellRec<M::C>>>(
 {
     let payload = match m.fresh_c() {
         Ok(payload) => payload,
-        Err(_) => return Err(Halt::Memory),
+        Err(_) => return Err(Inner::Memory),
     };
     let mut cell = dc.lend(CellRec::new(payload));
     let event = Event::CreateCell;
@@ -165,7 +163,7 @@ pub(crate) fn enter_cell<M: Mapping, DC: Depot<CellRec<M::C>>>(
     corners: &mut Corners<M::V>,
     parents: &mut Corners<M::V>,
     parent: &mut CellRec<M::C>,
-) -> Result<CellRec<M::C>, Halt>
+) -> Result<CellRec<M::C>, Inner>
     requires place { IsBelowRoot at.now }
     requires kind { kind_among settings.now.traversal at.now (corner_records M.numbers.vertex parents.old) ≡ kind }
     requires full { IsFull (M.held m.old).dim parents.old }
@@ -209,7 +207,7 @@ fn fire_leaving<M: Mapping>(
     corners: &mut Corners<M::V>,
     parents: &mut Corners<M::V>,
     parent: &mut CellRec<M::C>,
-) -> Result<(), Halt>
+) -> Result<(), Inner>
     requires place { IsBelowRoot at.now }
     requires full { IsFull (M.held m.old).dim parents.old }
     requires own_full { IsFull (M.held m.old).dim corners.old }
@@ -251,7 +249,7 @@ pub(crate) fn leave_cell<M: Mapping, DC: Depot<CellRec<M::C>>>(
     corners: &mut Corners<M::V>,
     parents: &mut Corners<M::V>,
     parent: &mut CellRec<M::C>,
-) -> Result<(), Halt>
+) -> Result<(), Inner>
     requires place { IsBelowRoot at.now }
     requires kind { kind_among settings.now.traversal at.now (corner_records M.numbers.vertex parents.old) ≡ kind }
     requires full { IsFull (M.held m.old).dim parents.old }

@@ -9,13 +9,12 @@ ghost use Rattle.pe_stacks.specs.RecordsOut.{RecordsOut, held_by};
 ghost use Rattle.pe_adapt.specs.Stops.{failure_of};
 ghost use Rattle.pe_walk.specs.Machine.{traverse};
 ghost use Rattle.pe_walk.specs.Gridded.{ports_of};
-ghost use Rattle.pe_walk.specs.InHand.{ports_of as ports_in, machine_between};
+ghost use Rattle.pe_adapt.specs.WalkedCells.{ports_of as ports_in};
+ghost use Rattle.pe_walk.specs.InHand.{machine_between};
 ghost use Rattle.pe_walk.specs.Traversing.{IsAdvanced};
 
-use crate::progress::Progress;
 use crate::root::{ROOT, walk_stacks};
-use crate::settings::{Settings, settings_at};
-use pe_adapt::WalkStop;
+use pe_adapt::{Progress, Settings, WalkStop, settings_at};
 use pe_base::{Setup, Tally};
 use pe_mapping::Mapping;
 use pe_stacks::{CellRec, Depot, Grid, Vertex};

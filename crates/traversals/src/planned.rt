@@ -89,7 +89,7 @@ impl Mapping for Planned {
     ghost held = { λ it. record {
       plan = it.plan;
       list = pos it.events ∷ [];
-      told = record { text = Some []; faults = 0 };
+      told = record { text = Some []; writes = 0; faults = 0 };
       dim = it.dim;
       sure = false;
       lent = [];

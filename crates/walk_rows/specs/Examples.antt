@@ -6,7 +6,8 @@ use Rattle.pe_base.specs.Walk.Working.{no_tally}
 use Rattle.walk_rows.specs.Trials.{Trial, trial_setting}
 use Rattle.pe_stacks.specs.Grid.{input_stack, cell_input_stack}
 use Rattle.pe_stacks.specs.Holdings.{Holdings, new_holdings}
-use Rattle.pe_walk.specs.Machine.{Machine, Ports, traverse}
+use Rattle.pe_adapt.specs.CountedTouches.{Machine, Ports}
+use Rattle.pe_walk.specs.Machine.{traverse}
 
 abbrev pub ports_of : Bool → Ports
 ports_of swapped = record { input = input_stack swapped; cell_input = cell_input_stack swapped }

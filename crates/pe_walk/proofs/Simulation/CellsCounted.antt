@@ -10,7 +10,7 @@ use Rattle.pe_base.specs.Walk.Working.{Working}
 use Rattle.pe_base.specs.Walk.Touches.{tally_cell, count_cell, within_limit}
 use Rattle.pe_base.specs.Walk.Walk.{plain}
 use Rattle.pe_hang.specs.Moves.{may_rise}
-use Rattle.pe_walk.specs.Machine.{Machine, tally_may_rise}
+use Rattle.pe_adapt.specs.CountedTouches.{Machine, tally_may_rise}
 use Rattle.pe_walk.specs.Machine as machine
 use Rattle.pe_order.specs.Tokens.{Tokens}
 use Rattle.pe_walk.specs.Standing.{Outset, Stage, per_cell, Owes, Holds, IsOutset, Fair}

@@ -18,7 +18,7 @@ use Rattle.pe_base.specs.Walk.Walk as model
 use Rattle.pe_base.proofs.Lists.{Each-weaker}
 use Rattle.pe_stacks.specs.Holdings.{items_at}
 use Rattle.pe_stacks.specs.Grid.{input_stack, cell_input_stack}
-use Rattle.pe_walk.specs.Machine.{Machine}
+use Rattle.pe_adapt.specs.CountedTouches.{Machine}
 use Rattle.pe_walk.specs.Machine as machine
 use Rattle.pe_order.specs.Tokens.{Outlook, Tokens}
 use Rattle.pe_order.specs.Takings.{loads_of, takes, gives, cell_takes, cell_gives, Due, Grown}

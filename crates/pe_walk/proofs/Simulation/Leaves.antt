@@ -14,7 +14,8 @@ use Rattle.pe_base.specs.Walk.Working.{Working, record_at, own_of}
 use Rattle.pe_base.specs.Walk.Touches as model
 use Rattle.pe_base.specs.Walk.Walk as walks
 use Rattle.pe_base.specs.Walk.Streams.{walked_cells}
-use Rattle.pe_walk.specs.Machine.{Machine, Ports}
+use Rattle.pe_adapt.specs.CountedTouches.{Machine, Ports}
+use Rattle.pe_adapt.specs.CountedTouches as counted
 use Rattle.pe_walk.specs.Machine as machine
 use Rattle.pe_order.specs.Tokens.{Tokens, each_some}
 use Rattle.pe_walk.specs.Gridded.{ports_of}
@@ -67,7 +68,7 @@ module _ {Plan : Type 0} (set : Setting Plan) (e : Outset) where
 
     -- a corner is loaded, in front of those in hand
     abbrev pub load_before : Place → ℕ → List VertexRecord × Machine → Course (List VertexRecord × Machine)
-    load_before cell k x = course_map (λ it. (it.0 ∷ x.0, it.1)) (machine.load_corner set ports cell k x.1)
+    load_before cell k x = course_map (λ it. (it.0 ∷ x.0, it.1)) (counted.load_corner set ports cell k x.1)
 
     abbrev pub LoadSim : Stage → ℕ → Type 0
     LoadSim st k = Sim room (Holds set e st) (in_hand st) (Holds set e (after_load k st)) (in_hand (after_load k st))
@@ -96,7 +97,7 @@ module _ {Plan : Type 0} (set : Setting Plan) (e : Outset) where
     -- the first of the corners in hand is stored
     abbrev pub store_first : Place → ℕ → List VertexRecord × Machine → Course (List VertexRecord × Machine)
     store_first cell k ([], m) = at_once ([], m)
-    store_first cell k (it ∷ its, m) = course_map (λ m. (its, m)) (machine.store_corner set ports cell k it m)
+    store_first cell k (it ∷ its, m) = course_map (λ m. (its, m)) (counted.store_corner set ports cell k it m)
 
     abbrev pub StoreSim : Stage → ℕ → Type 0
     StoreSim st k = Sim room (Holds set e st) (in_hand st) (Holds set e (after_store k st)) (in_hand (after_store k st))

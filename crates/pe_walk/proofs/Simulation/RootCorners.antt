@@ -21,7 +21,7 @@ use Rattle.pe_base.proofs.Walk.MapLaws.{found-changed}
 use Rattle.pe_base.proofs.Walk.Slots.{is_hung}
 use Rattle.pe_base.proofs.Walk.Families.{Each-range}
 use Rattle.pe_stacks.specs.Holdings.{Holdings, lent}
-use Rattle.pe_walk.specs.Machine.{Machine, Ports}
+use Rattle.pe_adapt.specs.CountedTouches.{Machine, Ports}
 use Rattle.pe_walk.specs.Machine as machine
 use Rattle.pe_walk.specs.Standing.{IsIdle}
 use Rattle.pe_walk.proofs.Simulation.Cells.Corners.{down_from}

@@ -22,7 +22,7 @@ use Rattle.pe_base.specs.Walk.Walk as model
 use Rattle.pe_stacks.specs.Holdings.{new_stack, items_at, len_at}
 use Rattle.pe_stacks.specs.Grid.{input_stack, cell_input_stack}
 use Rattle.pe_hang.specs.InHand.{map_holdings}
-use Rattle.pe_walk.specs.Machine.{Machine}
+use Rattle.pe_adapt.specs.CountedTouches.{Machine}
 use Rattle.pe_order.specs.Tokens.{Outlook, Tokens, begun, numbers}
 use Rattle.pe_order.specs.Takings.{Grown, MayTraverse}
 use Rattle.pe_order.specs.CellsAhead.{times, cells_below}

@@ -26,7 +26,8 @@ use Rattle.pe_stacks.specs.Grid.{input_stack, cell_input_stack}
 use Rattle.pe_base.specs.Walk.Streams.{stream_vertices, stream_cells}
 use Rattle.pe_hang.specs.InHand.{map_holdings}
 use Rattle.pe_base.specs.Calls.Follows.{is_fit, Fits}
-use Rattle.pe_walk.specs.Machine.{Machine, with_parents}
+use Rattle.pe_adapt.specs.CountedTouches.{Machine}
+use Rattle.pe_walk.specs.Machine.{with_parents}
 use Rattle.pe_walk.specs.Machine as machine
 use Rattle.pe_order.specs.Tokens.{Tokens, ended, numbers, each_some, lent_for}
 use Rattle.pe_order.specs.Tokens as tokens

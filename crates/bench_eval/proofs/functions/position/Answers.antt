@@ -1,7 +1,7 @@
 use Rattle.std.proofs.Common.{◌≤◌, ◌<◌, ◌^◌, ℕ, arith, rules, length, slice_index_or}
 use Rattle.std.proofs.Math.Nat.{pow-le-pow_right}
 use Rattle.pe_base.specs.declared.place.Place.{Place}
-use Rattle.pe_eval.specs.Sights.{IsBelowRoot}
+use Rattle.pe_base.specs.Acts.Moments.{IsBelowRoot}
 use Rattle.bench_eval.proofs.functions.position.Goals as goal
 
 few : (place : Place) → IsBelowRoot place → (axis : ℕ) → axis < length place.pos → slice_index_or place.pos axis 0 ≤ 3 ^ 20

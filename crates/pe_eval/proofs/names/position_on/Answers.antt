@@ -2,7 +2,7 @@ use Rattle.std.proofs.Common.{◌≤◌, ◌<◌, ◌^◌, ℕ, arith, length, s
 use borrow.Author.Tests.{ltb-true}
 use Rattle.std.proofs.Math.Nat.{pow-le-pow_right}
 use Rattle.pe_base.specs.declared.place.Place.{Place}
-use Rattle.pe_eval.specs.Sights.{IsBelowRoot}
+use Rattle.pe_base.specs.Acts.Moments.{IsBelowRoot}
 use Rattle.pe_eval.proofs.names.position_on.Goals as goal
 
 -- a position is no more than 3^20

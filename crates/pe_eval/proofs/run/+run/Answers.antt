@@ -4,10 +4,11 @@ use Rattle.pe_check.specs.Fits.{fits}
 use Rattle.pe_check.specs.declared.checked.Stmt.{Stmt}
 use Rattle.pe_check.specs.declared.checked.Stmt.TheViews.{the_lemmas}
 use Rattle.pe_eval.specs.Sights.{sight, globals_of, frame, reach_of}
-use Rattle.pe_eval.proofs.Lawful.{lawful-same, lawful-number, lawful-trigger}
+use Rattle.pe_base.proofs.Lawful.{leaves_same}
+use Rattle.pe_eval.proofs.Lawful.{lawful-number, lawful-trigger}
 use Rattle.pe_eval.proofs.Runs.{fits-if, fits-then, fits-else, stmt_fits-at, went-begins, went-on, went-err, lawful-on}
-use Rattle.pe_eval.proofs.Pieces.{gave-begins, gave-on, gave-err}
-use Rattle.pe_eval.specs.Pieces.{Given}
+use Rattle.pe_base.specs.Calls.Told.{Told}
+use Rattle.pe_io.specs.Sink.{told_by}
 use Rattle.pe_eval.specs.Interrupted.{IfSinkFails, StoodAt}
 use Rattle.pe_eval.proofs.Interrupted.{came-begins, came-on, came-stood, stood-print, stood-if, stood-first, stood-second}
 use Rattle.pe_eval.proofs.run.+run.Goals as goal
@@ -23,7 +24,7 @@ step-returns-in-Ok-clause-lawful g t c =
     subst P (sym c.set.ensures.sight) (lawful-number _ _ _ _)
 
 pub step-returns-in-Err-clause-lawful : goal.step-returns-in-Err-clause-lawful
-step-returns-in-Err-clause-lawful g t c = lawful-same _ _
+step-returns-in-Err-clause-lawful g t c = leaves_same _ _
 
 pub step-returns-in-Trigger-clause-lawful : goal.step-returns-in-Trigger-clause-lawful
 step-returns-in-Trigger-clause-lawful g t c =
@@ -31,16 +32,16 @@ step-returns-in-Trigger-clause-lawful g t c =
     subst P (sym c.apply.ensures.sight) (lawful-trigger _ _ _ _)
 
 pub step-returns-in-Print-clause-lawful : goal.step-returns-in-Print-clause-lawful
-step-returns-in-Print-clause-lawful g t c = lawful-same _ _
+step-returns-in-Print-clause-lawful g t c = leaves_same _ _
 
 pub step-returns-in-Ok-eq0-clause-lawful : goal.step-returns-in-Ok-eq0-clause-lawful
-step-returns-in-Ok-eq0-clause-lawful g t c = lawful-same _ _
+step-returns-in-Ok-eq0-clause-lawful g t c = leaves_same _ _
 
 pub step-returns-in-Err-value-clause-lawful : goal.step-returns-in-Err-value-clause-lawful
-step-returns-in-Err-value-clause-lawful g t c = lawful-same _ _
+step-returns-in-Err-value-clause-lawful g t c = leaves_same _ _
 
 pub step-returns-in-Err-value-2-clause-lawful : goal.step-returns-in-Err-value-2-clause-lawful
-step-returns-in-Err-value-2-clause-lawful g t c = lawful-same _ _
+step-returns-in-Err-value-2-clause-lawful g t c = leaves_same _ _
 
 pub step-run-requires-in-Ok-eq0-value : goal.step-run-requires-in-Ok-eq0-value
 step-run-requires-in-Ok-eq0-value g t c κs within =
@@ -58,22 +59,16 @@ run-step-requires g t c κs within = (search (rules, the_lemmas), (within, (stmt
 pub run-loop-stmt-init : goal.run-loop-stmt-init
 run-loop-stmt-init g t c = record {
   went = went-begins c.args.body.now c.args.view.now _;
-  gave = gave-begins c.args.body.now c.args.view.now _;
   came = came-begins c.args.body.now c.args.view.now _;
-  lawful = lawful-same _ _;
+  lawful = leaves_same _ _;
   same = refl;
   ready = c.requires.ready;
 }
 
 pub run-returns-in-Err-clause-answer : goal.run-returns-in-Err-clause-answer
 run-returns-in-Err-clause-answer g t c =
-    went-err (Unit {0}) c.args.body.now c.args.view.now _ c.loop-stmt.stmt-index c.loop-stmt.view _ c.stmt-item.result c.step.new.view _ c.in-Err.stop
+    went-err c.args.body.now c.args.view.now _ c.loop-stmt.stmt-index c.loop-stmt.view _ c.stmt-item.result (Unit {0}) _ _ _ c.in-Err.stop
     c.loop-stmt.invariant.went c.loop-stmt.invariant.same c.loop-stmt-test.true c.stmt-item.is c.in-Err.ensures.answer
-
-pub run-returns-in-Err-clause-pieces : goal.run-returns-in-Err-clause-pieces
-run-returns-in-Err-clause-pieces g t c =
-    gave-err (Unit {0}) c.args.body.now c.args.view.now _ c.loop-stmt.stmt-index c.loop-stmt.view _ c.stmt-item.result _ _ c.step.new.view _ c.in-Err.stop
-    c.loop-stmt.invariant.gave c.loop-stmt.invariant.same c.loop-stmt-test.true c.stmt-item.is c.in-Err.ensures.answer c.in-Err.ensures.pieces
 
 pub run-returns-in-Err-clause-lawful : goal.run-returns-in-Err-clause-lawful
 run-returns-in-Err-clause-lawful g t c = lawful-on c.args.view.now c.loop-stmt.view c.step.new.view c.loop-stmt.invariant.same c.loop-stmt.invariant.lawful c.in-Err.ensures.lawful
@@ -82,10 +77,8 @@ pub run-loop-stmt-preserved : goal.run-loop-stmt-preserved
 run-loop-stmt-preserved g t c = record {
   went = went-on c.args.body.now c.args.view.now _ c.loop-stmt.stmt-index c.loop-stmt.view _ c.stmt-item.result c.step.new.view _
       c.loop-stmt.invariant.went c.loop-stmt.invariant.same c.loop-stmt-test.true c.stmt-item.is c.in-Ok.ensures.answer;
-  gave = gave-on c.args.body.now c.args.view.now _ c.loop-stmt.stmt-index c.loop-stmt.view _ c.stmt-item.result c.step.new.view _ _ _
-      c.loop-stmt.invariant.gave c.loop-stmt.invariant.same c.loop-stmt-test.true c.stmt-item.is c.in-Ok.ensures.answer c.in-Ok.ensures.pieces;
-  came = came-on c.args.body.now c.args.view.now _ c.loop-stmt.stmt-index c.loop-stmt.view _ c.stmt-item.result c.step.new.view _ _ _
-      c.loop-stmt.invariant.came c.loop-stmt.invariant.same c.loop-stmt-test.true c.stmt-item.is c.in-Ok.ensures.answer c.in-Ok.ensures.pieces c.in-Ok.ensures.answer.text;
+  came = came-on c.args.body.now c.args.view.now _ c.loop-stmt.stmt-index c.loop-stmt.view _ c.stmt-item.result c.step.new.view _
+      c.loop-stmt.invariant.came c.loop-stmt.invariant.same c.loop-stmt-test.true c.stmt-item.is c.in-Ok.ensures.answer;
   lawful = lawful-on c.args.view.now c.loop-stmt.view c.step.new.view c.loop-stmt.invariant.same c.loop-stmt.invariant.lawful c.in-Ok.ensures.lawful;
   same = c.in-Ok.ensures.frame ∙ c.loop-stmt.invariant.same;
   ready = c.in-Ok.ensures.ready;
@@ -102,24 +95,24 @@ step-returns-in-Print-clause-interrupted g t c = λ rest.
 
 pub step-returns-in-Ok-value-clause-interrupted : goal.step-returns-in-Ok-value-clause-interrupted
 step-returns-in-Ok-value-clause-interrupted g t c = λ rest.
-    let old : Given = record { text = g.K.Sink.text c.args.sink.now; writes = g.K.Sink.writes c.args.sink.now } in
-    let new : Given = record { text = g.K.Sink.text c.run.new.sink; writes = g.K.Sink.writes c.run.new.sink } in
+    let old : Told = told_by g.K.Sink.text g.K.Sink.writes g.K.Sink.faults c.args.sink.now in
+    let new : Told = told_by g.K.Sink.text g.K.Sink.writes g.K.Sink.faults c.run.new.sink in
     let P : List Stmt → Type 0 = λ body. IfSinkFails c.run.result (StoodAt (frame c.args.view.now).setting body (sight c.args.view.now) (globals_of c.args.view.now) old new (sight c.run.new.view) (globals_of c.run.new.view)) in
     stood-if (frame c.args.view.now).setting c.args.stmt.now rest (sight c.args.view.now) (globals_of c.args.view.now) old new (Unit {0}) c.run.result (sight c.run.new.view) (globals_of c.run.new.view)
     c.in-If.test c.in-If.body [] c.in-Ok-value.field-0 c.in-If.is (sym c.value-in-If.ensures ∙ c.in-Ok-value.is) (search rules) (subst P c.as_slice.ensures c.run.ensures.interrupted)
 
 pub step-returns-in-Ok-eq0-value-clause-interrupted : goal.step-returns-in-Ok-eq0-value-clause-interrupted
 step-returns-in-Ok-eq0-value-clause-interrupted g t c = λ rest.
-    let old : Given = record { text = g.K.Sink.text c.args.sink.now; writes = g.K.Sink.writes c.args.sink.now } in
-    let new : Given = record { text = g.K.Sink.text c.run-in-Ok-eq0-value.new.sink; writes = g.K.Sink.writes c.run-in-Ok-eq0-value.new.sink } in
+    let old : Told = told_by g.K.Sink.text g.K.Sink.writes g.K.Sink.faults c.args.sink.now in
+    let new : Told = told_by g.K.Sink.text g.K.Sink.writes g.K.Sink.faults c.run-in-Ok-eq0-value.new.sink in
     let P : List Stmt → Type 0 = λ body. IfSinkFails c.run-in-Ok-eq0-value.result (StoodAt (frame c.args.view.now).setting body (sight c.args.view.now) (globals_of c.args.view.now) old new (sight c.run-in-Ok-eq0-value.new.view) (globals_of c.run-in-Ok-eq0-value.new.view)) in
     stood-second (frame c.args.view.now).setting c.args.stmt.now rest (sight c.args.view.now) (globals_of c.args.view.now) old new (Unit {0}) c.run-in-Ok-eq0-value.result (sight c.run-in-Ok-eq0-value.new.view) (globals_of c.run-in-Ok-eq0-value.new.view)
     c.in-IfElse.test c.in-IfElse.body c.in-IfElse.other c.in-Ok-eq0-value.field-0 c.in-IfElse.is (sym c.value-in-IfElse.ensures ∙ c.in-Ok-eq0-value.is) (search rules) (subst P c.as_slice-in-Ok-eq0-value.ensures c.run-in-Ok-eq0-value.ensures.interrupted)
 
 pub step-returns-in-Ok-value-2-clause-interrupted : goal.step-returns-in-Ok-value-2-clause-interrupted
 step-returns-in-Ok-value-2-clause-interrupted g t c = λ rest.
-    let old : Given = record { text = g.K.Sink.text c.args.sink.now; writes = g.K.Sink.writes c.args.sink.now } in
-    let new : Given = record { text = g.K.Sink.text c.run-in-Ok-value-2.new.sink; writes = g.K.Sink.writes c.run-in-Ok-value-2.new.sink } in
+    let old : Told = told_by g.K.Sink.text g.K.Sink.writes g.K.Sink.faults c.args.sink.now in
+    let new : Told = told_by g.K.Sink.text g.K.Sink.writes g.K.Sink.faults c.run-in-Ok-value-2.new.sink in
     let P : List Stmt → Type 0 = λ body. IfSinkFails c.run-in-Ok-value-2.result (StoodAt (frame c.args.view.now).setting body (sight c.args.view.now) (globals_of c.args.view.now) old new (sight c.run-in-Ok-value-2.new.view) (globals_of c.run-in-Ok-value-2.new.view)) in
     stood-first (frame c.args.view.now).setting c.args.stmt.now rest (sight c.args.view.now) (globals_of c.args.view.now) old new (Unit {0}) c.run-in-Ok-value-2.result (sight c.run-in-Ok-value-2.new.view) (globals_of c.run-in-Ok-value-2.new.view)
     c.in-IfElse.test c.in-IfElse.body c.in-IfElse.other c.in-Ok-value-2.field-0 c.in-IfElse.is (sym c.value-in-IfElse.ensures ∙ c.in-Ok-value-2.is) (search rules) (subst P c.as_slice-in-Ok-value-2.ensures c.run-in-Ok-value-2.ensures.interrupted)

@@ -19,7 +19,7 @@ use Rattle.pe_base.specs.Walk.Walk as walks
 use Rattle.pe_base.specs.Walk.Streams.{if_walks, walked_children, walked_cells}
 use Rattle.pe_base.proofs.Lists.{Each-weaker}
 use Rattle.pe_base.proofs.Walk.Frames.{KeepsAbove, KeepsUp, up-each, walk_cell-keeps}
-use Rattle.pe_walk.specs.Machine.{Machine}
+use Rattle.pe_adapt.specs.CountedTouches.{Machine}
 use Rattle.pe_order.specs.Laws.{IsCell}
 use Rattle.pe_walk.specs.Machine as machine
 use Rattle.pe_order.specs.Tokens.{Tokens, given, each_some}

@@ -10,7 +10,8 @@ use Rattle.pe_base.specs.Walk.Core.{Setting}
 use Rattle.pe_base.specs.Walk.Working.{record_at}
 use Rattle.pe_base.specs.Walk.Touches as model
 use Rattle.pe_order.specs.Laws.{IsCell}
-use Rattle.pe_walk.specs.Machine.{Machine}
+use Rattle.pe_adapt.specs.CountedTouches.{Machine}
+use Rattle.pe_adapt.specs.CountedTouches as counted
 use Rattle.pe_walk.specs.Machine as machine
 use Rattle.pe_order.specs.Tokens.{each_some}
 use Rattle.pe_order.specs.Tokens as tokens
@@ -86,7 +87,7 @@ module _ {Plan : Type 0} (set : Setting Plan) (e : Outset) (room : Push → Type
       (λ x. and_then (load_before set e room st.cell k x) (λ y. machine.load_all set (ports set e room) st.cell k y.0 y.1))
       (λ x. machine.load_all set (ports set e room) st.cell (suc k) x.0 x.1)
       (each_some (tokens.load e.outlook st.cell) (down_from (suc k)))
-      (λ w t h. let x = in_hand set e st w t in turned-then (machine.load_corner set (ports set e room) st.cell k x.1) (λ it. (it.0 ∷ x.0, it.1)) (λ y. machine.load_all set (ports set e room) st.cell k y.0 y.1))
+      (λ w t h. let x = in_hand set e st w t in turned-then (counted.load_corner set (ports set e room) st.cell k x.1) (λ it. (it.0 ∷ x.0, it.1)) (λ y. machine.load_all set (ports set e room) st.cell k y.0 y.1))
       (sim-then room (Holds set e st) (in_hand set e st) (Holds set e next) (in_hand set e next) (Holds set e (after_loads k next)) (in_hand set e (after_loads k next))
       (model.load_corner set st.parent st.cell k) (load_before set e room st.cell k) (tokens.load e.outlook st.cell k)
       (each (model.load_corner set st.parent st.cell) (down_from k)) (λ x. machine.load_all set (ports set e room) st.cell k x.0 x.1) (each_some (tokens.load e.outlook st.cell) (down_from k))
@@ -102,7 +103,7 @@ module _ {Plan : Type 0} (set : Setting Plan) (e : Outset) (room : Push → Type
   store_all-first : (cell : Place) (k : ℕ) (its : List VertexRecord) (m : Machine)
       → and_then (store_first set e room cell k (its, m)) (λ x. machine.store_all set (ports set e room) cell (k + 1) x.0 x.1) ≡ machine.store_all set (ports set e room) cell k its m
   store_all-first cell k [] m = refl
-  store_all-first cell k (it ∷ its) m = turned-then (machine.store_corner set (ports set e room) cell k it m) (λ m. (its, m)) (λ x. machine.store_all set (ports set e room) cell (k + 1) x.0 x.1)
+  store_all-first cell k (it ∷ its) m = turned-then (counted.store_corner set (ports set e room) cell k it m) (λ m. (its, m)) (λ x. machine.store_all set (ports set e room) cell (k + 1) x.0 x.1)
 
   pub stores_sim : StoreLeaf set e room → (n : ℕ) (st : Stage) → IsStage set.axes e.outlook st → st.from + n ≡ 2 ^ set.axes → n ≤ st.owed → n ≤ st.unstored → StoresSim n st
   stores_sim leaf zero st is all owed unstored = λ w t t' h k.

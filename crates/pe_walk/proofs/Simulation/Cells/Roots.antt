@@ -14,7 +14,7 @@ use Rattle.pe_base.specs.Walk.Core.{Setting, way}
 use Rattle.pe_base.specs.Walk.Working.{Working}
 use Rattle.pe_base.specs.Walk.Walk as walks
 use Rattle.pe_base.specs.Walk.Streams.{walked_cells}
-use Rattle.pe_walk.specs.Machine.{Machine}
+use Rattle.pe_adapt.specs.CountedTouches.{Machine}
 use Rattle.pe_walk.specs.Machine as machine
 use Rattle.pe_order.specs.Tokens.{Tokens, each_some}
 use Rattle.pe_order.specs.Tokens as tokens

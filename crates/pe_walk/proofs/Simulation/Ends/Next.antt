@@ -24,7 +24,7 @@ use Rattle.pe_base.proofs.Walk.MapLaws.{at-removed, found-turned_by}
 use Rattle.pe_base.proofs.Tree.Ranks.{same_places}
 use Rattle.pe_stacks.specs.Holdings.{items_at}
 use Rattle.pe_stacks.specs.Grid.{output_stack, cell_output_stack}
-use Rattle.pe_walk.specs.Machine.{Machine}
+use Rattle.pe_adapt.specs.CountedTouches.{Machine}
 use Rattle.pe_order.specs.Tokens.{Outlook, Tokens, turned, numbers}
 use Rattle.pe_order.specs.Tokens as tokens
 use Rattle.pe_order.specs.Takings.{writes_of, cell_reads_of, cell_writes_of, Grown, HasTraversed}

@@ -19,7 +19,8 @@ use Rattle.pe_stacks.specs.Holdings.{Holdings, given_up}
 use Rattle.pe_stacks.specs.Grid.{output_stack, cell_output_stack}
 use Rattle.pe_hang.specs.InHand.{map_holdings}
 use Rattle.pe_hang.proofs.OnStacks.{stack_count-map, stack_at-map}
-use Rattle.pe_walk.specs.Machine.{Machine, Ports, with_parents}
+use Rattle.pe_adapt.specs.CountedTouches.{Machine, Ports}
+use Rattle.pe_walk.specs.Machine.{with_parents}
 use Rattle.pe_walk.specs.Machine as machine
 use Rattle.pe_order.specs.Tokens.{Outlook, Tokens, given_up_for, numbers}
 use Rattle.pe_order.specs.Tokens as tokens

@@ -21,7 +21,7 @@ use Rattle.pe_stacks.specs.Grid.{input_stack}
 use Rattle.pe_hang.specs.InHand.{map_holdings}
 use Rattle.pe_adapt.specs.Touches.{Desk, load_as}
 use Rattle.pe_order.specs.Laws.{IsCell}
-use Rattle.pe_walk.specs.Machine.{Machine, tally_may_rise, is_placed}
+use Rattle.pe_adapt.specs.CountedTouches.{Machine, tally_may_rise, is_placed}
 use Rattle.pe_order.specs.Tokens.{Tokens, before, first_of, given, taken}
 use Rattle.pe_walk.specs.Standing.{Outset, Stage, Holds, IsOutset, IsStage}
 use Rattle.pe_order.proofs.Tokens.Counting.{corners_by_counting}

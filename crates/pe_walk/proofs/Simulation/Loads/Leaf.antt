@@ -18,7 +18,7 @@ use Rattle.pe_base.specs.Walk.Touches.{tally_load, put_loaded}
 use Rattle.pe_base.specs.Walk.Touches as model
 use Rattle.pe_stacks.specs.Grid.{input_stack}
 use Rattle.pe_order.specs.Laws.{IsCell}
-use Rattle.pe_walk.specs.Machine.{Machine}
+use Rattle.pe_adapt.specs.CountedTouches.{Machine}
 use Rattle.pe_order.specs.Tokens.{Tokens, first_of, given, taken, load}
 use Rattle.pe_walk.specs.CoreKeeps.{IsAlike, AreAlike, KeepsParents, loaded}
 use Rattle.pe_walk.specs.Standing.{Outset, Stage, Holds, Owes, IsForeseen, StartsFinest, IsFair, IsIdle, IsOutset, IsStage}

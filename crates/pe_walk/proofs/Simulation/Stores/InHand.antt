@@ -18,7 +18,7 @@ use Rattle.pe_base.specs.Walk.Touches as model
 use Rattle.pe_base.proofs.Walk.Slots.{is_hung}
 use Rattle.pe_stacks.specs.Grid.{output_stack}
 use Rattle.pe_order.specs.Laws.{IsCell}
-use Rattle.pe_walk.specs.Machine.{is_placed}
+use Rattle.pe_adapt.specs.CountedTouches.{is_placed}
 use Rattle.pe_order.specs.Tokens.{Tokens}
 use Rattle.pe_walk.specs.CoreKeeps.{IsStoredAlike, stays}
 use Rattle.pe_walk.specs.Standing.{Outset, Stage, Holds, IsOutset, IsStage, IsFair}

@@ -20,7 +20,7 @@ use Rattle.pe_stacks.specs.Grid.{input_stack, output_stack}
 use Rattle.pe_hang.specs.InHand.{map_holdings}
 use Rattle.pe_adapt.specs.Touches.{Desk}
 use Rattle.pe_adapt.specs.Touches as corners
-use Rattle.pe_walk.specs.Machine.{Machine, desk_of, with_desk, tally_may_rise, is_placed}
+use Rattle.pe_adapt.specs.CountedTouches.{Machine, desk_of, with_desk, tally_may_rise, is_placed}
 use Rattle.pe_order.specs.Tokens.{Tokens, store, put}
 use Rattle.pe_walk.specs.Standing.{Outset, Stage, Holds, HasRoom, IsOutset, IsStage}
 use Rattle.pe_walk.proofs.Simulation.CellsCounted.{tally_rises}

@@ -19,7 +19,8 @@ use Rattle.pe_base.specs.Walk.Streams.{walked_cells}
 use Rattle.pe_base.proofs.Walk.Courses.{mapped-done, then-done, done_same}
 use Rattle.pe_stacks.specs.Holdings.{Holdings, given_up}
 use Rattle.pe_hang.specs.InHand.{map_holdings}
-use Rattle.pe_walk.specs.Machine.{Machine, Ports, with_parents}
+use Rattle.pe_adapt.specs.CountedTouches.{Machine, Ports}
+use Rattle.pe_walk.specs.Machine.{with_parents}
 use Rattle.pe_walk.specs.Machine as machine
 use Rattle.pe_order.specs.Tokens.{Outlook, Tokens, ended, numbers, each_some, given_up_for}
 use Rattle.pe_order.specs.Tokens as tokens

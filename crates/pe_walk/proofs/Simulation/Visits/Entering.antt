@@ -20,7 +20,8 @@ use Rattle.pe_hang.specs.InHand.{map_holdings}
 use Rattle.pe_hang.specs.Moves.{pop}
 use Rattle.pe_base.specs.Steps.Stacks.{is_stack}
 use Rattle.pe_base.proofs.Tree.Ranks.{same_places}
-use Rattle.pe_walk.specs.Machine.{Machine, cell_comes}
+use Rattle.pe_adapt.specs.CountedTouches.{Machine}
+use Rattle.pe_walk.specs.Machine.{cell_comes}
 use Rattle.pe_walk.specs.Machine as machine
 use Rattle.pe_order.specs.Tokens.{Tokens, given, taken, cell_source, is_top}
 use Rattle.pe_order.specs.Tokens as tokens

@@ -24,7 +24,9 @@ use Rattle.pe_stacks.specs.Holdings.{Holdings, stack_count, stack_at, items_at, 
 use Rattle.pe_stacks.specs.Grid.{cell_input_stack, cell_output_stack}
 use Rattle.pe_hang.specs.InHand.{map_holdings}
 use Rattle.pe_hang.specs.Moves.{give_up, push}
-use Rattle.pe_walk.specs.Machine.{Machine, cell_goes}
+use Rattle.pe_adapt.specs.CountedTouches.{Machine}
+use Rattle.pe_walk.specs.Machine.{cell_goes}
+use Rattle.pe_adapt.specs.CountedTouches as counted
 use Rattle.pe_walk.specs.Machine as machine
 use Rattle.pe_order.specs.Tokens.{Tokens, given, put, cell_target}
 use Rattle.pe_order.specs.Tokens as tokens
@@ -317,7 +319,7 @@ module _ {Plan : Type 0} (set : Setting Plan) (e : Outset) (walked : Place → B
     -- the numbers of what is stored are pushed on the output
     push_on : (room : Push → Type 0) → HasRoom set e room → is_stored kind ≡ true
         → Matches room (λ u. in_hand set e (after_leave outer st) u t') (at_once after)
-        (course_map (λ m. (own.corners, m)) (course_map (λ cells. left_machine cells) (push true (machine.cell_output (ports set e room)) own.cell (map_holdings (cell_at w) t.cells))))
+        (course_map (λ m. (own.corners, m)) (course_map (λ cells. left_machine cells) (push true (counted.cell_output (ports set e room)) own.cell (map_holdings (cell_at w) t.cells))))
     push_on room has stored =
         matches-same room (λ u. in_hand set e (after_leave outer st) u t') (at_once after)
         (record { text = []; log = record { of_cell = true; stack = (cell_output_stack e.outlook.swapped); length = len_at t.cells (cell_output_stack e.outlook.swapped) + 1 } ∷ []; ending = done (own.corners, left_machine (map_holdings (cell_at after) (pushed t.cells (cell_output_stack e.outlook.swapped) st.cell))) }) _

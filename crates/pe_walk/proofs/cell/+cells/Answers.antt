@@ -22,8 +22,9 @@ use Rattle.pe_stacks.specs.RecordsOut.{held_by}
 use Rattle.pe_hang.proofs.Staying.{keeps-same, stays-full, stays-beside}
 use Rattle.pe_base.proofs.Calls.Leading.{and_then-fits, follows-map, leads_start}
 use Rattle.pe_adapt.specs.Ages.{AreAgesOf, GiveKinds}
-use Rattle.pe_walk.specs.InHand.{IsWalked, ports_of, failure_in}
-use Rattle.pe_walk.specs.Machine.{Machine, kind_among, enter_cell, outside, walk_cell}
+use Rattle.pe_adapt.specs.WalkedCells.{IsWalked, ports_of, failure_in}
+use Rattle.pe_adapt.specs.CountedTouches.{Machine}
+use Rattle.pe_walk.specs.Machine.{kind_among, enter_cell, outside, walk_cell}
 use Rattle.pe_walk.specs.Children.{IsAbove}
 use Rattle.pe_walk.specs.Visits.{walk_children, walk_below, visit_cell, with_family, hands_of, machine_of, found_in, MayWalkCells}
 use Rattle.pe_walk.proofs.Walking.{set_in, Goes, goes-set, runs-may, runs-then, runs-err, runs-as, left-then}

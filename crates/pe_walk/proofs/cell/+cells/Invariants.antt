@@ -4,7 +4,7 @@ use Rattle.pe_base.specs.Tree.Places.{IsDigits, child_at}
 use Rattle.pe_base.specs.Walk.Course.{each}
 use Rattle.pe_stacks.specs.Corners.{no_vertices}
 use Rattle.pe_base.specs.Calls.Follows.{Leads}
-use Rattle.pe_walk.specs.InHand.{ports_of}
+use Rattle.pe_adapt.specs.WalkedCells.{ports_of}
 use Rattle.pe_walk.specs.Machine.{walk_cell}
 use Rattle.pe_walk.specs.Children.{IsChild}
 use Rattle.pe_walk.specs.Visits.{walk_children, hands_of, machine_of, found_in, WalkLeft}

@@ -1,6 +1,6 @@
 use Rattle.std.proofs.Common.{arith}
 use Rattle.pe_adapt.proofs.Errors.{err-is}
-use Rattle.pe_walk.specs.Corners.{hand_of}
+use Rattle.pe_adapt.specs.TouchCalls.{hand_of}
 use Rattle.pe_walk.proofs.Going.{goes-then}
 use Rattle.pe_walk.proofs.CornerSteps.{corners-most, none-filled, loads-start, loads-end}
 use Rattle.pe_walk.proofs.corners.load_quads.Goals as goal

@@ -1,8 +1,8 @@
 use Rattle.std.proofs.Common.{sym, subst, Ok, Err}
 use Rattle.pe_base.specs.Calls.Follows.{Follows, read_by}
 use Rattle.pe_walk.specs.Machine.{store_all}
-use Rattle.pe_walk.specs.InHand.{setting_in, ports_of, failure_in}
-use Rattle.pe_walk.specs.Corners.{MayGo, hand_of, machine_of, found_in}
+use Rattle.pe_adapt.specs.WalkedCells.{setting_in, ports_of, failure_in}
+use Rattle.pe_adapt.specs.TouchCalls.{MayGo, hand_of, machine_of, found_in}
 use Rattle.pe_walk.proofs.CornerLists.{of-full, are-of, empty-of, seen_corners-full}
 use Rattle.pe_walk.proofs.corners.store_corners.Goals as goal
 

@@ -10,7 +10,7 @@ use Rattle.pe_adapt.specs.Stops.{failure_of, failure_of_halt}
 use Rattle.pe_walk.specs.Machine.{kind_among}
 use Rattle.pe_walk.specs.Machine as machine
 use Rattle.pe_walk.specs.Gridded.{ports_of}
-use Rattle.pe_walk.specs.InHand.{machine_in_hand}
+use Rattle.pe_adapt.specs.WalkedCells.{machine_in_hand}
 use Rattle.pe_walk.specs.Traversing.{Stores}
 use Rattle.pe_walk.proofs.AgeLaws.{length-seen}
 use Rattle.pe_walk.proofs.Simulation.Tallied.Alike.{is_seen, alike-sym}

@@ -10,7 +10,7 @@ use Rattle.pe_stacks.specs.RecordsOut.{held_by}
 use Rattle.pe_base.proofs.Calls.Leading.{leads_start, leads_rest, leads_want, leads_found}
 use Rattle.pe_hang.proofs.Staying.{roomier-held, keeps-same, keeps-then}
 use Rattle.pe_hang.proofs.Moving.{lend-may}
-use Rattle.pe_walk.specs.InHand.{setting_in, ports_of}
+use Rattle.pe_adapt.specs.WalkedCells.{setting_in, ports_of}
 use Rattle.pe_walk.proofs.RootCorners.{at_root, roots, roots-may, roots-step, roots-end}
 use Rattle.pe_walk.proofs.root.lend_corners.Goals as goal
 

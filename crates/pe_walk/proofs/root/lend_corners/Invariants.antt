@@ -4,8 +4,8 @@ use Rattle.pe_mapping.specs.Held.{Keeps, found_of}
 use Rattle.pe_stacks.specs.Sights.{corner_records}
 use Rattle.pe_base.specs.Calls.Follows.{Leads}
 use Rattle.pe_stacks.specs.RecordsOut.{RecordsOut, held_by}
-use Rattle.pe_walk.specs.Machine.{Machine}
-use Rattle.pe_walk.specs.InHand.{setting_in, ports_of}
+use Rattle.pe_adapt.specs.CountedTouches.{Machine}
+use Rattle.pe_adapt.specs.WalkedCells.{setting_in, ports_of}
 use Rattle.pe_walk.proofs.RootCorners.{roots}
 use Rattle.pe_walk.proofs.root.lend_corners.Given as goal
 

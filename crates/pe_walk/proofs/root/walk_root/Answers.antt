@@ -5,7 +5,7 @@ use Rattle.pe_stacks.specs.Corners.{IsFull}
 use Rattle.pe_base.specs.Calls.Follows.{Follows, read_by}
 use Rattle.pe_stacks.specs.RecordsOut.{held_by}
 use Rattle.pe_base.proofs.Calls.Leading.{and_then-fits}
-use Rattle.pe_walk.specs.InHand.{ports_of, failure_in}
+use Rattle.pe_adapt.specs.WalkedCells.{ports_of, failure_in}
 use Rattle.pe_walk.specs.Visits.{hands_of, machine_of, found_in}
 use Rattle.pe_walk.proofs.Walking.{set_in, Goes, runs-may, runs-then, runs-err}
 use Rattle.pe_walk.proofs.RootWalks.{beginning, walking, finishing, after_begin, plain-follows}

@@ -8,8 +8,9 @@ use Rattle.pe_hang.specs.InHand.{vertices_on_stacks}
 use Rattle.pe_base.specs.Calls.Follows.{Fits, wanting, read_by}
 use Rattle.pe_stacks.specs.RecordsOut.{held_by}
 use Rattle.pe_base.proofs.Calls.Leading.{and_then-fits}
-use Rattle.pe_walk.specs.Machine.{Machine}
-use Rattle.pe_walk.specs.InHand.{ports_of, failure_in, machine_between}
+use Rattle.pe_adapt.specs.CountedTouches.{Machine}
+use Rattle.pe_adapt.specs.WalkedCells.{ports_of, failure_in}
+use Rattle.pe_walk.specs.InHand.{machine_between}
 use Rattle.pe_walk.specs.Visits.{with_vertices, hands_of, machine_of}
 use Rattle.pe_walk.proofs.Walking.{set_in, Goes, runs-may, runs-then, runs-err, runs-as}
 use Rattle.pe_walk.proofs.AgeLaws.{length-seen}

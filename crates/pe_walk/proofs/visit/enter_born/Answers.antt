@@ -9,7 +9,7 @@ use Rattle.pe_hang.specs.InHand.{family_in_hand, own_in_hand}
 use Rattle.pe_base.specs.Calls.Follows.{Follows, read_by}
 use Rattle.pe_base.proofs.Calls.Leading.{follows-then, follows-found, leads_start, leads_err}
 use Rattle.pe_hang.proofs.Staying.{roomier-held, setting-kept}
-use Rattle.pe_walk.specs.InHand.{setting_in, failure_in}
+use Rattle.pe_adapt.specs.WalkedCells.{setting_in, failure_in}
 use Rattle.pe_walk.proofs.Visiting.{fresh-is}
 use Rattle.pe_walk.proofs.visit.enter_born.Goals as goal
 

@@ -9,7 +9,7 @@ use Rattle.pe_base.specs.Calls.Follows.{Follows, read_by}
 use Rattle.pe_mapping.specs.Held.{found_of}
 use Rattle.pe_stacks.specs.RecordsOut.{held_by}
 use Rattle.pe_hang.proofs.Moving.{lend-may, pop-may}
-use Rattle.pe_walk.specs.InHand.{setting_in, ports_of, failure_in}
+use Rattle.pe_adapt.specs.WalkedCells.{setting_in, ports_of, failure_in}
 use Rattle.pe_walk.specs.Machine.{enter_cell}
 use Rattle.pe_walk.proofs.Visiting.{on_cells, comes-fits, entered, made-fits, made-is, stored-fits, stored-is, enter-stored, enter-made}
 use Rattle.pe_walk.proofs.visit.enter_cell.Goals as goal

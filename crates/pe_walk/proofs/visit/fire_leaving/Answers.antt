@@ -6,7 +6,7 @@ use Rattle.pe_base.specs.Calls.Follows.{Follows, read_by}
 use Rattle.pe_mapping.specs.Held.{found_of}
 use Rattle.pe_base.proofs.Calls.Leading.{follows-then}
 use Rattle.pe_hang.proofs.Staying.{roomier-held, setting-kept}
-use Rattle.pe_walk.specs.InHand.{setting_in, failure_in}
+use Rattle.pe_adapt.specs.WalkedCells.{setting_in, failure_in}
 use Rattle.pe_walk.proofs.Visiting.{leave-stays, leave-dies, leave-fails}
 use Rattle.pe_walk.proofs.visit.fire_leaving.Goals as goal
 

@@ -10,8 +10,8 @@ use Rattle.pe_base.specs.Calls.Follows.{Follows, wanting, read_by}
 use Rattle.pe_mapping.specs.Held.{found_of}
 use Rattle.pe_stacks.specs.RecordsOut.{held_by}
 use Rattle.pe_hang.proofs.Moving.{push-may}
-use Rattle.pe_adapt.specs.declared.stop.Halt.TheVariants.{Memory as ForMemory}
-use Rattle.pe_walk.specs.InHand.{setting_in, ports_of, failure_in}
+use Rattle.pe_adapt.specs.declared.stop.Inner.TheVariants.{Memory as ForMemory}
+use Rattle.pe_adapt.specs.WalkedCells.{setting_in, ports_of, failure_in}
 use Rattle.pe_walk.specs.Machine.{leave_cell}
 use Rattle.pe_walk.proofs.Visiting.{on_cells, left-failed, ended, put-fits, put, give_up-fits}
 use Rattle.pe_walk.proofs.visit.leave_cell.Goals as goal

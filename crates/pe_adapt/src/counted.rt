@@ -8,15 +8,17 @@ ghost use Rattle.pe_stacks.specs.Corners.{IsFull};
 ghost use Rattle.pe_stacks.specs.Sights.{corner_records};
 ghost use Rattle.pe_adapt.specs.Slots.{seen_slot};
 ghost use Rattle.pe_adapt.specs.Touches.{kind_in_hand};
-ghost use Rattle.pe_walk.specs.Machine.{load_corner, store_corner};
-ghost use Rattle.pe_walk.specs.InHand.{IsWalked, setting_in, ports_of};
-ghost use Rattle.pe_walk.specs.Corners.{MayGo, GoesAlong, hand_of, filled_in};
+ghost use Rattle.pe_adapt.specs.CountedTouches.{load_corner, store_corner};
+ghost use Rattle.pe_adapt.specs.WalkedCells.{IsWalked, setting_in, ports_of};
+ghost use Rattle.pe_adapt.specs.TouchCalls.{MayGo, GoesAlong, hand_of, filled_in};
 
+use crate::load;
 use crate::progress::Progress;
 use crate::settings::Settings;
+use crate::store;
 use crate::tallies::{count_load, count_store};
 use crate::walked::WalkedCell;
-use pe_adapt::{Halt, corner_place};
+use crate::{Inner, corner_place};
 use pe_base::Kind;
 use pe_mapping::Mapping;
 use pe_stacks::{CellRec, Corners, Depot, Vertex};
@@ -33,7 +35,7 @@ pub(crate) fn load_hanging<M: Mapping, DV: Depot<Vertex<M::V>>>(
     dv: &mut DV,
     parents: &mut Corners<M::V>,
     parent: &mut CellRec<M::C>,
-) -> Result<(), Halt>
+) -> Result<(), Inner>
     requires walked { IsWalked (M.held m.old).dim settings.now cell.now }
     requires corner { k < 2 ^ (M.held m.old).dim }
     requires hangs { kind_in_hand (setting_in M.rules (M.held m.old) settings.now) cell.now.place (corner_records M.numbers.vertex parents.old)
@@ -51,7 +53,7 @@ pub(crate) fn load_hanging<M: Mapping, DV: Depot<Vertex<M::V>>>(
 {
     let at = corner_place(&cell.place, k);
     count_load(&mut progress.tally, Kind::Hanging);
-    match pe_adapt::load_hanging(settings.traversal, &at, slot, m, dv, parents, parent) {
+    match load::load_hanging(settings.traversal, &at, slot, m, dv, parents, parent) {
         Ok(()) => Ok(()),
         Err(halt) => {
             progress.at = at;
@@ -73,7 +75,7 @@ pub(crate) fn load_first<M: Mapping, DV: Depot<Vertex<M::V>>>(
     dv: &mut DV,
     parents: &mut Corners<M::V>,
     parent: &mut CellRec<M::C>,
-) -> Result<(), Halt>
+) -> Result<(), Inner>
     requires walked { IsWalked (M.held m.old).dim settings.now cell.now }
     requires corner { k < 2 ^ (M.held m.old).dim }
     requires kind { kind ≡ kind_in_hand (setting_in M.rules (M.held m.old) settings.now) cell.now.place (corner_records M.numbers.vertex parents.old)
@@ -93,7 +95,7 @@ pub(crate) fn load_first<M: Mapping, DV: Depot<Vertex<M::V>>>(
 {
     let at = corner_place(&cell.place, k);
     count_load(&mut progress.tally, kind);
-    match pe_adapt::load_first(
+    match load::load_first(
         settings.setup.start_level,
         kind,
         settings.input,
@@ -125,7 +127,7 @@ pub(crate) fn store_hanging<M: Mapping, DV: Depot<Vertex<M::V>>>(
     dv: &mut DV,
     parents: &mut Corners<M::V>,
     parent: &mut CellRec<M::C>,
-) -> Result<(), Halt>
+) -> Result<(), Inner>
     requires walked { IsWalked (M.held m.old).dim settings.now cell.now }
     requires corner { k < 2 ^ (M.held m.old).dim }
     requires hangs { IsSomeAnd slot.old (λ v. v.kind ≡ Hanging) }
@@ -140,7 +142,7 @@ pub(crate) fn store_hanging<M: Mapping, DV: Depot<Vertex<M::V>>>(
     ensures emptied { slot.new ≡ None }
 {
     let at = corner_place(&cell.place, k);
-    match pe_adapt::store_hanging(settings.traversal, &at, slot, m, dv, parents, parent) {
+    match store::store_hanging(settings.traversal, &at, slot, m, dv, parents, parent) {
         Ok(()) => Ok(()),
         Err(halt) => {
             progress.at = at;
@@ -162,7 +164,7 @@ pub(crate) fn store_last<M: Mapping, DV: Depot<Vertex<M::V>>>(
     dv: &mut DV,
     parents: &mut Corners<M::V>,
     parent: &mut CellRec<M::C>,
-) -> Result<(), Halt>
+) -> Result<(), Inner>
     requires walked { IsWalked (M.held m.old).dim settings.now cell.now }
     requires corner { k < 2 ^ (M.held m.old).dim }
     requires kind { IsSomeAnd slot.old (λ v. v.kind ≡ kind) }
@@ -180,7 +182,7 @@ pub(crate) fn store_last<M: Mapping, DV: Depot<Vertex<M::V>>>(
 {
     let at = corner_place(&cell.place, k);
     count_store(&mut progress.tally, kind);
-    match pe_adapt::store_last(
+    match store::store_last(
         settings.output,
         settings.traversal,
         &at,

@@ -27,19 +27,19 @@ use Rattle.pe_base.specs.Calls.Follows.{Follows, Fits, BeforeCall, Failure, read
 use Rattle.pe_stacks.specs.RecordsOut.{RecordsOut}
 use Rattle.pe_base.proofs.Calls.Leading.{and_then-fits, follows-map}
 use Rattle.pe_hang.proofs.Moving.{allowed-fits, allowed-is}
-use Rattle.pe_adapt.specs.declared.stop.Halt.{Halt}
+use Rattle.pe_adapt.specs.declared.stop.Inner.{Inner}
 use Rattle.pe_adapt.specs.Slots.{seen_slot}
 use Rattle.pe_adapt.specs.Touches.{Desk, kind_in_hand}
 use Rattle.pe_adapt.specs.Touches as corners
 use Rattle.pe_adapt.specs.Spots.{desk_in_hand}
 use Rattle.pe_adapt.proofs.CornerPlaces.{cell_below, level_below}
 use Rattle.pe_adapt.proofs.InsideLaws.{inside-is}
-use Rattle.pe_walk.specs.declared.settings.Settings.{Settings}
-use Rattle.pe_walk.specs.declared.walked.WalkedCell.{WalkedCell}
-use Rattle.pe_walk.specs.Machine.{Machine, Ports, output, desk_of, with_desk, tally_may_rise, is_placed, load_corner, store_corner}
-use Rattle.pe_walk.specs.Streams.{AreStreams}
-use Rattle.pe_walk.specs.InHand.{IsWalked, setting_in, ports_of, failure_in}
-use Rattle.pe_walk.specs.Corners.{Hand, machine_of, found_in, filled_in, MayGo, GoesAlong}
+use Rattle.pe_adapt.specs.declared.settings.Settings.{Settings}
+use Rattle.pe_adapt.specs.declared.walked.WalkedCell.{WalkedCell}
+use Rattle.pe_adapt.specs.CountedTouches.{Machine, Ports, output, desk_of, with_desk, tally_may_rise, is_placed, load_corner, store_corner}
+use Rattle.pe_adapt.specs.Streams.{AreStreams}
+use Rattle.pe_adapt.specs.WalkedCells.{IsWalked, setting_in, ports_of, failure_in}
+use Rattle.pe_adapt.specs.TouchCalls.{Hand, machine_of, found_in, filled_in, MayGo, GoesAlong}
 
 -- a walked cell's position is far below the greatest number
 pub walked-pos : (axes : ℕ) (settings : Settings) (cell : WalkedCell) → IsWalked axes settings cell → (axis : ℕ) → slice_index cell.place.pos axis < 3 ^ 20
@@ -116,14 +116,14 @@ module _ {Plan : Type 0} (set : Setting Plan) (ports : Ports) (cell : Place) (k 
       (follows-map (λ desk. with_desk desk (record m { tally = tally_store it.kind last_here m.tally })) (corners.store_corner set (output ports) cell k it (desk_of m)) after answer old new is))
 
 -- how many records are out, by the slot
-left-loaded : {X : Type 0} (slot : Option X) (result : Result (Unit {0}) Halt) (old new : Holdings X) (room room' : ℕ → ℕ)
+left-loaded : {X : Type 0} (slot : Option X) (result : Result (Unit {0}) Inner) (old new : Holdings X) (room room' : ℕ → ℕ)
     → RecordsOut 0 1 old room new room' (is_err result) → OnOk result (IsSome slot) → OnErr result (slot ≡ None) → RecordsOut 0 (filled_in slot) old room new room' false
 left-loaded None (Ok u) old new room room' left loaded emptied = absurd (let no : false ≡ true = loaded in cc)
 left-loaded (Some x) (Ok u) old new room room' left loaded emptied = left
 left-loaded None (Err halt) old new room room' left loaded emptied = record { count = left.count; keeps = left.keeps; out = left.out }
 left-loaded (Some x) (Err halt) old new room room' left loaded emptied = absurd cc
 
-left-stored : {X : Type 0} (result : Result (Unit {0}) Halt) (old new : Holdings X) (room room' : ℕ → ℕ)
+left-stored : {X : Type 0} (result : Result (Unit {0}) Inner) (old new : Holdings X) (room room' : ℕ → ℕ)
     → RecordsOut 1 0 old room new room' (is_err result) → RecordsOut 1 0 old room new room' false
 left-stored (Ok u) old new room room' left = left
 left-stored (Err halt) old new room room' left = record { count = left.count; keeps = left.keeps; out = left.out }
@@ -147,7 +147,7 @@ store-cells Born false tally = refl
 store-cells Kept false tally = refl
 store-cells Dying false tally = refl
 
-module _ {Plan V C : Type 0} (rules : Rules Plan) (numbers : Numbers V C) (settings : Settings) (place : Place) (k : ℕ) (result : Result (Unit {0}) Halt) (old new : Hand Plan V C) where
+module _ {Plan V C : Type 0} (rules : Rules Plan) (numbers : Numbers V C) (settings : Settings) (place : Place) (k : ℕ) (result : Result (Unit {0}) Inner) (old new : Hand Plan V C) where
   abbrev set_here : Setting Plan
   set_here = setting_in rules old.held settings
 

@@ -11,11 +11,11 @@ use Rattle.pe_adapt.specs.Spots.{desk_in_hand}
 use Rattle.pe_adapt.specs.Touches.{store_as}
 use Rattle.pe_adapt.proofs.Storing.{stored-may, stored-put, touch-waiting}
 use Rattle.pe_adapt.proofs.Touching.{store-same}
-use Rattle.pe_walk.specs.Machine.{is_placed, output}
-use Rattle.pe_walk.specs.InHand.{setting_in, ports_of, failure_in}
-use Rattle.pe_walk.specs.Corners.{hand_of, found_in}
-use Rattle.pe_walk.proofs.CornerTouches.{goes-store, may-store-desk, may-store-placed, route-is, tally-goes, number-none, number-some}
-use Rattle.pe_walk.proofs.corner.store_corner.Goals as goal
+use Rattle.pe_adapt.specs.CountedTouches.{is_placed, output}
+use Rattle.pe_adapt.specs.WalkedCells.{setting_in, ports_of, failure_in}
+use Rattle.pe_adapt.specs.TouchCalls.{hand_of, found_in}
+use Rattle.pe_adapt.proofs.CountedTouches.{goes-store, may-store-desk, may-store-placed, route-is, tally-goes, number-none, number-some}
+use Rattle.pe_adapt.proofs.slot.store_in_slot.Goals as goal
 use Rattle.pe_hang.proofs.Staying.{keeps-same, stays-beside}
 
 pub store_last-requires-clause-kind : goal.store_last-requires-clause-kind

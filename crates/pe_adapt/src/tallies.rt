@@ -1,7 +1,7 @@
 // What a traversal counts of its vertices.
 ghost use Rattle.std.specs.Prelude.{◌≡◌, true};
 ghost use Rattle.pe_base.specs.Walk.Touches.{tally_load, tally_store};
-ghost use Rattle.pe_walk.specs.Machine.{tally_may_rise};
+ghost use Rattle.pe_adapt.specs.CountedTouches.{tally_may_rise};
 
 use pe_base::{Kind, Tally};
 

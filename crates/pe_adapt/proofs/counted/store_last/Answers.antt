@@ -9,11 +9,11 @@ use Rattle.pe_adapt.specs.Slots.{seen_slot}
 use Rattle.pe_adapt.specs.Spots.{desk_in_hand}
 use Rattle.pe_adapt.specs.Touches.{store_as}
 use Rattle.pe_adapt.proofs.Touching.{store-same}
-use Rattle.pe_walk.specs.InHand.{setting_in, failure_in, ports_of}
-use Rattle.pe_walk.specs.Machine.{output}
-use Rattle.pe_walk.specs.Corners.{hand_of, found_in}
-use Rattle.pe_walk.proofs.CornerTouches.{walked-pos, goes-store, may-store-rises, may-store-desk, slot-kind, slot-counts, output-is}
-use Rattle.pe_walk.proofs.touch.store_last.Goals as goal
+use Rattle.pe_adapt.specs.WalkedCells.{setting_in, failure_in, ports_of}
+use Rattle.pe_adapt.specs.CountedTouches.{output}
+use Rattle.pe_adapt.specs.TouchCalls.{hand_of, found_in}
+use Rattle.pe_adapt.proofs.CountedTouches.{walked-pos, goes-store, may-store-rises, may-store-desk, slot-kind, slot-counts, output-is}
+use Rattle.pe_adapt.proofs.counted.store_last.Goals as goal
 
 pub corner_place-at-requires-clause-pos : goal.corner_place-at-requires-clause-pos
 corner_place-at-requires-clause-pos g c = walked-pos _ _ _ c.requires.walked

@@ -1,17 +1,14 @@
-ghost use Rattle.std.specs.Prelude.{◌≡◌, ◌≤◌, ◌^◌, All};
+ghost use Rattle.std.specs.Prelude.{◌≡◌, ◌≤◌, ◌^◌};
 ghost use Rattle.pe_base.specs.Tree.Dim.{IsDim};
 ghost use Rattle.pe_base.specs.Tree.Ways.{way_of};
-ghost use Rattle.pe_base.specs.Tree.Places.{IsDigits, bits};
-ghost use Rattle.pe_base.specs.Tree.Curve.{child_digits};
 ghost use Rattle.pe_base.specs.Acts.Moments.{IsTraversal};
-ghost use Rattle.pe_walk.specs.Streams.{AreStreams};
+ghost use Rattle.pe_adapt.specs.Streams.{AreStreams};
 
 use pe_base::{Dim, Setup, Way};
-use pe_curve::Cursor;
 
 /// What is set for a traversal.
 #[derive(Clone, Copy, Debug, PartialEq, Eq)]
-pub(crate) struct Settings {
+pub struct Settings {
     /// The settings of the grid.
     pub setup: Setup,
     /// The traversal's number, from 1.
@@ -32,7 +29,7 @@ pub(crate) struct Settings {
 }
 
 /// What is set for a traversal, with these stacks for its input.
-pub(crate) fn settings_at(setup: &Setup, traversal: u64, input: u8, cell_input: u8) -> Settings
+pub fn settings_at(setup: &Setup, traversal: u64, input: u8, cell_input: u8) -> Settings
     requires traversal { IsTraversal traversal }
     requires input { 8 ≤ input }
     requires last { input ≤ 9 }
@@ -55,7 +52,7 @@ pub(crate) fn settings_at(setup: &Setup, traversal: u64, input: u8, cell_input: 
 
 /// The dimension, which is known when the walk is compiled.
 #[inline(always)]
-pub(crate) fn dim_in<const AXES: u8>(settings: &Settings) -> Dim
+pub fn dim_in<const AXES: u8>(settings: &Settings) -> Dim
     requires { settings.now.setup.dim ≡ AXES }
     ensures { result ≡ settings.now.setup.dim }
 {
@@ -67,20 +64,10 @@ pub(crate) fn dim_in<const AXES: u8>(settings: &Settings) -> Dim
 
 /// The number of corners of a cell, which is known when the walk is compiled.
 #[inline(always)]
-pub(crate) fn corners_in<const AXES: u8>(settings: &Settings) -> u8
+pub fn corners_in<const AXES: u8>(settings: &Settings) -> u8
     requires { settings.now.setup.dim ≡ AXES }
     ensures value { result ≡ 2 ^ settings.now.setup.dim }
     ensures range { IsDim settings.now.setup.dim }
 {
     dim_in::<AXES>(settings).corners()
-}
-
-/// The children of a cell in the order of the traversal, by the cell's flips.
-#[inline(always)]
-pub(crate) fn cursor_in<const AXES: u8>(settings: &Settings, flips: u8) -> Cursor
-    requires { settings.now.setup.dim ≡ AXES }
-    ensures digits { result ≡ child_digits settings.now.setup.dim settings.now.way (bits settings.now.setup.dim flips) }
-    ensures places { All (IsDigits settings.now.setup.dim) result }
-{
-    Cursor::new(dim_in::<AXES>(settings), settings.way, flips)
 }

@@ -14,11 +14,11 @@ use Rattle.pe_adapt.specs.Spots.{desk_in_hand}
 use Rattle.pe_adapt.specs.Touches.{kind_in_hand, load_as}
 use Rattle.pe_adapt.proofs.Loading.{loaded-waiting, waiting-may}
 use Rattle.pe_adapt.proofs.Touching.{load-same}
-use Rattle.pe_walk.specs.Machine.{is_placed}
-use Rattle.pe_walk.specs.InHand.{setting_in}
-use Rattle.pe_walk.specs.Corners.{hand_of, found_in}
-use Rattle.pe_walk.proofs.CornerTouches.{goes-load, may-load-desk, may-load-placed, route-is, tally-comes, number-none, number-some, popped-left}
-use Rattle.pe_walk.proofs.corner.load_corner.Goals as goal
+use Rattle.pe_adapt.specs.CountedTouches.{is_placed}
+use Rattle.pe_adapt.specs.WalkedCells.{setting_in}
+use Rattle.pe_adapt.specs.TouchCalls.{hand_of, found_in}
+use Rattle.pe_adapt.proofs.CountedTouches.{goes-load, may-load-desk, may-load-placed, route-is, tally-comes, number-none, number-some, popped-left}
+use Rattle.pe_adapt.proofs.slot.load_in_slot.Goals as goal
 use Rattle.pe_hang.proofs.Staying.{keeps-same, stays-beside}
 
 pub at-old-requires : goal.at-old-requires

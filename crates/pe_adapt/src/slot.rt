@@ -4,23 +4,24 @@ ghost use Rattle.pe_stacks.specs.Corners.{IsFull};
 ghost use Rattle.pe_stacks.specs.Sights.{corner_records};
 ghost use Rattle.pe_adapt.specs.Ages.{GiveKinds};
 ghost use Rattle.pe_adapt.specs.Slots.{seen_slot};
-ghost use Rattle.pe_walk.specs.Machine.{load_corner, store_corner};
-ghost use Rattle.pe_walk.specs.InHand.{IsWalked, ports_of};
-ghost use Rattle.pe_walk.specs.Corners.{MayGo, GoesAlong, hand_of, filled_in};
+ghost use Rattle.pe_adapt.specs.CountedTouches.{load_corner, store_corner};
+ghost use Rattle.pe_adapt.specs.WalkedCells.{IsWalked, ports_of};
+ghost use Rattle.pe_adapt.specs.TouchCalls.{MayGo, GoesAlong, hand_of, filled_in};
 
 use crate::progress::Progress;
 use crate::settings::Settings;
-use crate::touch::{load_first, load_hanging, store_hanging, store_last};
+use crate::counted::{load_first, load_hanging, store_hanging, store_last};
 use crate::walked::WalkedCell;
-use pe_adapt::{Halt, put_down};
+use crate::{Inner, put_down};
 use pe_base::Kind;
 use pe_mapping::Mapping;
 use pe_stacks::{CellRec, Corners, Depot, Vertex, fill_slot, filled};
 use pe_states::kind_of;
 
-// Loads a corner. One that is on its way from another cell is popped, and that is all.
+/// Loads a corner of the cell that is walked, in its slot. One that is on its way from another cell is popped, and that is
+/// all. On an error its record is given up, and the slot is empty.
 #[inline(always)]
-pub(crate) fn load_corner<M: Mapping, DV: Depot<Vertex<M::V>>>(
+pub fn load_in_slot<M: Mapping, DV: Depot<Vertex<M::V>>>(
     settings: &Settings,
     cell: &WalkedCell,
     k: u8,
@@ -30,7 +31,7 @@ pub(crate) fn load_corner<M: Mapping, DV: Depot<Vertex<M::V>>>(
     dv: &mut DV,
     parents: &mut Corners<M::V>,
     parent: &mut CellRec<M::C>,
-) -> Result<(), Halt>
+) -> Result<(), Inner>
     requires walked { IsWalked (M.held m.old).dim settings.now cell.now }
     requires corner { k < 2 ^ (M.held m.old).dim }
     requires kinds { GiveKinds (M.held m.old).dim settings.now.traversal cell.now.place (corner_records M.numbers.vertex parents.old) cell.now.ages }
@@ -60,9 +61,10 @@ pub(crate) fn load_corner<M: Mapping, DV: Depot<Vertex<M::V>>>(
     Ok(())
 }
 
-// Stores a corner. One that goes on to another cell is pushed, and that is all.
+/// Stores a corner of the cell that is walked, in its slot. One that goes on to another cell is pushed, and that is all.
+/// Whatever the answer, its record is given up or on its stack, and the slot is empty.
 #[inline(always)]
-pub(crate) fn store_corner<M: Mapping, DV: Depot<Vertex<M::V>>>(
+pub fn store_in_slot<M: Mapping, DV: Depot<Vertex<M::V>>>(
     settings: &Settings,
     cell: &WalkedCell,
     k: u8,
@@ -72,7 +74,7 @@ pub(crate) fn store_corner<M: Mapping, DV: Depot<Vertex<M::V>>>(
     dv: &mut DV,
     parents: &mut Corners<M::V>,
     parent: &mut CellRec<M::C>,
-) -> Result<(), Halt>
+) -> Result<(), Inner>
     requires walked { IsWalked (M.held m.old).dim settings.now cell.now }
     requires corner { k < 2 ^ (M.held m.old).dim }
     requires filled { IsSome slot.old }

@@ -4,7 +4,7 @@ use pe_states::Ages;
 
 /// What is known of the cell that is walked, beside its records.
 #[derive(Clone, Copy, Debug, PartialEq, Eq)]
-pub(crate) struct WalkedCell {
+pub struct WalkedCell {
     /// Its place.
     pub place: Place,
     /// Its state, which tells the routes of its corners.
