@@ -8,7 +8,7 @@ use Rattle.pe_base.specs.declared.event.Event.{Event}
 use Rattle.pe_base.specs.declared.event.Event.TheVariants.{TouchVertexFirstTime, EnterCell}
 use Rattle.pe_base.specs.Life.States.{refined_state, erased_state}
 use Rattle.pe_base.specs.Acts.Events.{number_of, sort_of, is_among}
-use Rattle.pe_base.specs.Acts.Effects.{VertexRecord, Seen, Outcome, Rules}
+use Rattle.pe_base.specs.Acts.Effects.{SeenVertex, Seen, Outcome, Rules}
 use Rattle.pe_base.specs.Lines.{line_by}
 use Rattle.pe_base.specs.Walk.Maps.{at}
 use Rattle.pe_base.specs.Walk.Course.{Ending, done, halts, stuck}
@@ -26,7 +26,7 @@ pub record Trial : Type 0 where
 
 module _ (trial : Trial) where
   -- a vertex at the event of triggers
-  abbrev pub triggered : ℕ → Place → VertexRecord → VertexRecord
+  abbrev pub triggered : ℕ → Place → SeenVertex → SeenVertex
   triggered t place vertex =
       let refined = if trial.refines t place then refined_state place.level trial.greatest vertex.kind vertex.state else vertex.state in
       record vertex { state = if trial.erases t place then erased_state vertex.kind refined else refined }
@@ -105,7 +105,7 @@ abbrev pub one_more : List ℤ → List ℤ
 one_more [] = []
 one_more (n ∷ ns) = (n +ℤ pos 1) ∷ ns
 
-abbrev pub counted_vertex : VertexRecord → VertexRecord
+abbrev pub counted_vertex : SeenVertex → SeenVertex
 counted_vertex vertex = record vertex { numbers = one_more vertex.numbers }
 
 abbrev pub counted : Event → Seen → Seen
