@@ -3,7 +3,6 @@ ghost use Rattle.std.specs.Prelude.{◌≡◌, ◌^◌, [], ◌∷◌};
 
 use pe_base::{Digits, Dim, Place, Way};
 use pe_curve::{Cursor, child};
-use std::test::Fail;
 
 // The children of the root in the plane, in the order of the curve.
 const PLANE: [(u64, u64); 9] = [
@@ -48,37 +47,47 @@ fn share_a_face(a: &Digits, b: &Digits) -> bool {
     distance == 1
 }
 
-#[test]
-fn the_plane_is_walked_as_drawn(rt: HostRuntime) -> Result<(), Fail> {
-    let dim = Dim::new(2).ok_or("a dimension")?;
-    let root = plane_place(0, 0, 0);
-    for n in 0..9 {
-        let (x, y) = PLANE[n as usize];
-        assert!(rt; child(dim, &root, Way::Forward, n) == plane_place(1, x, y));
-        assert!(rt; child(dim, &root, Way::Inverted, 8 - n) == plane_place(1, x, y));
+// Whether each child shares a face with the one before it.
+fn crosses_faces(dim: Dim, way: Way, flips: u8) -> bool {
+    let mut last = None;
+    for digits in Cursor::new(dim, way, flips) {
+        if let Some(before) = &last {
+            if !share_a_face(before, &digits) {
+                return false;
+            }
+        }
+        last = Some(digits);
     }
-    let above = plane_place(1, 0, 1);
-    assert!(rt; child(dim, &above, Way::Forward, 0) == plane_place(2, 2, 3));
-    assert!(rt; child(dim, &above, Way::Inverted, 8) == plane_place(2, 2, 3));
-    Ok(())
+    true
 }
 
 #[test]
-fn each_step_crosses_a_face(rt: HostRuntime) -> Result<(), Fail> {
+fn the_plane_is_walked_as_drawn(rt: HostRuntime) {
+    let dim = Dim::new(2).expect(&rt, "a dimension");
+    let root = plane_place(0, 0, 0);
+    for n in 0..9 {
+        let (x, y) = PLANE[n as usize];
+        let forward = child(dim, &root, Way::Forward, n);
+        let inverted = child(dim, &root, Way::Inverted, 8 - n);
+        let place = plane_place(1, x, y);
+        assert!(rt; (forward, inverted) == (place, place), "child {n}");
+    }
+    let above = plane_place(1, 0, 1);
+    let first = child(dim, &above, Way::Forward, 0);
+    let last = child(dim, &above, Way::Inverted, 8);
+    let place = plane_place(2, 2, 3);
+    assert!(rt; (first, last) == (place, place));
+}
+
+#[test]
+fn each_step_crosses_a_face(rt: HostRuntime) {
     for (axes, parts) in [(2, 9), (3, 27), (4, 81)] {
-        let dim = Dim::new(axes).ok_or("a dimension")?;
+        let dim = Dim::new(axes).expect(&rt, "a dimension");
         for flips in 0..16 {
             for way in [Way::Forward, Way::Inverted] {
-                assert!(rt; count(dim, way, flips) == parts);
-                let mut last = None;
-                for digits in Cursor::new(dim, way, flips) {
-                    if let Some(before) = &last {
-                        assert!(rt; share_a_face(before, &digits), "{before:?} {digits:?}");
-                    }
-                    last = Some(digits);
-                }
+                let told = (count(dim, way, flips), crosses_faces(dim, way, flips));
+                assert!(rt; told == (parts, true), "{axes} {flips} {way:?}");
             }
         }
     }
-    Ok(())
 }

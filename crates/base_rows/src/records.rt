@@ -8,7 +8,6 @@ ghost use Rattle.pe_stacks.specs.Holdings.{new_holdings, stack_count, stack_at, 
 
 use pe_base::{Dim, Kind, State};
 use pe_stacks::{CellRec, Corners, Depot, Grid, Shown, VecDepot, Vertex};
-use std::test::Fail;
 
 // Gives up the top of a stack and puts a fresh record in its place, which never wants memory.
 fn replace_top<R, D: Depot<R>>(depot: &mut D, s: u8, r: R)
@@ -52,15 +51,13 @@ fn depart_in_place<P>(corners: &mut Corners<P>, q: u8, state: State)
 }
 
 #[test]
-fn a_depot_of_ten_stacks(rt: HostRuntime) -> Result<(), Fail> {
+fn a_depot_of_ten_stacks(rt: HostRuntime) {
     let alloc = rt.alloc();
-    let mut depot = VecDepot::new(alloc, 10)?;
+    let mut depot = VecDepot::new(alloc, 10).expect(&rt, "memory");
     let r = depot.lend(1);
-    assert!(rt; depot.push(8, r).is_ok());
-    assert!(rt; depot.len(8) == 1);
-    assert!(rt; depot.out() == 0);
-    assert!(rt; depot.most() == 1);
-    depot.reserve(8, 100)?;
+    let pushed = depot.push(8, r).is_ok();
+    assert!(rt; (pushed, depot.len(8), depot.out(), depot.most()) == (true, 1, 0, 1));
+    depot.reserve(8, 100).expect(&rt, "memory");
     assert!(rt; depot.spare(8) >= 100);
     for n in 0..100 {
         assert!(rt; depot.stacks() == 10 && depot.fresh() < 101 && depot.pushes(8) < 101);
@@ -69,65 +66,57 @@ fn a_depot_of_ten_stacks(rt: HostRuntime) -> Result<(), Fail> {
         depot.push_spare(8, r);
     }
     assert!(rt; depot.stacks() == 10);
-    assert!(rt; depot.len(8) == 101);
-    assert!(rt; depot.out() == 0);
+    assert!(rt; (depot.len(8), depot.out()) == (101, 0));
     depot.clear();
     assert!(rt; depot.stacks() == 10);
-    assert!(rt; depot.len(8) == 0);
-    assert!(rt; depot.fresh() == 101);
-    assert!(rt; depot.spent() == 101);
-    assert!(rt; depot.pops(8) == 0);
-    Ok(())
+    let counts = (depot.len(8), depot.fresh(), depot.spent(), depot.pops(8));
+    assert!(rt; counts == (0, 101, 101, 0));
 }
 
 #[test]
-fn a_record_that_cannot_be_copied(rt: HostRuntime) -> Result<(), Fail> {
+fn a_record_that_cannot_be_copied(rt: HostRuntime) {
     let alloc = rt.alloc();
-    let mut depot = VecDepot::new(alloc, 2)?;
-    let r = depot.lend(CellRec::new(Box::new(alloc, 3)?));
+    let mut depot = VecDepot::new(alloc, 2).expect(&rt, "memory");
+    let r = depot.lend(CellRec::new(Box::new(alloc, 3).expect(&rt, "memory")));
     assert!(rt; depot.push(1, r).is_ok());
-    replace_top(&mut depot, 1, CellRec::new(Box::new(alloc, 4)?));
-    assert!(rt; **depot.look(1, 0).payload() == 4);
-    assert!(rt; depot.spent() == 1);
-    assert!(rt; depot.pops(1) == 1);
-    Ok(())
+    let r = CellRec::new(Box::new(alloc, 4).expect(&rt, "memory"));
+    replace_top(&mut depot, 1, r);
+    let top = **depot.look(1, 0).payload();
+    assert!(rt; (top, depot.spent(), depot.pops(1)) == (4, 1, 1));
 }
 
 #[test]
-fn a_vertex_in_a_corner(rt: HostRuntime) -> Result<(), Fail> {
-    let dim = Dim::new(2).ok_or("a dimension")?;
+fn a_vertex_in_a_corner(rt: HostRuntime) {
+    let dim = Dim::new(2).expect(&rt, "a dimension");
     let mut corners = Corners::empty(dim);
     corners.put(3, Vertex::new(State::Unrefined, Kind::Kept, 5));
     depart_at(&mut corners, 3, State::Unrefined);
     depart_in_place(&mut corners, 0, State::Refined);
     assert!(rt; corners.quad(0).p3.is_some());
     *corners.at_mut(3).payload_mut() = 6;
-    assert!(rt; corners.at(3).is_old() && corners.at(3).is_new());
+    let ages = (corners.at(3).is_old(), corners.at(3).is_new());
     let mut v = corners.take(3);
     corners.close();
     v.erase();
-    assert!(rt; v.state() == State::EraseTriggered);
+    assert!(rt; (ages, v.state()) == ((true, true), State::EraseTriggered));
     v.arrive(Kind::Born, State::Unrefined);
     v.refine(1, 2);
-    assert!(rt; v.state() == State::RefinementTriggered);
-    assert!(rt; v.kind() == Kind::Born);
-    assert!(rt; *v.payload() == 6);
-    Ok(())
+    let told = (v.state(), v.kind(), *v.payload());
+    assert!(rt; told == (State::RefinementTriggered, Kind::Born, 6));
 }
 
 #[test]
-fn a_grid_is_handed_on(rt: HostRuntime) -> Result<(), Fail> {
-    let dim = Dim::new(3).ok_or("a dimension")?;
+fn a_grid_is_handed_on(rt: HostRuntime) {
+    let dim = Dim::new(3).expect(&rt, "a dimension");
     let mut grid = Grid::fresh(dim, 7);
     *grid.root_mut().payload_mut() = 8;
     let grid = grid.advanced();
-    assert!(rt; (grid.dim(), grid.finished()) == (dim, 1));
-    assert!(rt; (grid.input(), grid.cell_input()) == (9, 1));
-    assert!(rt; *grid.root().payload() == 8);
-    let root = grid.close();
-    assert!(rt; *root.payload() == 8);
-    let grid = Grid::resume(dim, 4, *root.payload());
-    assert!(rt; (grid.input(), grid.cell_input()) == (8, 0));
-    assert!(rt; *grid.close().payload() == 8);
-    Ok(())
+    let told = (grid.dim(), grid.finished(), *grid.root().payload());
+    assert!(rt; told == (dim, 1, 8));
+    let inputs = (grid.input(), grid.cell_input());
+    let root = *grid.close().payload();
+    assert!(rt; (inputs, root) == ((9, 1), 8));
+    let grid = Grid::resume(dim, 4, root);
+    let inputs = (grid.input(), grid.cell_input());
+    assert!(rt; (inputs, *grid.close().payload()) == ((8, 0), 8));
 }

@@ -9,7 +9,6 @@ ghost use Rattle.pe_access.specs.States.{axes_of, level_of};
 use pe_access::{CellState, Route};
 use pe_base::{Digits, Dim, Way};
 use pe_curve::Cursor;
-use std::test::Fail;
 
 // The vertex (1, 1) of level 1 and the cells around it; then those of (3, 1) on level 2, whose plane of axis 0 is
 // that of (1, _) on level 1.
@@ -32,8 +31,8 @@ fn the_definitions_give_the_rows() {
 }
 
 #[test]
-fn the_middle_cell_of_the_plane(rt: HostRuntime) -> Result<(), Fail> {
-    let dim = Dim::new(2).ok_or("a dimension")?;
+fn the_middle_cell_of_the_plane(rt: HostRuntime) {
+    let dim = Dim::new(2).expect(&rt, "a dimension");
     let middle = CellState::root(dim, Way::Forward).descend(Digits { k: [1, 1, 0, 0] });
     let rows = [
         (Route::Temp(1), Route::Temp(3)),
@@ -42,27 +41,23 @@ fn the_middle_cell_of_the_plane(rt: HostRuntime) -> Result<(), Fail> {
         (Route::Temp(2), Route::Temp(0)),
     ];
     for corner in 0..4 {
-        let (route_in, route_out) = rows[corner as usize];
-        assert!(rt; middle.route_in(corner) == route_in);
-        assert!(rt; middle.route_out(corner) == route_out);
+        let routes = (middle.route_in(corner), middle.route_out(corner));
+        assert!(rt; routes == rows[corner as usize], "corner {corner}");
     }
-    Ok(())
 }
 
 #[test]
-fn a_row_of_children(rt: HostRuntime) -> Result<(), Fail> {
-    let dim = Dim::new(2).ok_or("a dimension")?;
+fn a_row_of_children(rt: HostRuntime) {
+    let dim = Dim::new(2).expect(&rt, "a dimension");
     let root = CellState::root(dim, Way::Forward);
     let mut child = root.descend(Digits { k: [1, 0, 0, 0] });
     let mut row = child.row();
     let turns = root.row_turns(2, Digits { k: [1, 0, 0, 0] });
     root.step(2, &mut child, &mut row, turns, Digits { k: [1, 1, 0, 0] });
     // The middle cell takes corner 3 from the stack of axis 1 and hands it to that of axis 0.
-    assert!(rt; child.coming_in(&row, 3) == 8 + 2);
-    assert!(rt; child.going_in(&row, 3) == 8);
-    assert!(rt; child.coming(3) == 8 + 2);
-    assert!(rt; child.going(3) == 8);
-    Ok(())
+    let in_row = (child.coming_in(&row, 3), child.going_in(&row, 3));
+    let alone = (child.coming(3), child.going(3));
+    assert!(rt; (in_row, alone) == ((8 + 2, 8), (8 + 2, 8)));
 }
 
 // Where each vertex of a level waits: not touched yet, on a stack (its number and one), or back on the stream.
@@ -164,15 +159,18 @@ fn walk(
 
 // Each inside vertex comes from the stream once, then from the stack that it was put on, and goes back to the stream.
 #[test]
-fn each_vertex_is_found_where_it_was_put(rt: HostRuntime) -> Result<(), Fail> {
+fn each_vertex_is_found_where_it_was_put(rt: HostRuntime) {
     for (axes, levels, vertices) in [(2, 1, 4), (2, 2, 64), (3, 1, 8), (4, 1, 16)] {
-        let dim = Dim::new(axes).ok_or("a dimension")?;
+        let dim = Dim::new(axes).expect(&rt, "a dimension");
         for way in [Way::Forward, Way::Inverted] {
             let mut table = [UNTOUCHED; 256];
             let root = CellState::root(dim, way);
-            assert!(rt; walk(dim, way, &root, &[0; 4], 1, levels, &mut table));
-            assert!(rt; table.iter().filter(|place| **place == DONE).count() == vertices);
+            let found = walk(dim, way, &root, &[0; 4], 1, levels, &mut table);
+            let done = table.iter().filter(|place| **place == DONE).count();
+            assert!(rt;
+                (found, done) == (true, vertices),
+                "{axes} {levels} {way:?}"
+            );
         }
     }
-    Ok(())
 }

@@ -8,7 +8,6 @@ ghost use Rattle.pe_base.specs.Tree.Curve.{children, order};
 ghost use Rattle.pe_base.specs.Lines.{place_line, plain_line, done_line, fault_shelf_scenario, fault_at_key, fault_in_body, fault_at_event, fault_cells};
 
 use pe_base::{Dim, Event, List, Sort, Text, Way};
-use std::test::Fail;
 
 fn children_of_the_root()
     ensures plane { children 2 Forward root ≡ map (at 1)
@@ -55,23 +54,23 @@ fn the_definitions_give_the_rows() {
 }
 
 #[test]
-fn the_calls_answer(rt: HostRuntime) -> Result<(), Fail> {
-    assert!(rt; Dim::new(1) == None);
-    assert!(rt; Dim::new(5) == None);
+fn the_calls_answer(rt: HostRuntime) {
+    assert!(rt; (Dim::new(1), Dim::new(5)) == (None, None));
     for (n, corners, parts) in [(2, 4, 9), (3, 8, 27), (4, 16, 81)] {
-        let dim = Dim::new(n).ok_or("a dimension")?;
-        assert!(rt; dim.axes() == n);
-        assert!(rt; dim.corners() == corners);
-        assert!(rt; dim.parts() == parts);
+        let dim = Dim::new(n).expect(&rt, "a dimension");
+        assert!(rt; (dim.axes(), dim.corners(), dim.parts()) == (n, corners, parts));
     }
-    assert!(rt; Way::of(1) == Way::Forward);
-    assert!(rt; Way::of(2) == Way::Inverted);
-    assert!(rt; Event::of_name("enter_cell") == Some(Event::EnterCell));
-    assert!(rt; Event::of_name("enter") == None);
-    assert!(rt; Event::DestroyCell.name() == "destroy_cell");
-    assert!(rt; Event::CreateHangingVertex.sort() == Sort::Vertex);
+    assert!(rt; (Way::of(1), Way::of(2)) == (Way::Forward, Way::Inverted));
+    let events = (Event::of_name("enter_cell"), Event::of_name("enter"));
+    assert!(rt; events == (Some(Event::EnterCell), None));
+    let told = (Event::DestroyCell.name(), Event::CreateHangingVertex.sort());
+    assert!(rt; told == ("destroy_cell", Sort::Vertex));
+}
+
+#[test]
+fn texts_and_lists(rt: HostRuntime) {
     let alloc = rt.alloc();
-    assert!(rt; Text::new("form".to_string(alloc)?).as_str() == "form");
-    assert!(rt; List::new(vec![in alloc; 1, 2]?).as_slice() == [1, 2].as_slice());
-    Ok(())
+    let text = Text::new("form".to_string(alloc).expect(&rt, "memory"));
+    let list = List::new([1, 2].to_vec(alloc).expect(&rt, "memory"));
+    assert!(rt; (text.as_str(), list.as_slice()) == ("form", [1, 2].as_slice()));
 }

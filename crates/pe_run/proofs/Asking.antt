@@ -2,6 +2,7 @@
 use Rattle.std.proofs.Common.{◌≡◌, ◌≢◌, ◌⊎◌, inl, inr, ◌∙◌, ℕ, ◌+◌, ◌<◌, ◌≤◌, List, [], length, replicate, Option, Some, None, Result, Ok, Err, refl, sym, ap, subst, rules, arith}
 use Rattle.std.proofs.lemmas.List.{length-replicate}
 use Rattle.std.proofs.lemmas.Bool.{lt-ltb}
+use Rattle.pe_base.specs.Limits.{scenario_bytes}
 use Rattle.pe_io.specs.declared.shelf.Got.{Got}
 use Rattle.pe_io.specs.declared.shelf.Got.TheVariants.{Absent, Failed}
 use Rattle.pe_io.specs.declared.shelf.ShelfCall.TheVariants.{Get}
@@ -10,7 +11,7 @@ use Rattle.pe_scene.specs.declared.fault.SceneFault.{SceneFault}
 use Rattle.pe_scene.specs.declared.fault.SceneFault.TheVariants.{TooLong, NotToml, UnknownKey, Missing, Shape, Range, Name, Body, Memory}
 use Rattle.pe_scene.specs.declared.scenario.Scenario.{Scenario}
 use Rattle.pe_scene.specs.Faults.{Gives}
-use Rattle.pe_scene.specs.Said.{Said, scenario_of, scenario_limit}
+use Rattle.pe_scene.specs.Said.{Said, scenario_of}
 use Rattle.pe_scene.specs.SaidView.{said_of}
 use Rattle.pe_run.specs.declared.refusal.Refusal.{Refusal}
 use Rattle.pe_run.specs.declared.refusal.Refusal.TheVariants.{NoJob, NoShelf, Unreadable}
@@ -43,9 +44,9 @@ Holds-held_with None bytes = λ name. search rules
 Holds-held_with (Some contents) bytes = refl
 
 -- bytes that are longer than the limit are refused
-refused_longer : (bytes : List ℕ) → scenario_limit < length bytes → scenario_of bytes ≡ Err TooLong
+refused_longer : (bytes : List ℕ) → scenario_bytes < length bytes → scenario_of bytes ≡ Err TooLong
 unfolding scenario_of
-refused_longer bytes longer = rw (lt-ltb scenario_limit (length bytes) longer)
+refused_longer bytes longer = rw (lt-ltb scenario_bytes (length bytes) longer)
 
 -- there are lists longer than any number
 longer_than : (limit : ℕ) → (bytes : List ℕ) × (limit < length bytes)
@@ -68,29 +69,29 @@ module _ (before after : ℕ) (last : Option FailedCall) where
   }
 
   -- the shelf gave whole bytes
-  pub Asks-whole : (result : Result Scenario Refusal) (told : Option Contents) (name bytes : List ℕ) → WhereTold told (λ held. (held name ≡ Some bytes) × (length bytes ≤ scenario_limit))
+  pub Asks-whole : (result : Result Scenario Refusal) (told : Option Contents) (name bytes : List ℕ) → WhereTold told (λ held. (held name ≡ Some bytes) × (length bytes ≤ scenario_bytes))
       → IsAsked said_of result (read_as (scenario_of bytes)) → Asks said_of (Some name) told before after last result
   Asks-whole result None name bytes is says = Asks-held result (Some name) None (λ _. Some bytes) (λ _. search rules) says
   Asks-whole result (Some contents) name bytes is says =
       Asks-held result (Some name) (Some contents) contents refl (subst (λ under. IsAsked said_of result (held_as under)) (sym is.0) says)
 
   -- the shelf holds more than the limit
-  pub Asks-longer : (told : Option Contents) (name : List ℕ) → WhereTold told (λ held. IsLonger (held name) scenario_limit) → Asks said_of (Some name) told before after last (Err (Unreadable TooLong))
+  pub Asks-longer : (told : Option Contents) (name : List ℕ) → WhereTold told (λ held. IsLonger (held name) scenario_bytes) → Asks said_of (Some name) told before after last (Err (Unreadable TooLong))
   Asks-longer None name longer =
-      let bytes = longer_than scenario_limit in
+      let bytes = longer_than scenario_bytes in
       Asks-held (Err (Unreadable TooLong)) (Some name) None (λ _. Some bytes.0) (λ _. search rules) (ap read_as (refused_longer bytes.0 bytes.1))
   Asks-longer (Some contents) name longer =
-      elim (contents name) as (λ under. contents name ≡ under → IsLonger under scenario_limit → Asks said_of (Some name) (Some contents) before after last (Err (Unreadable TooLong))) [
+      elim (contents name) as (λ under. contents name ≡ under → IsLonger under scenario_bytes → Asks said_of (Some name) (Some contents) before after last (Err (Unreadable TooLong))) [
         | None ↦ λ same none. absurd none
         | Some bytes ↦ λ same more. Asks-held (Err (Unreadable TooLong)) (Some name) (Some contents) contents refl (ap held_as same ∙ ap read_as (refused_longer bytes more))
       ] refl longer
 
   -- the shelf does not hold the name
-  Asks-absent : (told : Option Contents) (name : List ℕ) (got : Got) → got ≡ Absent → WhereTold told (λ held. IsGot (held name) scenario_limit got) → (told ≡ None → got ≢ Absent)
+  Asks-absent : (told : Option Contents) (name : List ℕ) (got : Got) → got ≡ Absent → WhereTold told (λ held. IsGot (held name) scenario_bytes got) → (told ≡ None → got ≢ Absent)
       → Asks said_of (Some name) told before after last (Err NoShelf)
   Asks-absent None name got absent is untold = absurd (untold refl absent)
   Asks-absent (Some contents) name got absent is untold =
-      Asks-held (Err NoShelf) (Some name) (Some contents) contents refl (ap held_as (subst (λ answer. IsGot (contents name) scenario_limit answer) absent is))
+      Asks-held (Err NoShelf) (Some name) (Some contents) contents refl (ap held_as (subst (λ answer. IsGot (contents name) scenario_bytes answer) absent is))
 
   -- the shelf failed
   Asks-failed : (told : Option Contents) (name : List ℕ) → FailedAt Get name before after last → Asks said_of (Some name) told before after last (Err NoShelf)
@@ -102,7 +103,7 @@ module _ (before after : ℕ) (last : Option FailedCall) where
     is = refl;
   }
 
-  pub Asks-not_given : (told : Option Contents) (name : List ℕ) (got : Got) → (got ≡ Absent) ⊎ (got ≡ Failed) → WhereTold told (λ held. IsGot (held name) scenario_limit got) → (told ≡ None → got ≢ Absent)
+  pub Asks-not_given : (told : Option Contents) (name : List ℕ) (got : Got) → (got ≡ Absent) ⊎ (got ≡ Failed) → WhereTold told (λ held. IsGot (held name) scenario_bytes got) → (told ≡ None → got ≢ Absent)
       → (got ≡ Failed → FailedAt Get name before after last) → Asks said_of (Some name) told before after last (Err NoShelf)
   Asks-not_given told name got (inl absent) is untold failed = Asks-absent told name got absent is untold
   Asks-not_given told name got (inr none) is untold failed = Asks-failed told name (failed none)

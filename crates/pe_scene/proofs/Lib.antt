@@ -12,5 +12,5 @@ pub mod BodyLoop
 pub mod SaidLemmas
 -- no document is refused for its length
 pub mod NotTooLong
--- a scenario says no more than a thousand traversals
+-- a scenario says no more traversals than one may ask for
 pub mod FewTraversals

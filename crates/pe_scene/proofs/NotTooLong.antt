@@ -4,6 +4,7 @@ use Rattle.std.specs.Prelude.{ℤ, nat_le, length}
 use Rattle.toml.specs.Data.{Data, Items, Members, get_member, as_integer, as_array, as_str, as_table}
 use Rattle.pe_base.specs.declared.event.Event.{Event}
 use Rattle.pe_base.specs.Acts.Events.{all_events, name_of}
+use Rattle.pe_base.specs.Limits.{most_fields, most_levels}
 use Rattle.pe_lex.specs.declared.token.Token.{Token}
 use Rattle.pe_lex.specs.Tokens.{tokens_of}
 use Rattle.pe_parse.specs.declared.fault.ParseFault.{ParseFault}
@@ -19,10 +20,13 @@ use Rattle.pe_scene.specs.declared.fault.SceneFault.{SceneFault}
 use Rattle.pe_scene.specs.declared.fault.SceneFault.TheVariants.{TooLong, Name, Range as OutOfRange}
 use Rattle.pe_scene.specs.declared.section.Section.{Section}
 use Rattle.pe_scene.specs.declared.section.Section.TheVariants as section
-use Rattle.pe_scene.specs.declared.settings.Range.{Range}
+use Rattle.pe_scene.specs.declared.number.Number.{Number}
+use Rattle.pe_scene.specs.declared.number.Number.TheVariants.{Dim, Traversals, MaxLevel, StartLevel, MaxCells}
+use Rattle.pe_scene.specs.declared.number.Range.{Range}
 use Rattle.pe_scene.specs.Sections.{unknown_in, named}
 use Rattle.pe_scene.specs.Faults.{on_ok}
-use Rattle.pe_scene.specs.Settings.{within, or_range, or_shape, or_missing, number_of, number_in, levels_in, settings_in, start_level_range, dim_range, traversals_range, max_level_range, max_cells_range}
+use Rattle.pe_scene.specs.Numbers.{key_of, range_of, within}
+use Rattle.pe_scene.specs.Settings.{or_range, or_shape, or_missing, number_of, number_in, settings_in}
 use Rattle.pe_scene.specs.Texts.{are_texts, are_field_names, texts_of, of_texts, of_array, or_name, events_after, trace_in, names_of}
 use Rattle.pe_scene.specs.Fields.{names_at, if_known, names_in, of_fields, fields_of, fields_in}
 use Rattle.pe_scene.specs.BodyTexts.{check_fault, parse_fault, or_refused, parsed, lexed, body_text}
@@ -64,20 +68,16 @@ fits-number : (key : List ℕ) (range : Range) (value : Option Data) → Fits (n
 fits-number key range None h = fits-or_missing key range.default h
 fits-number key range (Some value) h = fits-or_shape key range (as_integer value) h
 
-fits-number_in : (key : List ℕ) (range : Range) (members : Members) → Fits (number_in key range members)
-fits-number_in key range members h = fits-number key range (get_member key members) h
-
-fits-levels : (members : Members) → Fits (levels_in members)
-fits-levels members =
-    fits-on_ok (number_in (codes "max_level") max_level_range members) _ (fits-number_in (codes "max_level") max_level_range members)
-    (λ max_level. fits-on_ok (number_in (codes "start_level") (start_level_range max_level) members) _ (fits-number_in (codes "start_level") (start_level_range max_level) members) (λ start_level. fits-ok _))
+fits-number_in : (levels : ℕ) (number : Number) (members : Members) → Fits (number_in levels number members)
+fits-number_in levels number members h = fits-number (key_of number) (range_of levels number) (get_member (key_of number) members) h
 
 fits-settings : (members : Members) → Fits (settings_in members)
 fits-settings members =
-    fits-on_ok (number_in (codes "dim") dim_range members) _ (fits-number_in (codes "dim") dim_range members)
-    (λ axes. fits-on_ok (number_in (codes "traversals") traversals_range members) _ (fits-number_in (codes "traversals") traversals_range members)
-    (λ traversals. fits-on_ok (levels_in members) _ (fits-levels members)
-    (λ levels. fits-on_ok (number_in (codes "max_cells") max_cells_range members) _ (fits-number_in (codes "max_cells") max_cells_range members) (λ max_cells. fits-ok _))))
+    fits-on_ok (number_in most_levels Dim members) _ (fits-number_in most_levels Dim members)
+    (λ axes. fits-on_ok (number_in most_levels Traversals members) _ (fits-number_in most_levels Traversals members)
+    (λ traversals. fits-on_ok (number_in most_levels MaxLevel members) _ (fits-number_in most_levels MaxLevel members)
+    (λ max_level. fits-on_ok (number_in max_level StartLevel members) _ (fits-number_in max_level StartLevel members)
+    (λ start_level. fits-on_ok (number_in max_level MaxCells members) _ (fits-number_in max_level MaxCells members) (λ max_cells. fits-ok _)))))
 
 -- arrays of texts
 fits-of_texts : {X : Type 0} (key : List ℕ) (read : Items → Result X SceneFault) (items : Option Items) → ((items : Items) → Fits (read items)) → Fits (of_texts key read items)
@@ -97,7 +97,7 @@ fits-trace members = fits-of_array (codes "trace") _ _ (get_member (codes "trace
 
 fits-names_of : (key : List ℕ) (names : List (List ℕ)) → Fits (names_of key names)
 fits-names_of key names =
-    fits-cond (nat_le (length names) 8) (cond (are_field_names names) (Ok names) (Err (Name key))) (Err (OutOfRange key))
+    fits-cond (nat_le (length names) most_fields) (cond (are_field_names names) (Ok names) (Err (Name key))) (Err (OutOfRange key))
     (fits-cond (are_field_names names) (Ok names) (Err (Name key)) (fits-ok names) (λ h. cc)) (λ h. cc)
 
 fits-names_at : (key : List ℕ) (members : Members) → Fits (names_at key members)

@@ -5,7 +5,8 @@ use Rattle.std.proofs.lemmas.Str.{IsUtf8-from_is_utf8, is_utf8-from_IsUtf8}
 use Rattle.std.proofs.lemmas.Bool.{false≢true, le-ltb}
 use Rattle.toml.specs.Data.{Members}
 use Rattle.toml.specs.Parse.{parse_document}
-use Rattle.pe_scene.specs.Said.{document_of, of_document, scenario_limit, scenario_of}
+use Rattle.pe_base.specs.Limits.{scenario_bytes}
+use Rattle.pe_scene.specs.Said.{document_of, of_document, scenario_of}
 
 -- the table of bytes that are text
 pub document_of-text : (bytes : List ℕ) (r : Option Members) → (IsUtf8 bytes → parse_document bytes ≡ r) → (r ≡ None ⊎ IsUtf8 bytes) → document_of bytes ≡ r
@@ -20,6 +21,6 @@ document_of-text bytes r read known =
     ] refl
 
 -- bytes within the limit say what their document says
-pub scenario_of-document : (bytes : List ℕ) (r : Option Members) → length bytes ≤ scenario_limit → document_of bytes ≡ r → scenario_of bytes ≡ of_document r
+pub scenario_of-document : (bytes : List ℕ) (r : Option Members) → length bytes ≤ scenario_bytes → document_of bytes ≡ r → scenario_of bytes ≡ of_document r
 unfolding scenario_of
-scenario_of-document bytes r small is = rw (le-ltb scenario_limit (length bytes) small) (ap of_document is)
+scenario_of-document bytes r small is = rw (le-ltb scenario_bytes (length bytes) small) (ap of_document is)

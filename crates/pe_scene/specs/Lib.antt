@@ -4,12 +4,13 @@
 pub mod Trace
 -- the bodies of events, and how they lie in a scenario
 pub mod Bodies
-pub mod BodiesView
+-- the numbers of a document, and their ranges
+pub mod Numbers
 -- the tables of a document, and which keys they may have
 pub mod Sections
 -- what a reader answers
 pub mod Faults
--- the numbers of a document
+-- what the numbers of a document say
 pub mod Settings
 pub mod SettingsView
 -- arrays of texts: events to trace, and names of fields

@@ -5,6 +5,7 @@ use Rattle.toml.specs.Data.{Members}
 use Rattle.toml.specs.Parse.{parse_document}
 use Rattle.pe_base.specs.declared.event.Event.{Event}
 use Rattle.pe_base.specs.Acts.Events.{is_among}
+use Rattle.pe_base.specs.Limits.{scenario_bytes}
 use Rattle.pe_check.specs.declared.checked.Stmt.{Stmt}
 use Rattle.pe_check.specs.FieldNames.{FieldNames}
 use Rattle.pe_scene.specs.declared.fault.SceneFault.{SceneFault}
@@ -44,10 +45,6 @@ abbrev pub of_document : Option Members → Result Said SceneFault
 of_document None = Err NotToml
 of_document (Some members) = said_in members
 
--- the greatest length of a scenario, in bytes
-abbrev pub scenario_limit : ℕ
-scenario_limit = 1048576
-
 -- what the bytes of a scenario say, or the first cause of its refusal
 unfoldable pub scenario_of : List ℕ → Result Said SceneFault
-scenario_of bytes = if nat_lt scenario_limit (length bytes) then Err TooLong else of_document (document_of bytes)
+scenario_of bytes = if nat_lt scenario_bytes (length bytes) then Err TooLong else of_document (document_of bytes)

@@ -1,11 +1,12 @@
 -- The tables of a scenario, and the keys that may stand in each.
-use Rattle.std.specs.Prelude.{ℕ, Bool, not, List, [], ◌∷◌, ◌++◌, codes, filter, Option, Some, None, is_some, if◌then◌else◌}
+use Rattle.std.specs.Prelude.{ℕ, Bool, not, ◌||◌, List, [], ◌∷◌, ◌++◌, codes, filter, Option, Some, None, is_some, if◌then◌else◌}
 use Rattle.std.specs.List.{list_any}
 use Rattle.std.specs.Str.{bytes_eq}
 use Rattle.std.specs.Ordering.{nat_cmp, is_lt}
 use Rattle.std.specs.Cmp.Lexicographic.{slice_cmp}
 use Rattle.toml.specs.Data.{Members, no_members, member}
 use Rattle.pe_base.specs.Acts.Events.{event_named}
+use Rattle.pe_scene.specs.Numbers.{is_number}
 use Rattle.pe_scene.specs.declared.section.Section.{Section}
 use Rattle.pe_scene.specs.declared.section.Section.TheVariants.{Document, Fields, Events}
 
@@ -13,17 +14,16 @@ use Rattle.pe_scene.specs.declared.section.Section.TheVariants.{Document, Fields
 abbrev pub is_one_of : List (List ℕ) → List ℕ → Bool
 is_one_of texts text = list_any (λ other. bytes_eq text other) texts
 
-abbrev pub document_keys : List (List ℕ)
-document_keys =
-    codes "dim" ∷ codes "traversals" ∷ codes "max_level" ∷ codes "start_level" ∷ codes "max_cells" ∷ codes "trace"
-    ∷ codes "fields" ∷ codes "events" ∷ []
+-- the keys of a document that are not those of numbers
+abbrev pub other_keys : List (List ℕ)
+other_keys = codes "trace" ∷ codes "fields" ∷ codes "events" ∷ []
 
 abbrev pub field_keys : List (List ℕ)
 field_keys = codes "vertex" ∷ codes "cell" ∷ codes "global" ∷ []
 
 -- the key may stand in the table; the keys of `events` are the names of events
 abbrev pub lists : Section → List ℕ → Bool
-lists Document key = is_one_of document_keys key
+lists Document key = is_number key || is_one_of other_keys key
 lists Fields key = is_one_of field_keys key
 lists Events key = is_some (event_named key)
 

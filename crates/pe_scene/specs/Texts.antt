@@ -1,9 +1,10 @@
 -- Arrays of texts: the events to trace, and the names of fields.
-use Rattle.std.specs.Prelude.{ℕ, Bool, true, false, not, ◌&&◌, nat_le, List, [], ◌∷◌, length, codes, Option, Some, None, is_some, option_and_then, Result, Ok, Err, if◌then◌else◌}
+use Rattle.std.specs.Prelude.{ℕ, Bool, true, false, not, ◌&&◌, nat_le, nat_lt, List, [], ◌∷◌, length, codes, Option, Some, None, is_some, option_and_then, Result, Ok, Err, if◌then◌else◌}
 use Rattle.std.specs.List.{list_all, cons_option}
 use Rattle.toml.specs.Data.{Data, Items, no_items, item, Members, get_member, as_str, as_array}
 use Rattle.pe_base.specs.declared.event.Event.{Event}
 use Rattle.pe_base.specs.Acts.Events.{event_named, is_among}
+use Rattle.pe_base.specs.Limits.{most_fields, name_bytes}
 use Rattle.pe_lex.specs.Forms.{is_letter, is_word_byte}
 use Rattle.pe_scene.specs.declared.fault.SceneFault.{SceneFault}
 use Rattle.pe_scene.specs.declared.fault.SceneFault.TheVariants.{Shape, Range, Name}
@@ -50,10 +51,10 @@ trace_in members = of_array (codes "trace") [] (λ names. or_name (codes "trace"
 abbrev pub taken_names : List (List ℕ)
 taken_names = codes "state" ∷ codes "kind" ∷ []
 
--- a letter, and at most 15 letters, digits or underscores behind it
+-- a letter, and letters, digits or underscores behind it, no more than a name may have
 abbrev pub is_spelled : List ℕ → Bool
 is_spelled [] = false
-is_spelled (c ∷ cs) = is_letter c && nat_le (length cs) 15 && list_all is_word_byte cs
+is_spelled (c ∷ cs) = is_letter c && nat_lt (length cs) name_bytes && list_all is_word_byte cs
 
 abbrev pub is_field_name : List ℕ → Bool
 is_field_name text = is_spelled text && not (is_one_of taken_names text)
@@ -63,6 +64,6 @@ abbrev pub are_field_names : List (List ℕ) → Bool
 are_field_names [] = true
 are_field_names (name ∷ names) = is_field_name name && not (is_one_of names name) && are_field_names names
 
--- at most eight names of fields
+-- names of fields, no more than there may be
 abbrev pub names_of : List ℕ → List (List ℕ) → Result (List (List ℕ)) SceneFault
-names_of key names = if nat_le (length names) 8 then (if are_field_names names then Ok names else Err (Name key)) else Err (Range key)
+names_of key names = if nat_le (length names) most_fields then (if are_field_names names then Ok names else Err (Name key)) else Err (Range key)

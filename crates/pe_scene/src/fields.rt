@@ -3,6 +3,7 @@ ghost use Rattle.std.specs.Prelude.{◌≡◌, ◌≤◌, [], codes, IfOk, lengt
 ghost use Rattle.std.specs.List.{list_all};
 ghost use Rattle.pe_scene.specs.declared.section.Section.TheVariants as Section;
 ghost use Rattle.toml.specs.View.{items_view, table_view};
+ghost use Rattle.pe_base.specs.Limits.{most_fields};
 ghost use Rattle.pe_lex.specs.Forms.{is_letter, is_word_byte};
 ghost use Rattle.pe_scene.specs.Sections.{named, is_one_of};
 ghost use Rattle.pe_scene.specs.Texts.{texts_of, is_spelled, is_field_name, are_field_names, names_of};
@@ -13,15 +14,10 @@ ghost use Rattle.pe_scene.specs.Faults.{Gives};
 use crate::fault::{KeyFault, SceneFault};
 use crate::section::{Section, value_at};
 use crate::texts::are_texts;
+use pe_base::limits::{MOST_FIELDS, NAME_BYTES};
 use pe_base::{List, Names, Text};
 use std::alloc::{AllocError, Global};
 use toml::{Table, Value};
-
-/// How many fields of one kind there may be.
-const MOST_FIELDS: usize = 8;
-
-/// How many bytes a field's name may have.
-const NAME_BYTES: usize = 16;
 
 fn is_lower_letter(byte: u8) -> bool
     ensures { result ≡ is_letter byte }
@@ -96,7 +92,7 @@ fn texts_of(alloc: Global, values: &[Value]) -> Result<Vec<Text>, AllocError>
 /// The names of an array of texts, at a key of the table `fields`.
 fn names_of(alloc: Global, key: &str, values: &[Value]) -> Result<List<Text>, SceneFault>
     ensures gives { Gives (λ names. names) result (names_of (named Section.Fields key.now) (texts_of (items_view values.now))) }
-    ensures few { IfOk result (λ names. length names ≤ 8) }
+    ensures few { IfOk result (λ names. length names ≤ most_fields) }
 {
     let names = match texts_of(alloc, values) {
         Ok(names) => names,
@@ -114,7 +110,7 @@ fn names_of(alloc: Global, key: &str, values: &[Value]) -> Result<List<Text>, Sc
 /// The names at a key of the table `fields`.
 fn names_at(alloc: Global, table: &Table, key: &str) -> Result<List<Text>, SceneFault>
     ensures gives { Gives (λ names. names) result (names_at key.now (table_view table.now)) }
-    ensures few { IfOk result (λ names. length names ≤ 8) }
+    ensures few { IfOk result (λ names. length names ≤ most_fields) }
 {
     let value = match value_at(table, key) {
         Some(value) => value,

@@ -5,6 +5,7 @@ mod bodies;
 mod body;
 mod fault;
 mod fields;
+mod number;
 mod read;
 mod scenario;
 mod section;
@@ -15,6 +16,6 @@ mod trace;
 
 pub use bodies::Bodies;
 pub use fault::{BodyCause, SceneFault};
-pub use read::{SCENARIO_LIMIT, read_scenario};
+pub use read::read_scenario;
 pub use scenario::Scenario;
 pub use trace::Trace;

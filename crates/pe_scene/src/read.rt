@@ -1,8 +1,9 @@
 //! Reading a scenario.
 ghost use Rattle.std.specs.Prelude.{◌≡◌, ◌<◌, ◌↔◌, length};
 ghost use Rattle.toml.specs.View.{table_view};
+ghost use Rattle.pe_base.specs.Limits.{scenario_bytes};
 ghost use Rattle.pe_scene.specs.declared.fault.SceneFault.{SceneFault as TheFault};
-ghost use Rattle.pe_scene.specs.Said.{known_in, said_in, scenario_limit, scenario_of};
+ghost use Rattle.pe_scene.specs.Said.{known_in, said_in, scenario_of};
 ghost use Rattle.pe_scene.specs.SaidView.{said_of};
 ghost use Rattle.pe_scene.specs.Faults.{Gives};
 
@@ -13,11 +14,9 @@ use crate::section::Section;
 use crate::settings::{Settings, settings_in};
 use crate::table::bodies_in;
 use crate::texts::trace_in;
+use pe_base::limits::SCENARIO_BYTES;
 use std::alloc::Global;
 use toml::Table;
-
-/// The greatest length of a scenario, in bytes.
-pub const SCENARIO_LIMIT: u64 = 1_048_576;
 
 /// What a document says whose keys are all known.
 fn known_in(alloc: Global, table: &Table) -> Result<Scenario, SceneFault>
@@ -54,9 +53,9 @@ fn said_in(alloc: Global, table: &Table) -> Result<Scenario, SceneFault>
 #[tactic(auto, unfolding(crate::specs::Said::scenario_of))]
 pub fn read_scenario(alloc: Global, bytes: &[u8]) -> Result<Scenario, SceneFault>
     ensures said { Gives said_of result (scenario_of bytes.now) }
-    ensures too_long { (result ≡ Err SceneFault.TooLong) ↔ (scenario_limit < length bytes.now) }
+    ensures too_long { (result ≡ Err SceneFault.TooLong) ↔ (scenario_bytes < length bytes.now) }
 {
-    if bytes.len() as u64 > SCENARIO_LIMIT {
+    if bytes.len() as u64 > SCENARIO_BYTES {
         return Err(SceneFault::TooLong);
     }
     match toml::table_from_slice(alloc, bytes) {

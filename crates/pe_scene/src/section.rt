@@ -5,6 +5,7 @@ ghost use Rattle.toml.specs.View.{view, table_view};
 ghost use Rattle.toml.specs.Data.{get_member};
 ghost use Rattle.pe_scene.specs.Sections.{lists, named, unknown_in};
 
+use crate::number::Number;
 use pe_base::{Event, Text};
 use std::alloc::{AllocError, Global};
 use toml::{Table, Value};
@@ -24,14 +25,7 @@ impl Section {
     {
         match self {
             Section::Document => {
-                key == "dim"
-                    || key == "traversals"
-                    || key == "max_level"
-                    || key == "start_level"
-                    || key == "max_cells"
-                    || key == "trace"
-                    || key == "fields"
-                    || key == "events"
+                Number::stands_at(key) || key == "trace" || key == "fields" || key == "events"
             }
             Section::Fields => key == "vertex" || key == "cell" || key == "global",
             Section::Events => Event::of_name(key).is_some(),

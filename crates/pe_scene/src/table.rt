@@ -16,22 +16,6 @@ use pe_check::Checked;
 use std::alloc::Global;
 use toml::Table;
 
-/// The events in their order.
-const EVENTS: [Event; 12] = [
-    Event::BeginIteration,
-    Event::EndIteration,
-    Event::TouchVertexFirstTime,
-    Event::TouchVertexLastTime,
-    Event::CreateInnerVertex,
-    Event::CreateHangingVertex,
-    Event::DestroyVertex,
-    Event::DestroyHangingVertex,
-    Event::CreateCell,
-    Event::DestroyCell,
-    Event::EnterCell,
-    Event::LeaveCell,
-];
-
 /// The body at the name of an event, if one stands there.
 fn body_in(
     alloc: Global,
@@ -64,7 +48,7 @@ fn all_bodies(alloc: Global, table: &Table, names: &Names, dim: Dim) -> Result<B
     ensures fit { IfOk result (AllFit dim (length names.now.vertex) (length names.now.cell) (length names.now.global)) }
 {
     let mut bodies = Bodies::none();
-    for event in EVENTS {
+    for event in Event::ALL {
         let found = match body_in(alloc, table, event, names, dim) {
             Ok(found) => found,
             Err(fault) => return Err(fault),

@@ -8,7 +8,7 @@ use pe_base::Event;
 /// For each event, whether a line is printed where it fires.
 #[derive(Clone, Copy, Debug)]
 pub struct Trace {
-    traced: [bool; 12],
+    traced: [bool; Event::COUNT],
 }
 
 impl Trace {
@@ -19,7 +19,7 @@ impl Trace {
         ensures { (event : AnEvent) → traces result event ≡ false }
     {
         Trace {
-            traced: [false; 12],
+            traced: [false; Event::COUNT],
         }
     }
 
