@@ -2,9 +2,10 @@
 //! `pe_order`, where each is explained. Each function but `walk_cell` has a law for its contract, and no body: the law holds
 //! of the definitions alone. They hold in two to four axes, both ways, at every depth. `walk_cell` walks one cell, and has
 //! the law of a face for its contract. `cells_in_turn` says that the children of the root may be walked by it, one after
-//! another, from the first event of a traversal on.
+//! another, from the first event of a traversal on, and so those of each cell that is entered.
 //!
-//! The values: `core_keeps` and `kinds_are_found` are what they need, and `stacks_are_addresses` says that a traversal on
+//! The values: `core_keeps` and `kinds_are_found` are what they need. `load_of_a_corner` and `store_of_a_corner` say that one
+//! touch on stacks is the one by address, and `stacks_are_addresses` says that a traversal on
 //! stacks is the walk by address; `traversals_are_exact` says what it counts and moves. So it is with the walk of one cell, by
 //! `law_of_a_face` and `cells_are_exact`.
 ghost use Rattle.pe_walk.specs.CoreKeeps.{CoreKeeps};
