@@ -50,7 +50,11 @@ pub mod Traverses
 pub mod Tallied
 -- with how it closes
 pub mod Answers
+-- the law of a touch
+pub mod CornerLaw
 -- the law of a face
 pub mod FaceLaw
 -- the children of the root may be walked one after another
 pub mod FirstCells
+-- and those of each cell that is entered
+pub mod InnerCells

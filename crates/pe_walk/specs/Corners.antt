@@ -1,29 +1,26 @@
 -- The corners of a cell, touched one by one in their slots, as the machine of lists touches them.
-use Rattle.std.specs.Prelude.{◌≡◌, ℕ, ℤ, ◌-◌, ◌^◌, ◌≤◌, false, List, map, length, sum_by, Option, Some, None, Result, Ok, Err}
+use Rattle.std.specs.Prelude.{◌≡◌, ℕ, ℤ, ◌-◌, ◌^◌, ◌≤◌, false, List, map, length, sum_by, Result, Ok, Err}
 use Rattle.pe_base.specs.declared.place.Place.{Place}
 use Rattle.pe_base.specs.Acts.Effects.{VertexRecord, Rules}
 use Rattle.pe_base.specs.Walk.Course.{Course}
 use Rattle.pe_base.specs.Walk.Core.{Setting}
 use Rattle.pe_stacks.specs.declared.record.Vertex.{Vertex}
-use Rattle.pe_stacks.specs.declared.record.CellRec.{CellRec}
 use Rattle.pe_stacks.specs.Corners.{CornerList, IsFull}
 use Rattle.pe_stacks.specs.Filled.{FullFrom}
 use Rattle.pe_stacks.specs.Holdings.{Holdings}
-use Rattle.pe_mapping.specs.Held.{Held, found_of}
 use Rattle.pe_stacks.specs.Sights.{Numbers, corner_records}
 use Rattle.pe_hang.specs.InHand.{Stays}
-use Rattle.pe_base.specs.Calls.Follows.{BeforeCall, Failure, Follows, Leads, Fits, read_by}
-use Rattle.pe_stacks.specs.RecordsOut.{RecordsOut, held_by}
+use Rattle.pe_base.specs.Calls.Follows.{BeforeCall, Failure, Follows, Leads, read_by}
+use Rattle.pe_stacks.specs.RecordsOut.{RecordsOut}
 use Rattle.pe_adapt.specs.declared.stop.Inner.{Inner}
 use Rattle.pe_adapt.specs.Slots.{seen_slot}
 use Rattle.pe_adapt.specs.Ages.{GiveKinds}
 use Rattle.pe_adapt.specs.declared.settings.Settings.{Settings}
-use Rattle.pe_adapt.specs.declared.progress.Progress.{Progress}
 use Rattle.pe_adapt.specs.declared.walked.WalkedCell.{WalkedCell}
 use Rattle.pe_adapt.specs.CountedTouches.{Machine, Ports}
 use Rattle.pe_adapt.specs.TouchCalls.{Hand, machine_of, found_in, filled_in, MayGo}
 use Rattle.pe_walk.specs.Machine.{load_all, store_all}
-use Rattle.pe_adapt.specs.WalkedCells.{IsWalked, setting_in, ports_of, machine_in_hand, failure_in}
+use Rattle.pe_adapt.specs.WalkedCells.{IsWalked, setting_in, ports_of, failure_in}
 
 -- how many vertices are in slots
 abbrev pub filled_in_corners : {X : Type 0} → CornerList X → ℕ

@@ -1,6 +1,6 @@
 -- The law of a face: the walk of a cell with all below it, on stacks, is the walk by address. What arrives at the cell's faces
 -- comes off their stacks, and what leaves at its faces goes on them; so with the streams; all beneath is as it was.
-use Rattle.std.specs.Prelude.{◌≡◌, ◌≢◌, ℕ, suc, ◌+◌, ◌*◌, ◌^◌, ◌<◌, ◌≤◌, Bool, true, List, [], ◌∷◌, ◌++◌, if◌then◌else◌, Result, Ok, Err}
+use Rattle.std.specs.Prelude.{◌≡◌, ◌≢◌, ℕ, suc, ◌+◌, ◌*◌, ◌^◌, ◌<◌, ◌≤◌, Bool, true, false, List, [], ◌∷◌, ◌++◌, if◌then◌else◌, Result, Ok, Err}
 use Rattle.std.specs.List.{AllByRecursion, flat_map}
 use Rattle.pe_base.specs.declared.place.Place.{Place}
 use Rattle.pe_base.specs.declared.place.Digits.{Digits}
@@ -9,11 +9,13 @@ use Rattle.pe_base.specs.declared.tally.Tally.{Tally}
 use Rattle.pe_base.specs.Tree.Places.{IsCellPlace, IsDigits, root, child_at, parent_of}
 use Rattle.pe_base.specs.Tree.Ways.{way_of}
 use Rattle.pe_base.specs.Tree.Curve.{children}
+use Rattle.pe_base.specs.Life.Kinds.{is_hanging}
 use Rattle.pe_base.specs.Walk.Course.{Ending, done, halts, stuck, Push, Course, and_then}
-use Rattle.pe_base.specs.Walk.Core.{Setting, way}
+use Rattle.pe_base.specs.Walk.Core.{Setting, Own, way}
 use Rattle.pe_base.specs.Walk.Grids.{Grid}
 use Rattle.pe_base.specs.Walk.Working.{Working}
 use Rattle.pe_base.specs.Walk.Streams.{walked_cells}
+use Rattle.pe_base.specs.Walk.Touches.{kind_below}
 use Rattle.pe_base.specs.Walk.Walk as model
 use Rattle.pe_access.specs.declared.state.CellState.{CellState}
 use Rattle.pe_access.specs.States.{StandsFor}
@@ -143,7 +145,7 @@ CellAnswers set at course (Err unheard_of) old before tally new after m = ⊥
 abbrev pub by_address : {Plan : Type 0} → Setting Plan → Moment → Course Working
 by_address set at = model.walk_cell set at.levels at.stage.parent at.stage.cell at.working
 
--- # The children of the root, one after another
+-- # The children of a cell, one after another
 -- a traversal of the machine up to its first event: the root's corners are lent, and are in hand
 abbrev pub begins : {Plan : Type 0} → Setting Plan → Ports → Machine → Course Machine
 begins set ports m = and_then (machine.root_corners set ports (2 ^ set.axes) [] m) (λ it. machine.plain set ports BeginIteration (with_parents it.0 it.1))
@@ -153,11 +155,11 @@ abbrev pub InTurn : (Place → List Place) → (Place → List Place) → List P
 InTurn takes gives [] items = Unit {0}
 InTurn takes gives (cell ∷ cells) items = (beneath : List Place) × (items ≡ takes cell ++ beneath) × InTurn takes gives cells (gives cell ++ beneath)
 
--- These cells come after that of the moment: children of its parent like it, they are all that is ahead after it; each finds
--- on the stacks what it takes, and their loads are due.
-pub record ComeAfter {Plan : Type 0} (set : Setting Plan) (others : List Place) (at : Moment) : Type 0 where
+-- These cells come after that of the moment: children of its parent like it, they are ahead after it with all below them, and
+-- then those beyond; each finds on the stacks what it takes, and their loads are due.
+pub record ComeAfter {Plan : Type 0} (set : Setting Plan) (others beyond : List Place) (at : Moment) : Type 0 where
   pub stages : AllByRecursion (λ other. IsStage set.axes at.outset.outlook (record at.stage { cell = other })) others
-  pub ahead : at.rest ≡ flat_map (walked_cells at.outset.outlook.axes at.outset.outlook.way at.outset.outlook.walks at.levels) others
+  pub ahead : at.rest ≡ flat_map (walked_cells at.outset.outlook.axes at.outset.outlook.way at.outset.outlook.walks at.levels) others ++ beyond
   pub vertices : (s : ℕ) → InTurn (takes at.outset.outlook at.levels s) (gives at.outset.outlook at.levels s) others (gives at.outset.outlook at.levels s at.stage.cell ++ at.beneath s)
   pub cells : (s : ℕ) → InTurn (cell_takes at.outset.outlook at.levels s) (cell_gives at.outset.outlook at.levels s) others (cell_gives at.outset.outlook at.levels s at.stage.cell ++ at.cells_beneath s)
   pub due : Due at.outset.outlook (flat_map (loads_of at.outset.outlook at.levels) others) (met_after at.outset.outlook (loads_of at.outset.outlook at.levels at.stage.cell) at.places.met)
@@ -167,10 +169,23 @@ pub record ComeAfter {Plan : Type 0} (set : Setting Plan) (others : List Place) 
 abbrev pub FirstCellMayBeWalked : Type 0 → Type 0
 FirstCellMayBeWalked Plan = (set : Setting Plan) (grid : Grid) (swapped : Bool) (m after : Machine) (first : Place) (others : List Place)
     → MachineMayTraverse set grid swapped m → (begins set (ports_of swapped) m).ending ≡ done after → children set.axes (way set) root ≡ first ∷ others
-    → (moment : Moment) × MayCall set grid.greatest first (input_stack swapped) (cell_input_stack swapped) after moment × ComeAfter set others moment
+    → (moment : Moment) × MayCall set grid.greatest first (input_stack swapped) (cell_input_stack swapped) after moment × ComeAfter set others [] moment
+
+-- a cell up to its children: it is counted, its corners are loaded, and it is entered
+abbrev pub enters : {Plan : Type 0} → Setting Plan → Ports → Place → Machine → Course (Own × Machine)
+enters set ports cell m = and_then (machine.count_cell set ports cell m) (λ m. and_then (machine.load_all set ports cell (2 ^ set.axes) [] m) (λ it. machine.enter_cell set ports cell it.0 it.1))
+
+-- Once a cell of any level that may be walked was entered, and its corners say that its children are walked, the first of them
+-- may be, with the cell's corners and numbers for those of the parent; and the others come after it, and then what was to come
+-- after the cell.
+abbrev pub FirstChildMayBeWalked : Type 0 → Type 0
+FirstChildMayBeWalked Plan = (set : Setting Plan) (greatest stream cell_stream : ℕ) (m : Machine) (it : Own × Machine) (first : Place) (others : List Place) (at : Moment)
+    → MayCall set greatest at.stage.cell stream cell_stream m at → (enters set (ports_of at.outset.outlook.swapped) at.stage.cell m).ending ≡ done it
+    → is_hanging (kind_below it.0.corners) ≡ false → children set.axes (way set) at.stage.cell ≡ first ∷ others
+    → (moment : Moment) × MayCall set greatest first stream cell_stream (machine.inside set (ports_of at.outset.outlook.swapped) it.0 it.1) moment × ComeAfter set others at.rest moment
 
 -- Once a cell was walked, so may the one that comes after it.
 abbrev pub NextCellMayBeWalked : Type 0 → Type 0
-NextCellMayBeWalked Plan = (set : Setting Plan) (greatest stream cell_stream : ℕ) (cell next : Place) (others : List Place) (m after : Machine) (working : Working) (at : Moment)
-    → MayCall set greatest cell stream cell_stream m at → ComeAfter set (next ∷ others) at → HasWalked set at working after
-    → (moment : Moment) × MayCall set greatest next stream cell_stream after moment × ComeAfter set others moment
+NextCellMayBeWalked Plan = (set : Setting Plan) (greatest stream cell_stream : ℕ) (cell next : Place) (others beyond : List Place) (m after : Machine) (working : Working) (at : Moment)
+    → MayCall set greatest cell stream cell_stream m at → ComeAfter set (next ∷ others) beyond at → HasWalked set at working after
+    → (moment : Moment) × MayCall set greatest next stream cell_stream after moment × ComeAfter set others beyond moment

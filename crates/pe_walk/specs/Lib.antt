@@ -24,5 +24,7 @@ pub mod Children
 pub mod Visits
 -- records that are given up, one after another
 pub mod GivenUp
+-- the touch of a corner on stacks and by address
+pub mod CornerLaw
 -- the walk of a cell on stacks and by address
 pub mod FaceLaw

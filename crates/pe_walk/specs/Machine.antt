@@ -1,22 +1,18 @@
 -- The walk on stacks of records, as a machine of lists: no record has an address, and none is looked up. It does what the
 -- walk by address does, in the same order, by the same core.
-use Rattle.std.specs.Prelude.{ℕ, ℤ, zero, suc, ◌+◌, ◌-◌, ◌^◌, Bool, true, false, ◌&&◌, ◌||◌, ◌==◌, nat_lt, List, [], ◌∷◌, is_none, if◌then◌else◌}
+use Rattle.std.specs.Prelude.{ℕ, ℤ, zero, suc, ◌+◌, ◌^◌, Bool, true, false, ◌==◌, nat_lt, List, [], ◌∷◌, if◌then◌else◌}
 use Rattle.pe_base.specs.declared.place.Place.{Place}
 use Rattle.pe_base.specs.declared.kind.Kind.{Kind}
 use Rattle.pe_base.specs.declared.kind.Kind.TheVariants.{Kept, Born, Dying, Hanging}
-use Rattle.pe_base.specs.Life.Kinds.{is_hanging, is_inside}
 use Rattle.pe_base.specs.declared.event.Event.{Event}
 use Rattle.pe_base.specs.declared.event.Event.TheVariants.{BeginIteration, EndIteration}
-use Rattle.pe_base.specs.declared.tally.Tally.{Tally}
-use Rattle.pe_base.specs.Tree.Places.{root, corner}
+use Rattle.pe_base.specs.Tree.Places.{root}
 use Rattle.pe_base.specs.Tree.Curve.{children}
-use Rattle.pe_base.specs.Steps.Routes.{stack_in, stack_out}
 use Rattle.pe_base.specs.Acts.Effects.{VertexRecord}
 use Rattle.pe_base.specs.Walk.Course.{Course, ends, stuck, halts, limit_at, at_once, and_then, course_map, each, allowed}
-use Rattle.pe_base.specs.Walk.Core.{Setting, way, Family, Own, fresh_vertex, plain_event, enter_touch, leave_touch}
-use Rattle.pe_base.specs.Walk.Touches.{tally_load, tally_store, tally_cell, kind_below}
-use Rattle.pe_stacks.specs.Holdings.{Holdings}
-use Rattle.pe_hang.specs.Moves.{may_rise, lend, give_up, pop, push}
+use Rattle.pe_base.specs.Walk.Core.{Setting, way, Own, fresh_vertex, plain_event, enter_touch, leave_touch}
+use Rattle.pe_base.specs.Walk.Touches.{tally_cell, kind_below}
+use Rattle.pe_hang.specs.Moves.{lend, give_up, pop, push}
 use Rattle.pe_adapt.specs.CountedTouches.{Machine, Ports, cell_output, tally_may_rise, load_corner, store_corner}
 
 -- corners become the parents, or there are none

@@ -8,8 +8,8 @@ ghost use Rattle.pe_states.specs.Sides.{IsRow as IsRowOfAges};
 ghost use Rattle.pe_adapt.specs.Ages.{AreAgesOf, GiveKinds};
 ghost use Rattle.pe_walk.specs.Children.{IsAbove, IsChild, AreInOneRow};
 
-use pe_adapt::{Settings, WalkedCell, dim_in};
 use pe_access::{CellState, Row};
+use pe_adapt::{Settings, WalkedCell, dim_in};
 use pe_base::{Digits, Place};
 use pe_curve::child_at;
 use pe_states::Ages;

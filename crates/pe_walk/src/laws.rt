@@ -10,13 +10,20 @@
 ghost use Rattle.pe_walk.specs.CoreKeeps.{CoreKeeps};
 ghost use Rattle.pe_walk.specs.Standing.{KindsAreFound};
 ghost use Rattle.pe_walk.specs.Gridded.{StacksAreAddresses};
-ghost use Rattle.pe_walk.specs.FaceLaw.{LawOfAFace, CellsAreExact, FirstCellMayBeWalked, NextCellMayBeWalked};
+ghost use Rattle.pe_walk.specs.CornerLaw.{LoadOfACorner, StoreOfACorner};
+ghost use Rattle.pe_walk.specs.FaceLaw.{LawOfAFace, CellsAreExact, FirstCellMayBeWalked, FirstChildMayBeWalked, NextCellMayBeWalked};
 ghost use Rattle.pe_walk.specs.Traversing.{CountsStay};
 ghost use Rattle.pe_walk.specs.TraversalTraffic.{TallyIsForeseen, TraversalsAreExact};
 
 pub use crate::face::walk_cell;
 use pe_base::Effects;
-pub use pe_order::laws::{beneath_untouched, cells_are_few, cells_stand_apart, composition, corners_on_stacks, counts, faces_are_one_way, first_and_last, grids_fit, leaf_is_corners, loads_are_due, moves_and_frames, neighbours_agree, places_stand_apart, stacks_are_short, steps, streams_are_one, streams_of_grids, stretches_join, tallies, traffic, tree, turning_round, unwalked_is_empty, walk_of_a_cell, whole_traversal};
+pub use pe_order::laws::{
+    beneath_untouched, cells_are_few, cells_stand_apart, composition, corners_on_stacks, counts,
+    faces_are_one_way, first_and_last, grids_fit, leaf_is_corners, loads_are_due, moves_and_frames,
+    neighbours_agree, places_stand_apart, stacks_are_short, steps, streams_are_one,
+    streams_of_grids, stretches_join, tallies, traffic, tree, turning_round, unwalked_is_empty,
+    walk_of_a_cell, whole_traversal,
+};
 
 /// The core of a walk keeps kinds, and old and new, of all that its events see, by the law of effects.
 pub fn core_keeps<E: Effects>()
@@ -26,6 +33,17 @@ pub fn core_keeps<E: Effects>()
 /// At a load, the kind of a corner is found by the map as the parent's corners in hand have it: it is the one foreseen.
 pub fn kinds_are_found<E: Effects>()
     ensures found { KindsAreFound E.Plan }
+{}
+
+/// A corner is loaded by the machine of lists as by address, where the stack that the order around it names has it on top. So
+/// its record is the one under its address, and no stack has grown.
+pub fn load_of_a_corner<E: Effects>()
+    ensures same { LoadOfACorner E.Plan }
+{}
+
+/// A corner is stored by the machine of lists as by address: on top of the stack that the order around it names.
+pub fn store_of_a_corner<E: Effects>()
+    ensures same { StoreOfACorner E.Plan }
 {}
 
 /// The walk of a cell of the machine of lists adds the text of the walk by address and ends alike: what it takes was on top of
@@ -40,10 +58,12 @@ pub fn cells_are_exact<E: Effects>()
     ensures exact { CellsAreExact E.Plan }
 {}
 
-/// Where a traversal may begin and its first event is done, the first child of the root may be walked by `walk_cell`; and once
-/// a child was walked, so may the next.
+/// Where a traversal may begin and its first event is done, the first child of the root may be walked by `walk_cell`. So may the
+/// first child of a cell of any level, once the cell was entered where it may be walked; and at every level, once a child was
+/// walked, so may the next.
 pub fn cells_in_turn<E: Effects>()
     ensures first { FirstCellMayBeWalked E.Plan }
+    ensures below { FirstChildMayBeWalked E.Plan }
     ensures next { NextCellMayBeWalked E.Plan }
 {}
 

@@ -1,6 +1,6 @@
 -- The children of the root may be walked one after another, by a call each: the first once the first event of the traversal
 -- was fired, and each other one once the one before it was walked.
-use Rattle.std.proofs.Common.{◌≡◌, ℕ, ◌+◌, ◌-◌, Bool, List, [], ◌∷◌, ◌++◌, map, refl, sym, ap, subst, ◌∙◌, arith}
+use Rattle.std.proofs.Common.{◌≡◌, ℕ, ◌+◌, ◌-◌, Bool, List, [], ◌∷◌, ◌++◌, map, refl, sym, ap, subst, ◌∙◌, append_assoc, append-nil, arith}
 use Rattle.std.specs.List.{flat_map, AllByRecursion as Each}
 use Rattle.pe_base.specs.declared.place.Place.{Place}
 use Rattle.pe_base.specs.declared.event.Event.TheVariants.{BeginIteration}
@@ -42,22 +42,22 @@ use Rattle.pe_walk.proofs.Simulation.Starts.{tokens_of, outset_of, sound_of, dim
 use Rattle.pe_walk.proofs.Simulation.Traverses.{begins_is}
 
 -- what one stretch after another finds is found in turn
-in-turn : (stretch : Place → Stretch) (cells items left : List Place) → Stretches (map stretch cells) items left → InTurn (λ cell. (stretch cell).takes) (λ cell. (stretch cell).gives) cells items
+pub in-turn : (stretch : Place → Stretch) (cells items left : List Place) → Stretches (map stretch cells) items left → InTurn (λ cell. (stretch cell).takes) (λ cell. (stretch cell).gives) cells items
 in-turn stretch [] items left h = tt
 in-turn stretch (cell ∷ cells) items left h = (h.0, h.1, in-turn stretch cells ((stretch cell).gives ++ h.0) left h.2)
 
 -- where an image is done, so is what it is the image of
-imaged-done : {W : Type 0} (image : W → Machine) (e : Ending W) (after : Machine) → ending_map image e ≡ done after → (w : W) × (e ≡ done w) × (image w ≡ after)
+pub imaged-done : {W M : Type 0} (image : W → M) (e : Ending W) (after : M) → ending_map image e ≡ done after → (w : W) × (e ≡ done w) × (image w ≡ after)
 imaged-done image (done w) after k = (w, refl, done_same (image w) after k)
 imaged-done image (halts cause) after k = absurd cc
 imaged-done image stuck after k = absurd cc
 
 -- the cell of a stage is one level below its parent
-one_deeper : (axes : ℕ) (o : Outlook) (st : Stage) → IsStage axes o st → st.cell.level ≡ st.parent.level + 1
+pub one_deeper : (axes : ℕ) (o : Outlook) (st : Stage) → IsStage axes o st → st.cell.level ≡ st.parent.level + 1
 one_deeper axes o st is = let up : st.cell.level - 1 ≡ st.parent.level = ap (λ (p : Place). p.level) is.above in omega (arith, up, is.deep)
 
 -- any push has room
-abbrev any_room : Push → Type 0
+abbrev pub any_room : Push → Type 0
 any_room push = Unit {0}
 
 -- # The first child of the root
@@ -136,7 +136,7 @@ module _ {Plan : Type 0} (set : Setting Plan) (grid : Grid) (swapped : Bool) (m 
 
   -- so the first of them may be walked, and the others come after it
   begins_there : (after : Machine) → (begins set (ports_of swapped) m).ending ≡ done after
-      → (moment : Moment) × MayCall set grid.greatest first (input_stack swapped) (cell_input_stack swapped) after moment × ComeAfter set others moment
+      → (moment : Moment) × MayCall set grid.greatest first (input_stack swapped) (cell_input_stack swapped) after moment × ComeAfter set others [] moment
   begins_there after ends =
       let now = fired after ends in
       let level = one_deeper set.axes o (at_child set.axes st first) stages.0 in
@@ -175,7 +175,7 @@ module _ {Plan : Type 0} (set : Setting Plan) (grid : Grid) (swapped : Bool) (m 
         },
         record {
           stages = Each-weaker _ _ (λ other its. stage_of set e any_room (at_child set.axes st other) (record st { cell = other }) refl refl its) others stages.1;
-          ahead = refl;
+          ahead = sym (append-nil (flat_map (walked_cells o.axes o.way o.walks levels) others));
           vertices = λ s. (vertices_in_turn s).2;
           cells = λ s. (cells_in_turn s).2;
           due = loads.1;
@@ -187,14 +187,15 @@ first_cell set grid swapped m after first others may ends kids = begins_there se
 
 -- # And each after the one before it
 pub next_cell : {Plan : Type 0} → NextCellMayBeWalked Plan
-next_cell set greatest stream cell_stream cell next others m after working at called comes walked =
+next_cell set greatest stream cell_stream cell next others beyond m after working at called comes walked =
     let may = called.may in
+    let cells_below = walked_cells at.outset.outlook.axes at.outset.outlook.way at.outset.outlook.walks at.levels in
     let its_level = one_deeper set.axes at.outset.outlook at.stage may.stage in
     let level = one_deeper set.axes at.outset.outlook (record at.stage { cell = next }) comes.stages.0 in
     let loads = due-split at.outset.outlook (loads_of at.outset.outlook at.levels next) (flat_map (loads_of at.outset.outlook at.levels) others) walked.places.met (subst (λ met. Due at.outset.outlook (flat_map (loads_of at.outset.outlook at.levels) (next ∷ others)) met) (sym walked.gives.met) comes.due) in
     let moment : Moment = record at {
       stage = record at.stage { cell = next; ahead = at.rest };
-      rest = flat_map (walked_cells at.outset.outlook.axes at.outset.outlook.way at.outset.outlook.walks at.levels) others;
+      rest = flat_map (walked_cells at.outset.outlook.axes at.outset.outlook.way at.outset.outlook.walks at.levels) others ++ beyond;
       beneath = λ s. (comes.vertices s).0;
       cells_beneath = λ s. (comes.cells s).0;
       working = working;
@@ -213,7 +214,7 @@ next_cell set greatest stream cell_stream cell next others m after working at ca
           stage = stage_of set at.outset any_room (record at.stage { cell = next }) (record at.stage { cell = next; ahead = at.rest }) refl refl comes.stages.0;
           unloaded = may.unloaded;
           deep = omega (arith, may.deep, level, its_level);
-          ahead = comes.ahead;
+          ahead = comes.ahead ∙ append_assoc (cells_below next) (flat_map cells_below others) beyond;
           holds = next-holds set at.outset (record at.stage { ahead = at.rest }) next working walked.places may.unloaded walked.holds;
           takes = record {
             stacks = walked.gives.stacks;

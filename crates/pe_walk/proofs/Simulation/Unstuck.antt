@@ -58,12 +58,12 @@ module _ {Plan : Type 0} (set : Setting Plan) where
       go true = refl
       go false = refl
 
-  load_corner-fits : (parent cell : Place) (k : ℕ) (w : Working) → Fits (load_corner set parent cell k w)
+  pub load_corner-fits : (parent cell : Place) (k : ℕ) (w : Working) → Fits (load_corner set parent cell k w)
   load_corner-fits parent cell k w =
       mapped-fits (load_touch set (kind_of_vertex set w (corner set.axes cell k)) (loads_of w (corner set.axes cell k) == 0) (vertex_at w (corner set.axes cell k)) (corner set.axes cell k) (family_of set.axes w parent)) _
       (load-fits set (kind_of_vertex set w (corner set.axes cell k)) (loads_of w (corner set.axes cell k) == 0) (vertex_at w (corner set.axes cell k)) (corner set.axes cell k) (family_of set.axes w parent))
 
-  store_corner-fits : (parent cell : Place) (k : ℕ) (w : Working) → Fits (store_corner set parent cell k w)
+  pub store_corner-fits : (parent cell : Place) (k : ℕ) (w : Working) → Fits (store_corner set parent cell k w)
   store_corner-fits parent cell k w =
       let it = record_at set.axes w cell k in
       mapped-fits (store_touch set (loads_of w (corner set.axes cell k) == 2 ^ set.axes) (corner set.axes cell k) it (family_of set.axes w parent)) _

@@ -39,7 +39,7 @@ use Rattle.pe_walk.proofs.Simulation.Cells.Inside.{at_child, with_ahead, IsOpen,
 
 module _ {Plan : Type 0} (set : Setting Plan) (e : Outset) (walked : Place → Bool) (room : Push → Type 0) (is : IsOutset set e walked) where
   -- whether there are children, by the corners in hand
-  below_found : (st : Stage) (w : Working) (t : Tokens) → IsStage set.axes e.outlook st → IsOpen st → Holds set e st w t → kind_below (records_of set.axes w st.cell) ≡ e.foresight.below st.cell
+  pub below_found : (st : Stage) (w : Working) (t : Tokens) → IsStage set.axes e.outlook st → IsOpen st → Holds set e st w t → kind_below (records_of set.axes w st.cell) ≡ e.foresight.below st.cell
   below_found st w t stage full h =
       below_by_ages set e.outlook e.foresight is.foresees w st.cell stage.deep
       (λ k small. mine_aged set e walked is st w t h stage k (omega (arith, full.all)) small (own_flag set.axes e.outlook (set.rules.greatest set.plan) e.foresight st w t full h.fair k small))

@@ -42,7 +42,7 @@ output_is true = refl
 output_is false = refl
 
 -- the corners in hand, the first of which is stored
-first_in_hand : {Plan : Type 0} (set : Setting Plan) (e : Outset) (w : Working) (cell : Place) (from k : ℕ) → from ≡ k → k < 2 ^ set.axes
+pub first_in_hand : {Plan : Type 0} (set : Setting Plan) (e : Outset) (w : Working) (cell : Place) (from k : ℕ) → from ≡ k → k < 2 ^ set.axes
     → records_from set e w cell from (2 ^ set.axes - from) ≡ record_at set.axes w cell k ∷ records_from set e w cell (k + 1) (2 ^ set.axes - (k + 1))
 first_in_hand set e w cell from k same below =
     ap (λ n. records_from set e w cell n (2 ^ set.axes - n)) same
@@ -149,7 +149,7 @@ module _ {Plan : Type 0} (set : Setting Plan) (e : Outset) (walked : Place → B
         ∙ ap (λ x. record { text = []; log = log_of (goal_at set e st k) t.vertices; ending = done x }) machine_same
 
     -- and the push has room
-    logged : (room : Push → Type 0) → HasRoom set e room → 1 ≤ st.owed → 1 ≤ st.unstored → Each room (log_of (goal_at set e st k) t.vertices)
+    pub logged : (room : Push → Type 0) → HasRoom set e room → 1 ≤ st.owed → 1 ≤ st.unstored → Each room (log_of (goal_at set e st k) t.vertices)
     logged room rooms owed unstored = go (goal_at set e st k) refl
       where
         go : (goal : Option ℕ) → goal_at set e st k ≡ goal → Each room (log_of goal t.vertices)
@@ -163,10 +163,10 @@ module _ {Plan : Type 0} (set : Setting Plan) (e : Outset) (walked : Place → B
           tt,
         )
 
-    pub sent_matches : (room : Push → Type 0) → HasRoom set e room → 1 ≤ st.owed → 1 ≤ st.unstored
+    pub sent_matches : (room : Push → Type 0) → Each room (log_of (goal_at set e st k) t.vertices)
         → Matches room (λ v. in_hand set e (after_store k st) v (places_of set e st k t)) (at_once (after_of set st k w r)) (sent (17 - input_stack e.outlook.swapped) (map_holdings (record_of set e w t) t.vertices) r)
-    sent_matches room rooms owed unstored =
-        matches-same room (λ v. in_hand set e (after_store k st) v now) (at_once after) _ _ (sym sent_same) (record { text = refl; ending = refl; log = logged room rooms owed unstored })
+    sent_matches room logs =
+        matches-same room (λ v. in_hand set e (after_store k st) v now) (at_once after) _ _ (sym sent_same) (record { text = refl; ending = refl; log = logs })
 
   -- the machine's step is the core, and then the rest
   machine_is : (room : Push → Type 0)
@@ -180,9 +180,9 @@ module _ {Plan : Type 0} (set : Setting Plan) (e : Outset) (walked : Place → B
       (then-grouped (core_of set st k w) _ _)
       ∙ then-grouped (core_of set st k w) _ _
 
-  pub stored_steps : (room : Push → Type 0) → HasRoom set e room → 1 ≤ st.owed → 1 ≤ st.unstored
+  pub stored_steps : (room : Push → Type 0) → ((r : Option VertexRecord × Family) → (core_of set st k w).ending ≡ done r → Each room (log_of (goal_at set e st k) t.vertices)) → 1 ≤ st.owed → 1 ≤ st.unstored
       → Alike room (in_hand set e (after_store k st)) (Holds set e (after_store k st)) (store_corner set st.parent st.cell k w) (store_first set e room st.cell k (in_hand set e st w t)) t'
-  stored_steps room rooms owed unstored =
+  stored_steps room logs owed unstored =
       let its_hand = hand set e walked is st stage w t h k from below t' run in
       let last = is_none (to_of set st k) in
       subst (λ (c : Course Working). Alike room (in_hand set e (after_store k st)) (Holds set e (after_store k st)) c (store_first set e room st.cell k (in_hand set e st w t)) t') (sym its_hand.same)
@@ -193,7 +193,7 @@ module _ {Plan : Type 0} (set : Setting Plan) (e : Outset) (walked : Place → B
             (core-then-matches room (λ v. in_hand set e (after_store k st) v now) (core_of set st k w) (after_of set st k w)
             (λ r. sent (17 - input_stack e.outlook.swapped) (map_holdings (record_of set e w t) t.vertices) r)
             (store-silent set last vertex (record_at set.axes w st.cell k) (family_of set.axes w st.parent))
-            (λ r run_core. sent_matches r run_core room rooms owed unstored));
+            (λ r run_core. sent_matches r run_core room (logs r run_core)));
         holds = λ v q.
             let at = mapped-done (core_of set st k w) (after_of set st k w) v q in
             subst (λ x. Holds set e (after_store k st) x now) (sym at.2) (holds_after set e walked is st stage w t h k from below t' run at.0 at.1 owed unstored);
@@ -201,4 +201,5 @@ module _ {Plan : Type 0} (set : Setting Plan) (e : Outset) (walked : Place → B
 
 -- A corner is stored by model and machine alike.
 pub store_leaf : {Plan : Type 0} (set : Setting Plan) (e : Outset) (walked : Place → Bool) (room : Push → Type 0) → IsOutset set e walked → HasRoom set e room → StoreLeaf set e room
-store_leaf set e walked room is rooms st k stage below from owed unstored w t t' h run = stored_steps set e walked is st stage w t h k from below t' run room rooms owed unstored
+store_leaf set e walked room is rooms st k stage below from owed unstored w t t' h run =
+    stored_steps set e walked is st stage w t h k from below t' run room (λ r run_core. logged set e walked is st stage w t h k from below t' run r run_core room rooms owed unstored) owed unstored
