@@ -11,6 +11,7 @@
 ghost use Rattle.pe_walk.specs.CoreKeeps.{CoreKeeps};
 ghost use Rattle.pe_walk.specs.Standing.{KindsAreFound};
 ghost use Rattle.pe_walk.specs.Gridded.{StacksAreAddresses};
+ghost use Rattle.pe_walk.specs.Beneath.{BeneathIsLeft, BeneathStays};
 ghost use Rattle.pe_walk.specs.CornerLaw.{LoadOfACorner, StoreOfACorner};
 ghost use Rattle.pe_walk.specs.FaceLaw.{LawOfAFace, CellsAreExact, FirstCellMayBeWalked, FirstChildMayBeWalked, NextCellMayBeWalked};
 ghost use Rattle.pe_walk.specs.Traversing.{CountsStay};
@@ -51,6 +52,13 @@ pub fn store_of_a_corner<E: Effects>()
 /// each stack, what it gives is, and all beneath is as it was. Each push leaves its stack short.
 pub fn law_of_a_face<E: Effects>()
     ensures same { LawOfAFace E.Plan }
+{}
+
+/// The walk of a cell does the same whatever lies beneath what it takes: it looks at no record there, and all of them are
+/// afterwards where they were, each with its values.
+pub fn beneath_is_left<E: Effects>()
+    ensures left { BeneathIsLeft E.Plan }
+    ensures stays { BeneathStays E.Plan }
 {}
 
 /// The walk of a cell on stacks counts and moves just what its loads and stores do, and no more is out in between than the
