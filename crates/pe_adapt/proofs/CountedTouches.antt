@@ -1,5 +1,5 @@
 -- One corner of the cell that is walked, loaded and stored as the machine does.
-use Rattle.std.proofs.Common.{◌≡◌, ℕ, ℤ, ◌+◌, ◌^◌, ◌<◌, Bool, true, false, ◌&&◌, ◌||◌, List, [], Option, Some, None, Result, Ok, Err, refl, sym, ap, subst, ◌∙◌, arith, eqb-true}
+use Rattle.std.proofs.Common.{◌≡◌, ℕ, ℤ, ◌+◌, ◌^◌, ◌<◌, Bool, true, false, ◌&&◌, ◌||◌, List, [], ◌++◌, Option, Some, None, Result, Ok, Err, refl, sym, ap, subst, ◌∙◌, arith, eqb-true}
 use Rattle.std.specs.Prelude.{◌-◌, ◌%◌, ◌==◌, if◌then◌else◌, IsSomeAnd, is_err, is_none, slice_index, OnOk, OnErr, IsSome}
 use Rattle.pe_base.specs.declared.place.Place.{Place}
 use Rattle.pe_base.specs.declared.kind.Kind.{Kind}
@@ -12,18 +12,18 @@ use Rattle.pe_base.specs.Tree.Ways.{way_of}
 use Rattle.pe_base.specs.Steps.Routes.{stack_in, stack_out}
 use Rattle.pe_base.specs.Life.Kinds.{is_hanging, is_inside}
 use Rattle.pe_base.specs.Acts.Effects.{VertexRecord, Rules}
-use Rattle.pe_base.specs.Walk.Course.{Course, course_map}
+use Rattle.pe_base.specs.Walk.Course.{Cause, Ending, done, halts, stuck, Push, Course, at_once, from, course_map}
 use Rattle.pe_base.specs.Walk.Core.{Setting, way}
 use Rattle.pe_base.specs.Walk.Touches.{tally_load, tally_store}
 use Rattle.pe_stacks.specs.declared.record.Vertex.{Vertex}
 use Rattle.pe_stacks.specs.Holdings.{Holdings, KeepsRoom, stack_count, stack_at, popped, popped_from}
-use Rattle.std.proofs.lemmas.List.{length-set}
-use Rattle.std.proofs.lemmas.Bool.{and_parts}
+use Rattle.std.proofs.lemmas.List.{length-set, append-nil}
+use Rattle.std.proofs.lemmas.Bool.{and_parts, and_from}
 use Rattle.pe_stacks.specs.Sights.{Numbers, corner_records}
 use Rattle.pe_access.specs.Numbers.{stack_of}
 use Rattle.pe_hang.specs.InHand.{Stays}
-use Rattle.pe_base.specs.Calls.Told.{Told}
-use Rattle.pe_base.specs.Calls.Follows.{Follows, Fits, BeforeCall, Failure, read_by}
+use Rattle.pe_base.specs.Calls.Told.{Told, Adds, AddsPart, FailsToTell}
+use Rattle.pe_base.specs.Calls.Follows.{Follows, Fits, BeforeCall, HasOverfull, Failure, halted, unwritten, wanting, unheard_of, read_by}
 use Rattle.pe_stacks.specs.RecordsOut.{RecordsOut}
 use Rattle.pe_base.proofs.Calls.Leading.{and_then-fits, follows-map}
 use Rattle.pe_hang.proofs.Moving.{allowed-fits, allowed-is}
@@ -33,7 +33,9 @@ use Rattle.pe_adapt.specs.Touches.{Desk, kind_in_hand}
 use Rattle.pe_adapt.specs.Touches as corners
 use Rattle.pe_adapt.specs.Spots.{desk_in_hand}
 use Rattle.pe_adapt.proofs.CornerPlaces.{cell_below, level_below}
-use Rattle.pe_adapt.proofs.InsideLaws.{inside-is}
+use Rattle.pe_adapt.proofs.InsideLaws.{inside-is, inside-passes}
+use Rattle.pe_adapt.specs.Ages.{IsPlaced}
+use Rattle.pe_adapt.proofs.Fitting.{allowed-fit, and_then-fit}
 use Rattle.pe_adapt.specs.declared.settings.Settings.{Settings}
 use Rattle.pe_adapt.specs.declared.walked.WalkedCell.{WalkedCell}
 use Rattle.pe_adapt.specs.CountedTouches.{Machine, Ports, output, desk_of, with_desk, tally_may_rise, is_placed, load_corner, store_corner}
@@ -44,6 +46,48 @@ use Rattle.pe_adapt.specs.TouchCalls.{Hand, machine_of, found_in, filled_in, May
 -- a walked cell's position is far below the greatest number
 pub walked-pos : (axes : ℕ) (settings : Settings) (cell : WalkedCell) → IsWalked axes settings cell → (axis : ℕ) → slice_index cell.place.pos axis < 3 ^ 20
 walked-pos axes settings cell is axis = omega (arith, cell_below axes cell.place is.place axis, level_below cell.place.level is.place.level)
+
+-- What a course does that is turned, where the turn can be undone, the course itself does.
+module _ {X Y : Type 0} (f : X → Y) (back : Y → X) (undoes : (x : X) → back (f x) ≡ x) where
+  abbrev turned : Ending X → Course Y
+  turned ending = from ending (λ x. at_once (f x))
+
+  done-before : (ending : Ending X) (y : Y) → (turned ending).ending ≡ done y → ending ≡ done (back y)
+  done-before (done x) y is = let same : f x ≡ y = cc in ap done (sym (undoes x) ∙ ap back same)
+  done-before (halts cause) y is = absurd cc
+  done-before stuck y is = absurd cc
+
+  halts-before : (ending : Ending X) (cause : Cause) → (turned ending).ending ≡ halts cause → ending ≡ halts cause
+  halts-before (done x) cause is = absurd cc
+  halts-before (halts cause') cause is = let same : cause' ≡ cause = cc in ap halts same
+  halts-before stuck cause is = absurd cc
+
+  text-before : (ending : Ending X) (text : List ℕ) → text ++ (turned ending).text ≡ text
+  text-before (done x) text = append-nil text
+  text-before (halts cause) text = append-nil text
+  text-before stuck text = append-nil text
+
+  log-before : (ending : Ending X) (log : List Push) → log ++ (turned ending).log ≡ log
+  log-before (done x) log = append-nil log
+  log-before (halts cause) log = append-nil log
+  log-before stuck log = append-nil log
+
+  follows-before : {A : Type 0} (course : Course X) (after : A → Y) (answer : Result A Failure) (old : BeforeCall) (new : Told)
+      → Follows (course_map f course) after answer old new → Follows course (λ a. back (after a)) answer old new
+  follows-before course after (Ok a) old new is = record {
+    ends = done-before course.ending (after a) is.ends;
+    told = subst (λ text. Adds old.told text new) (text-before course.ending course.text) is.told;
+  }
+  follows-before course after (Err (halted cause)) old new is = record {
+    ends = halts-before course.ending cause is.ends;
+    told = subst (λ text. Adds old.told text new) (text-before course.ending course.text) is.told;
+  }
+  follows-before course after (Err unwritten) old new is = subst (λ text. FailsToTell text old.told new) (text-before course.ending course.text) is
+  follows-before course after (Err wanting) old new is = record {
+    told = subst (λ text. AddsPart old.told text new) (text-before course.ending course.text) is.told;
+    room = λ sure. subst (λ log. HasOverfull old log) (log-before course.ending course.log) (is.room sure);
+  }
+  follows-before course after (Err unheard_of) old new is = is
 
 module _ {Plan : Type 0} (set : Setting Plan) (ports : Ports) (cell : Place) (k : ℕ) where
   abbrev pub here : Place
@@ -84,6 +128,22 @@ module _ {Plan : Type 0} (set : Setting Plan) (ports : Ports) (cell : Place) (k 
       (subst (λ t. Follows (loading m) (λ a. ((after a).0, with_desk (after a).1 (record m { tally = t }))) answer old new) (sym counted)
       (follows-map (λ it. (it.0, with_desk it.1 (record m { tally = tally_load (kind_here m) first_here m.tally }))) (corners.load_corner set ports.input cell k (desk_of m)) after answer old new is))
 
+  -- and what it does with the tally, it does without
+  pub load-touches : {A : Type 0} (m : Machine) (after : A → VertexRecord × Machine) (answer : Result A Failure) (old : BeforeCall) (new : Told)
+      → Fits (load_corner set ports cell k m) → Follows (load_corner set ports cell k m) after answer old new
+      → Follows (corners.load_corner set ports.input cell k (desk_of m)) (λ a. ((after a).0, desk_of (after a).1)) answer old new
+  load-touches m after answer old new fits is =
+      follows-before (λ it. (it.0, with_desk it.1 (record m { tally = tally_load (kind_here m) first_here m.tally }))) (λ it. (it.0, desk_of it.1)) (λ it. refl)
+      (corners.load_corner set ports.input cell k (desk_of m)) after answer old new
+      (subst (λ course. Follows course after answer old new) (allowed-is (tally_may_rise m.tally && is_placed set.axes (kind_here m) here) (loading m) fits) is)
+
+  -- it fits where the load does, if the tally may rise and what counts is inside
+  pub load-fits : (m : Machine) → tally_may_rise m.tally ≡ true → is_placed set.axes (kind_here m) here ≡ true
+      → Fits (corners.load_corner set ports.input cell k (desk_of m)) → Fits (load_corner set ports cell k m)
+  load-fits m rises placed fits =
+      allowed-fit (tally_may_rise m.tally && is_placed set.axes (kind_here m) here) (loading m) (and_from _ _ rises placed)
+      (and_then-fit (corners.load_corner set ports.input cell k (desk_of m)) _ fits (λ it. refl))
+
   -- the store of a corner likewise
   abbrev last_here : Bool
   last_here = is_none (stack_out set.axes (way set) here cell)
@@ -114,6 +174,27 @@ module _ {Plan : Type 0} (set : Setting Plan) (ports : Ports) (cell : Place) (k 
       (sym (allowed-is (tally_may_rise m.tally && is_placed set.axes it.kind here) (storing it m) fits))
       (subst (λ t. Follows (storing it m) (λ a. with_desk (after a) (record m { tally = t })) answer old new) (sym counted)
       (follows-map (λ desk. with_desk desk (record m { tally = tally_store it.kind last_here m.tally })) (corners.store_corner set (output ports) cell k it (desk_of m)) after answer old new is))
+
+  pub store-touches : {A : Type 0} (it : VertexRecord) (m : Machine) (after : A → Machine) (answer : Result A Failure) (old : BeforeCall) (new : Told)
+      → Fits (store_corner set ports cell k it m) → Follows (store_corner set ports cell k it m) after answer old new
+      → Follows (corners.store_corner set (output ports) cell k it (desk_of m)) (λ a. desk_of (after a)) answer old new
+  store-touches it m after answer old new fits is =
+      follows-before (λ desk. with_desk desk (record m { tally = tally_store it.kind last_here m.tally })) desk_of (λ desk. refl)
+      (corners.store_corner set (output ports) cell k it (desk_of m)) after answer old new
+      (subst (λ course. Follows course after answer old new) (allowed-is (tally_may_rise m.tally && is_placed set.axes it.kind here) (storing it m) fits) is)
+
+  pub store-fits : (it : VertexRecord) (m : Machine) → tally_may_rise m.tally ≡ true → is_placed set.axes it.kind here ≡ true
+      → Fits (corners.store_corner set (output ports) cell k it (desk_of m)) → Fits (store_corner set ports cell k it m)
+  store-fits it m rises placed fits =
+      allowed-fit (tally_may_rise m.tally && is_placed set.axes it.kind here) (storing it m) (and_from _ _ rises placed)
+      (and_then-fit (corners.store_corner set (output ports) cell k it (desk_of m)) _ fits (λ desk. refl))
+
+-- what counts is placed where it is inside
+pub placed-is : (axes : ℕ) (kind : Kind) (vertex : Place) → IsPlaced axes kind vertex → is_placed axes kind vertex ≡ true
+placed-is axes Kept vertex placed = inside-passes axes vertex (placed.inside (λ no. absurd cc))
+placed-is axes Born vertex placed = inside-passes axes vertex (placed.inside (λ no. absurd cc))
+placed-is axes Dying vertex placed = inside-passes axes vertex (placed.inside (λ no. absurd cc))
+placed-is axes Hanging vertex placed = refl
 
 -- how many records are out, by the slot
 left-loaded : {X : Type 0} (slot : Option X) (result : Result (Unit {0}) Inner) (old new : Holdings X) (room room' : ℕ → ℕ)
@@ -198,6 +279,23 @@ module _ {Plan V C : Type 0} (rules : Rules Plan) (numbers : Numbers V C) (setti
     stays = stays;
     counted = ap (λ tally. tally.cells) counted ∙ store-cells it.kind (is_none (stack_out old.held.dim (way set_here) (corner old.held.dim place k) place)) old.progress.tally;
   }
+
+  -- a call that goes along with the counted load does the load, and likewise of the store
+  pub load-touched : (slot : Option (Vertex V)) → MayGo rules numbers settings loads old
+      → GoesAlong rules numbers settings loads (λ machine. (seen_slot numbers.vertex slot, machine)) 0 (filled_in slot) result old new
+      → (room : ℕ → ℕ) → Follows (corners.load_corner set_here settings.input place k desk_before) (λ (done : Unit {0}). (seen_slot numbers.vertex slot, desk_behind))
+      (read_by (failure_in new.progress) result) (found_in old room) new.held.told
+  load-touched slot may goes room =
+      load-touches set_here (ports_of settings) place k (machine_of numbers no_cells old) (λ (done : Unit {0}). (seen_slot numbers.vertex slot, machine_of numbers no_cells new))
+      (read_by (failure_in new.progress) result) (found_in old room) new.held.told (may no_cells) (goes.follows no_cells room)
+
+  pub store-touched : (it : VertexRecord) → MayGo rules numbers settings (stores it) old
+      → GoesAlong rules numbers settings (stores it) (λ machine. machine) 1 0 result old new
+      → (room : ℕ → ℕ) → Follows (corners.store_corner set_here (output (ports_of settings)) place k it desk_before) (λ (done : Unit {0}). desk_behind)
+      (read_by (failure_in new.progress) result) (found_in old room) new.held.told
+  store-touched it may goes room =
+      store-touches set_here (ports_of settings) place k it (machine_of numbers no_cells old) (λ (done : Unit {0}). machine_of numbers no_cells new)
+      (read_by (failure_in new.progress) result) (found_in old room) new.held.told (may no_cells) (goes.follows no_cells room)
 
   -- what a load that may go tells: the tally may rise, and what counts is inside
   pub may-load-rises : MayGo rules numbers settings loads old → tally_may_rise old.progress.tally ≡ true

@@ -28,7 +28,7 @@ then-fits stuck next fits each = fits
 pub and_then-fit : {X Y : Type 0} (course : Course X) (next : X → Course Y) → Fits course → ((x : X) → Fits (next x)) → Fits (and_then course next)
 and_then-fit course next fits each = then-fits course.ending next fits each
 
-allowed-fit : {X : Type 0} (test : Bool) (course : Course X) → test ≡ true → Fits course → Fits (allowed test course)
+pub allowed-fit : {X : Type 0} (test : Bool) (course : Course X) → test ≡ true → Fits course → Fits (allowed test course)
 allowed-fit true course is fits = fits
 allowed-fit false course is fits = absurd (let no : false ≡ true = is in cc)
 

@@ -3,7 +3,7 @@ use Rattle.std.proofs.Common.{◌≡◌, ℕ, zero, suc, ◌+◌, ◌-◌, ◌*�
 use Rattle.std.specs.Prelude.{slice_index, slice_get, nat_lt, ◌==◌, ◌||◌, not, if◌then◌else◌}
 use Rattle.std.specs.List.{list_all, list_any, AllByRecursion as Each}
 use Rattle.std.specs.Option.{option_map}
-use Rattle.std.proofs.lemmas.Bool.{ltb-true, eqb-true, eqb-false, and_parts}
+use Rattle.std.proofs.lemmas.Bool.{ltb-true, lt-ltb, eqb-true, eqb-false, eq-eqb, and_parts, and_from}
 use Rattle.pe_base.specs.declared.place.Place.{Place}
 use Rattle.pe_base.specs.declared.place.Digits.{Digits}
 use Rattle.pe_base.specs.declared.state.State.{State}
@@ -57,6 +57,26 @@ inside-is axes vertex few level is =
       };
       above = λ axis here. (between axes (3 ^ vertex.level) vertex.pos front.1 axis here (omega arith)).0;
     }
+
+-- a vertex inside passes the test
+front-passes : (axes bound : ℕ) (pos : List ℕ) → ((axis : ℕ) → axis < axes → slice_index pos axis < bound) → ((axis : ℕ) → axis < axes → 0 < slice_index pos axis)
+    → list_all (λ x. nat_lt 0 x && nat_lt x bound) (take axes pos) ≡ true
+front-passes zero bound [] below above = refl
+front-passes zero bound (x ∷ xs) below above = refl
+front-passes (suc axes) bound [] below above = refl
+front-passes (suc axes) bound (x ∷ xs) below above =
+    and_from (nat_lt 0 x && nat_lt x bound) _ (and_from (nat_lt 0 x) (nat_lt x bound) (lt-ltb 0 x (above 0 (omega arith))) (lt-ltb x bound (below 0 (omega arith))))
+    (front-passes axes bound xs (λ axis here. below (suc axis) (omega arith)) (λ axis here. above (suc axis) (omega arith)))
+
+rest-passes : (axes : ℕ) (pos : List ℕ) → ((axis : ℕ) → axes ≤ axis → slice_index pos axis ≡ 0) → list_all (λ x. x == 0) (drop axes pos) ≡ true
+rest-passes zero [] rest = refl
+rest-passes (suc axes) [] rest = refl
+rest-passes zero (x ∷ xs) rest = and_from (x == 0) _ (eq-eqb x 0 (rest 0 (omega arith))) (rest-passes zero xs (λ axis behind. rest (suc axis) (omega arith)))
+rest-passes (suc axes) (x ∷ xs) rest = rest-passes axes xs (λ axis behind. rest (suc axis) (omega arith))
+
+pub inside-passes : (axes : ℕ) (vertex : Place) → IsInside axes vertex → is_inside axes vertex ≡ true
+inside-passes axes vertex is =
+    and_from _ _ (and_from _ _ (eq-eqb (length vertex.pos) 4 is.pos.four) (front-passes axes (3 ^ vertex.level) vertex.pos is.pos.inside is.above)) (rest-passes axes vertex.pos is.pos.rest)
 
 -- a carrier lies within a third of its vertex, on each axis
 record IsNear (os xs : List ℕ) : Type 0 where

@@ -21,3 +21,5 @@ pub mod StackLaws
 pub mod Fitting
 -- one corner of the cell that is walked
 pub mod CountedTouches
+-- one corner loaded or stored alone
+mod Alone

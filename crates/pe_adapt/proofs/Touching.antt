@@ -11,14 +11,7 @@ use Rattle.pe_base.specs.Life.Carriers.{kind_by}
 use Rattle.pe_base.specs.Acts.Effects.{VertexRecord}
 use Rattle.pe_base.specs.Walk.Course.{Ending, done, halts, stuck, Course, at_once, and_then, course_map, from, behind}
 use Rattle.pe_base.specs.Walk.Core.{Setting, way, store_of, vertex_event, given_up}
-use Rattle.pe_access.specs.States.{route_of}
-use Rattle.pe_adapt.specs.Spots.{stack_of}
 use Rattle.pe_adapt.specs.Touches.{Desk, state_in_hand, load_as, load_corner, goes, store_as, store_corner}
-
--- the stack of a route of a stack
-pub stack_of-route_of : (stack : Option ℕ) → stack_of (route_of stack) ≡ stack
-stack_of-route_of None = refl
-stack_of-route_of (Some s) = refl
 
 module _ {Plan : Type 0} (set : Setting Plan) where
   any-route : (input : ℕ) (kind : Kind) (from from' : Option ℕ) (vertex : Place) (desk : Desk) → ((kind ≡ Hanging → ⊥) → from ≡ from')

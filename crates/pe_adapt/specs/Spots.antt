@@ -3,8 +3,6 @@ use Rattle.std.specs.Prelude.{◌≡◌, ℕ, ℤ, ◌≤◌, ◌<◌, ◌^◌, 
 use Rattle.pe_base.specs.declared.kind.Kind.{Kind}
 use Rattle.pe_base.specs.declared.kind.Kind.TheVariants.{Born, Hanging}
 use Rattle.pe_base.specs.Tree.Places.{IsCellPlace, IsDigits, child_at, parent_of}
-use Rattle.pe_access.specs.declared.route.Route.{Route}
-use Rattle.pe_access.specs.declared.route.Route.TheVariants.{Stream, Temp}
 use Rattle.pe_stacks.specs.declared.record.Vertex.{Vertex}
 use Rattle.pe_stacks.specs.declared.record.CellRec.{CellRec}
 use Rattle.pe_stacks.specs.Corners.{CornerList}
@@ -27,11 +25,6 @@ pub record IsSpot (axes : ℕ) (spot : Spot) : Type 0 where
 -- one of the streams is the input, and the other the output
 abbrev pub AreStreams : Spot → Type 0
 AreStreams spot = (spot.input ≡ 8) × (spot.output ≡ 9) ⊎ (spot.input ≡ 9) × (spot.output ≡ 8)
-
--- the stack of a route, if it is not the stream
-abbrev pub stack_of : Route → Option ℕ
-stack_of Stream = None
-stack_of (Temp stack) = Some stack
 
 -- the vertices on their stacks, and what is in hand
 abbrev pub desk_in_hand : {V C : Type 0} → Numbers V C → Holdings (Vertex V) → CornerList (Vertex V) → CellRec C → List ℤ → Desk

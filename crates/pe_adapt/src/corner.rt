@@ -4,6 +4,7 @@ ghost use Rattle.pe_base.specs.Tree.Places.{corner, parent_of};
 ghost use Rattle.pe_base.specs.Tree.Ways.{way_of};
 ghost use Rattle.pe_base.specs.Steps.Routes.{stack_in};
 ghost use Rattle.pe_access.specs.States.{StandsFor};
+ghost use Rattle.pe_base.specs.Acts.Moments.{IsTraversal};
 ghost use Rattle.pe_stacks.specs.Corners.{IsFull};
 ghost use Rattle.pe_stacks.specs.Holdings.{CountsWithin, stack_count, len_at};
 ghost use Rattle.pe_mapping.specs.Held.{max_level, found_of};
@@ -17,12 +18,15 @@ ghost use Rattle.pe_adapt.specs.Spots.{IsSpot, AreStreams, source_of, desk_in_ha
 ghost use Rattle.pe_adapt.specs.Touches.{kind_in_hand, load_corner, store_corner};
 
 use crate::kinds::{ages_of, corner_ages};
-use crate::touch::{load_aged, store_placed};
-use crate::{Spot, WalkStop};
+use crate::settings::{Settings, settings_at};
+use crate::slot::{load_in_slot, store_in_slot};
+use crate::{Progress, Spot, WalkStop, WalkedCell};
 use pe_access::CellState;
-use pe_base::Setup;
+use pe_base::limits::LEAST_CELLS;
+use pe_base::{Dim, Setup};
 use pe_mapping::Mapping;
-use pe_stacks::{CellRec, Corners, Depot, Vertex};
+use pe_stacks::{CellRec, Corners, Depot, Vertex, close_slot};
+use pe_states::Ages;
 
 /// Loads a corner: its record is lent, or popped from the stack that the order around the vertex names, and the events of
 /// the load are fired. On an error the record is given up.
@@ -67,7 +71,48 @@ pub fn load_corner<M: Mapping, DV: Depot<Vertex<M::V>>>(
         spot.traversal,
         ages_of(setup.dim, parents),
     );
-    load_aged(setup.start_level, spot, state, ages, m, dv, parents, parent)
+    let settings = settings_at(setup, spot.traversal, spot.input, 0);
+    let cell = WalkedCell {
+        place: spot.cell,
+        state: *state,
+        row: state.row(),
+        ages,
+    };
+    let mut progress = Progress::at_first(&settings, spot.cell);
+    let mut slot = None;
+    match load_in_slot(
+        &settings,
+        &cell,
+        spot.corner,
+        &mut progress,
+        &mut slot,
+        m,
+        dv,
+        parents,
+        parent,
+    ) {
+        Ok(()) => Ok(slot.unwrap()),
+        Err(halt) => {
+            close_slot(slot);
+            Err(WalkStop::of_halt(halt, progress.at))
+        }
+    }
+}
+
+// What is set for a store, which asks for the traversal and its streams alone: the rest is that of the least grid.
+fn settings_of_store(spot: &Spot) -> Settings
+    requires traversal { IsTraversal spot.now.traversal }
+    requires streams { AreStreams spot.now }
+    ensures traversal { result.traversal ≡ spot.now.traversal }
+    ensures output { result.output ≡ spot.now.output }
+{
+    let setup = Setup {
+        dim: Dim::new(2).unwrap(),
+        max_level: 1,
+        start_level: 1,
+        max_cells: LEAST_CELLS,
+    };
+    settings_at(&setup, spot.traversal, spot.input, 0)
 }
 
 /// Stores a corner: the events of the store are fired, and its record is given up, or pushed on the stack that the order
@@ -99,5 +144,30 @@ pub fn store_corner<M: Mapping, DV: Depot<Vertex<M::V>>>(
     ensures left { RecordsOut 1 0 (DV.holds dv.old) (DV.room dv.old) (DV.holds dv.new) (DV.room dv.new) (is_err result) }
     ensures stays { Stays M.numbers.vertex (M.held m.old) (M.held m.new) parents.old parents.new }
 {
-    store_placed(spot, state, v, m, dv, parents, parent)
+    let settings = settings_of_store(spot);
+    // A store asks for no ages.
+    let cell = WalkedCell {
+        place: spot.cell,
+        state: *state,
+        row: state.row(),
+        ages: Ages::new(0, 0),
+    };
+    let mut progress = Progress::at_first(&settings, spot.cell);
+    let mut slot = Some(v);
+    let answer = store_in_slot(
+        &settings,
+        &cell,
+        spot.corner,
+        &mut progress,
+        &mut slot,
+        m,
+        dv,
+        parents,
+        parent,
+    );
+    close_slot(slot);
+    match answer {
+        Ok(()) => Ok(()),
+        Err(halt) => Err(WalkStop::of_halt(halt, progress.at)),
+    }
 }

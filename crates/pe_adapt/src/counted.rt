@@ -12,13 +12,11 @@ ghost use Rattle.pe_adapt.specs.CountedTouches.{load_corner, store_corner};
 ghost use Rattle.pe_adapt.specs.WalkedCells.{IsWalked, setting_in, ports_of};
 ghost use Rattle.pe_adapt.specs.TouchCalls.{MayGo, GoesAlong, hand_of, filled_in};
 
-use crate::load;
 use crate::progress::Progress;
 use crate::settings::Settings;
-use crate::store;
 use crate::tallies::{count_load, count_store};
 use crate::walked::WalkedCell;
-use crate::{Inner, corner_place};
+use crate::{Inner, corner_place, load, store};
 use pe_base::Kind;
 use pe_mapping::Mapping;
 use pe_stacks::{CellRec, Corners, Depot, Vertex};

@@ -13,17 +13,14 @@ mod spot;
 mod stop;
 mod store;
 mod tallies;
-mod touch;
 mod walked;
 
 pub use corner::{load_corner, store_corner};
 pub use kinds::{ages_of, corner_ages};
-pub use load::{load_as, load_first, load_hanging};
 pub use progress::Progress;
 pub use settings::{Settings, corners_in, dim_in, settings_at};
 pub use slot::{load_in_slot, store_in_slot};
 pub use spot::{Spot, corner_place};
 pub use stop::{Inner, WalkStop};
-pub use store::{put_down, store_as, store_hanging, store_last};
-pub use touch::{load_aged, store_placed};
+pub use store::put_down;
 pub use walked::WalkedCell;

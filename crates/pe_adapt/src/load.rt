@@ -1,4 +1,4 @@
-// The load of a corner of which the kind and the route are known.
+// The load of a corner that hangs, or is loaded for the first time, of a kind that is known.
 ghost use Rattle.std.specs.Prelude.{◌≡◌, ℕ, true, ◌≤◌, ◌<◌, ◌^◌, is_err, slice_get, Some, None, IsSome, OnOk, OnErr};
 ghost use Rattle.pe_base.specs.declared.kind.Kind.TheVariants.{Born, Hanging};
 ghost use Rattle.pe_base.specs.declared.event.Event.TheVariants.{TouchVertexFirstTime};
@@ -15,23 +15,22 @@ ghost use Rattle.pe_hang.specs.Moves.{MayPop};
 ghost use Rattle.pe_base.specs.Calls.Follows.{Follows, Fits, read_by};
 ghost use Rattle.pe_stacks.specs.RecordsOut.{RecordsOut, held_by};
 ghost use Rattle.pe_mapping.specs.Held.{found_of};
-ghost use Rattle.pe_adapt.specs.Stops.{failure_of, failure_of_halt};
+ghost use Rattle.pe_adapt.specs.Stops.{failure_of_halt};
 ghost use Rattle.pe_adapt.specs.Slots.{seen_slot};
-ghost use Rattle.pe_adapt.specs.Spots.{IsSpot, stack_of, desk_in_hand};
+ghost use Rattle.pe_adapt.specs.Spots.{desk_in_hand};
 ghost use Rattle.pe_adapt.specs.Touches.{load_as};
 
+use crate::Inner;
 use crate::fire::fire;
-use crate::{Inner, WalkStop};
-use pe_access::Route;
 use pe_base::{Event, Kind, Place};
 use pe_hang::make_hanging;
 use pe_mapping::Mapping;
-use pe_stacks::{CellRec, Corners, Depot, Vertex, close_slot, fill_slot, filled_mut};
+use pe_stacks::{CellRec, Corners, Depot, Vertex, fill_slot, filled_mut};
 use pe_states::{first_touch, start_state};
 
 /// Loads a corner that hangs, in its slot. On an error its record is given up, and the slot is empty.
 #[inline]
-pub fn load_hanging<M: Mapping, DV: Depot<Vertex<M::V>>>(
+pub(crate) fn load_hanging<M: Mapping, DV: Depot<Vertex<M::V>>>(
     traversal: u64,
     at: &Place,
     slot: &mut Option<Vertex<M::V>>,
@@ -171,7 +170,7 @@ fn load_stored<M: Mapping, DV: Depot<Vertex<M::V>>>(
 /// Loads a corner for the first time, in its slot: it is born, or was stored. On an error its record is given up, and the
 /// slot is empty.
 #[inline]
-pub fn load_first<M: Mapping, DV: Depot<Vertex<M::V>>>(
+pub(crate) fn load_first<M: Mapping, DV: Depot<Vertex<M::V>>>(
     start_level: u8,
     kind: Kind,
     input: u8,
@@ -203,106 +202,5 @@ pub fn load_first<M: Mapping, DV: Depot<Vertex<M::V>>>(
     match kind {
         Kind::Born => load_born(start_level, traversal, at, slot, m, dv, parents, parent),
         _ => load_stored(kind, input, traversal, at, slot, m, dv, parents, parent),
-    }
-}
-
-// Loads a corner in its slot, by a route that is known. On an error its record is given up, and the slot is empty.
-fn load_slot<M: Mapping, DV: Depot<Vertex<M::V>>>(
-    start_level: u8,
-    kind: Kind,
-    from: Route,
-    input: u8,
-    traversal: u64,
-    at: &Place,
-    slot: &mut Option<Vertex<M::V>>,
-    m: &mut M,
-    dv: &mut DV,
-    parents: &mut Corners<M::V>,
-    parent: &mut CellRec<M::C>,
-) -> Result<(), Inner>
-    requires traversal { IsTraversal traversal }
-    requires place { IsBelowRoot at.now }
-    requires empty { slot.old ≡ None }
-    requires full { IsFull (M.held m.old).dim parents.old }
-    requires fits { Fits (load_as (setting_of M.rules (M.held m.old) start_level 0 traversal) input kind (stack_of from) at.now
-        (desk_in_hand M.numbers (DV.holds dv.old) parents.old parent.old (M.held m.old).list)) }
-    ensures follows { (cells : ℕ → ℕ) → Follows
-        (load_as (setting_of M.rules (M.held m.old) start_level 0 traversal) input kind (stack_of from) at.now
-        (desk_in_hand M.numbers (DV.holds dv.old) parents.old parent.old (M.held m.old).list))
-        (λ done. (seen_slot M.numbers.vertex slot.new, desk_in_hand M.numbers (DV.holds dv.new) parents.new parent.new (M.held m.new).list))
-        (read_by (failure_of_halt at.now) result) (found_of (M.held m.old) (held_by (DV.holds dv.old) (DV.room dv.old)) cells) (M.held m.new).told }
-    ensures left { RecordsOut 0 1 (DV.holds dv.old) (DV.room dv.old) (DV.holds dv.new) (DV.room dv.new) (is_err result) }
-    ensures stays { Stays M.numbers.vertex (M.held m.old) (M.held m.new) parents.old parents.new }
-    ensures filled { OnOk result (IsSome slot.new) }
-    ensures emptied { OnErr result (slot.new ≡ None) }
-{
-    match kind {
-        Kind::Hanging => load_hanging(traversal, at, slot, m, dv, parents, parent),
-        _ => match from {
-            Route::Stream => load_first(
-                start_level,
-                kind,
-                input,
-                traversal,
-                at,
-                slot,
-                m,
-                dv,
-                parents,
-                parent,
-            ),
-            Route::Temp(s) => {
-                fill_slot(slot, dv.pop(s));
-                Ok(())
-            }
-        },
-    }
-}
-
-/// Loads a corner of a kind that is known, by a route that is known. On an error its record is given up.
-pub fn load_as<M: Mapping, DV: Depot<Vertex<M::V>>>(
-    start_level: u8,
-    kind: Kind,
-    from: Route,
-    input: u8,
-    traversal: u64,
-    at: &Place,
-    m: &mut M,
-    dv: &mut DV,
-    parents: &mut Corners<M::V>,
-    parent: &mut CellRec<M::C>,
-) -> Result<Vertex<M::V>, WalkStop>
-    requires traversal { IsTraversal traversal }
-    requires place { IsBelowRoot at.now }
-    requires full { IsFull (M.held m.old).dim parents.old }
-    requires fits { Fits (load_as (setting_of M.rules (M.held m.old) start_level 0 traversal) input kind (stack_of from) at.now
-        (desk_in_hand M.numbers (DV.holds dv.old) parents.old parent.old (M.held m.old).list)) }
-    ensures follows { (cells : ℕ → ℕ) → Follows
-        (load_as (setting_of M.rules (M.held m.old) start_level 0 traversal) input kind (stack_of from) at.now
-        (desk_in_hand M.numbers (DV.holds dv.old) parents.old parent.old (M.held m.old).list))
-        (λ v. (record_of M.numbers.vertex v, desk_in_hand M.numbers (DV.holds dv.new) parents.new parent.new (M.held m.new).list))
-        (read_by failure_of result) (found_of (M.held m.old) (held_by (DV.holds dv.old) (DV.room dv.old)) cells) (M.held m.new).told }
-    ensures left { RecordsOut 0 1 (DV.holds dv.old) (DV.room dv.old) (DV.holds dv.new) (DV.room dv.new) (is_err result) }
-    ensures stays { Stays M.numbers.vertex (M.held m.old) (M.held m.new) parents.old parents.new }
-{
-    let mut slot = None;
-    match load_slot(
-        start_level,
-        kind,
-        from,
-        input,
-        traversal,
-        at,
-        &mut slot,
-        m,
-        dv,
-        parents,
-        parent,
-    ) {
-        Ok(()) => Ok(slot.unwrap()),
-        Err(halt) => {
-            close_slot(slot);
-            Err(WalkStop::of_halt(halt, *at))
-        }
     }
 }

@@ -8,9 +8,9 @@ ghost use Rattle.pe_adapt.specs.CountedTouches.{load_corner, store_corner};
 ghost use Rattle.pe_adapt.specs.WalkedCells.{IsWalked, ports_of};
 ghost use Rattle.pe_adapt.specs.TouchCalls.{MayGo, GoesAlong, hand_of, filled_in};
 
+use crate::counted::{load_first, load_hanging, store_hanging, store_last};
 use crate::progress::Progress;
 use crate::settings::Settings;
-use crate::counted::{load_first, load_hanging, store_hanging, store_last};
 use crate::walked::WalkedCell;
 use crate::{Inner, put_down};
 use pe_base::Kind;

@@ -1,4 +1,4 @@
-// The store of a corner of which the route is known.
+// The store of a corner that hangs, or is stored for the last time.
 ghost use Rattle.std.specs.Prelude.{◌≡◌, ℕ, true, ◌<◌, None, IsSome, IsSomeAnd, Err, is_err, OnOk, OnErr, IfErr, Option};
 ghost use Rattle.pe_stacks.specs.Corners.{IsFull};
 ghost use Rattle.pe_base.specs.declared.kind.Kind.TheVariants.{Dying, Hanging};
@@ -12,18 +12,17 @@ ghost use Rattle.pe_base.specs.Calls.Follows.{Follows, Fits, read_by};
 ghost use Rattle.pe_stacks.specs.RecordsOut.{RecordsOut, held_by};
 ghost use Rattle.pe_mapping.specs.Held.{found_of};
 ghost use Rattle.pe_adapt.specs.declared.stop.Inner.TheVariants.{Memory as ForMemory};
-ghost use Rattle.pe_adapt.specs.Stops.{failure_of, failure_of_halt};
+ghost use Rattle.pe_adapt.specs.Stops.{failure_of_halt};
 ghost use Rattle.pe_adapt.specs.Slots.{seen_slot};
-ghost use Rattle.pe_adapt.specs.Spots.{stack_of, desk_in_hand};
+ghost use Rattle.pe_adapt.specs.Spots.{desk_in_hand};
 ghost use Rattle.pe_adapt.specs.Touches.{store_as};
 
+use crate::Inner;
 use crate::fire::fire;
-use crate::{Inner, WalkStop};
-use pe_access::Route;
 use pe_base::{Event, Kind, Place};
 use pe_hang::end_hanging;
 use pe_mapping::Mapping;
-use pe_stacks::{CellRec, Corners, Depot, Vertex, close_slot, filled_mut};
+use pe_stacks::{CellRec, Corners, Depot, Vertex, filled_mut};
 use pe_states::last_touch;
 
 // Puts a record on a stack that may have no room for it. Where there is no memory it is given up.
@@ -66,7 +65,7 @@ pub fn put_down<X, D: Depot<X>>(d: &mut D, s: u8, r: X) -> Result<(), Inner>
 
 /// Stores a corner that hangs, in its slot: it ends. Whatever the answer, its record is given up, and the slot is empty.
 #[inline]
-pub fn store_hanging<M: Mapping, DV: Depot<Vertex<M::V>>>(
+pub(crate) fn store_hanging<M: Mapping, DV: Depot<Vertex<M::V>>>(
     traversal: u64,
     at: &Place,
     slot: &mut Option<Vertex<M::V>>,
@@ -197,7 +196,7 @@ fn store_staying<M: Mapping, DV: Depot<Vertex<M::V>>>(
 /// Stores a corner that does not hang, in its slot, for the last time: it is written, or it dies. Whatever the answer, the
 /// slot is empty; on an error its record is given up.
 #[inline]
-pub fn store_last<M: Mapping, DV: Depot<Vertex<M::V>>>(
+pub(crate) fn store_last<M: Mapping, DV: Depot<Vertex<M::V>>>(
     output: u8,
     traversal: u64,
     at: &Place,
@@ -227,78 +226,5 @@ pub fn store_last<M: Mapping, DV: Depot<Vertex<M::V>>>(
     match kind {
         Kind::Dying => store_dying(traversal, at, slot, m, dv, parents, parent),
         _ => store_staying(kind, output, traversal, at, slot, m, dv, parents, parent),
-    }
-}
-
-// Stores a corner in its slot, by a route that is known. On an error its record is given up.
-fn store_slot<M: Mapping, DV: Depot<Vertex<M::V>>>(
-    to: Route,
-    output: u8,
-    traversal: u64,
-    at: &Place,
-    slot: &mut Option<Vertex<M::V>>,
-    m: &mut M,
-    dv: &mut DV,
-    parents: &mut Corners<M::V>,
-    parent: &mut CellRec<M::C>,
-) -> Result<(), Inner>
-    requires traversal { IsTraversal traversal }
-    requires place { IsBelowRoot at.now }
-    requires filled { IsSome slot.old }
-    requires full { IsFull (M.held m.old).dim parents.old }
-    requires out { 0 < (DV.holds dv.old).out }
-    requires fits { Fits (store_as (setting_of_events M.rules (M.held m.old) traversal) output (stack_of to) at.now (seen_slot M.numbers.vertex slot.old)
-        (desk_in_hand M.numbers (DV.holds dv.old) parents.old parent.old (M.held m.old).list)) }
-    ensures follows { (cells : ℕ → ℕ) → Follows
-        (store_as (setting_of_events M.rules (M.held m.old) traversal) output (stack_of to) at.now (seen_slot M.numbers.vertex slot.old)
-        (desk_in_hand M.numbers (DV.holds dv.old) parents.old parent.old (M.held m.old).list))
-        (λ done. desk_in_hand M.numbers (DV.holds dv.new) parents.new parent.new (M.held m.new).list)
-        (read_by (failure_of_halt at.now) result) (found_of (M.held m.old) (held_by (DV.holds dv.old) (DV.room dv.old)) cells) (M.held m.new).told }
-    ensures left { RecordsOut 1 0 (DV.holds dv.old) (DV.room dv.old) (DV.holds dv.new) (DV.room dv.new) (is_err result) }
-    ensures stays { Stays M.numbers.vertex (M.held m.old) (M.held m.new) parents.old parents.new }
-    ensures emptied { slot.new ≡ None }
-{
-    let kind = filled_mut(slot).kind();
-    match kind {
-        Kind::Hanging => store_hanging(traversal, at, slot, m, dv, parents, parent),
-        _ => match to {
-            Route::Stream => store_last(output, traversal, at, slot, m, dv, parents, parent),
-            Route::Temp(s) => put_down(dv, s, slot.take().unwrap()),
-        },
-    }
-}
-
-/// Stores a corner by a route that is known. On an error its record is given up.
-pub fn store_as<M: Mapping, DV: Depot<Vertex<M::V>>>(
-    to: Route,
-    output: u8,
-    traversal: u64,
-    at: &Place,
-    v: Vertex<M::V>,
-    m: &mut M,
-    dv: &mut DV,
-    parents: &mut Corners<M::V>,
-    parent: &mut CellRec<M::C>,
-) -> Result<(), WalkStop>
-    requires traversal { IsTraversal traversal }
-    requires place { IsBelowRoot at.now }
-    requires full { IsFull (M.held m.old).dim parents.old }
-    requires out { 0 < (DV.holds dv.old).out }
-    requires fits { Fits (store_as (setting_of_events M.rules (M.held m.old) traversal) output (stack_of to) at.now (record_of M.numbers.vertex v)
-        (desk_in_hand M.numbers (DV.holds dv.old) parents.old parent.old (M.held m.old).list)) }
-    ensures follows { (cells : ℕ → ℕ) → Follows
-        (store_as (setting_of_events M.rules (M.held m.old) traversal) output (stack_of to) at.now (record_of M.numbers.vertex v)
-        (desk_in_hand M.numbers (DV.holds dv.old) parents.old parent.old (M.held m.old).list))
-        (λ done. desk_in_hand M.numbers (DV.holds dv.new) parents.new parent.new (M.held m.new).list)
-        (read_by failure_of result) (found_of (M.held m.old) (held_by (DV.holds dv.old) (DV.room dv.old)) cells) (M.held m.new).told }
-    ensures left { RecordsOut 1 0 (DV.holds dv.old) (DV.room dv.old) (DV.holds dv.new) (DV.room dv.new) (is_err result) }
-    ensures stays { Stays M.numbers.vertex (M.held m.old) (M.held m.new) parents.old parents.new }
-{
-    let mut slot = Some(v);
-    let answer = store_slot(to, output, traversal, at, &mut slot, m, dv, parents, parent);
-    close_slot(slot);
-    match answer {
-        Ok(()) => Ok(()),
-        Err(halt) => Err(WalkStop::of_halt(halt, *at)),
     }
 }

@@ -45,7 +45,7 @@ nothing_counted {V} {C} axes start_level vertices cells none no_cell = rw none (
 
 -- a mapping that has the numbers of the whole grid
 abbrev mapping_with : Scenario → Fields → Held Scenario
-mapping_with scenario globals = record { plan = scenario; list = globals.a; told = record { text = None; faults = 0 }; dim = scenario.setup.dim; sure = true; lent = [] }
+mapping_with scenario globals = record { plan = scenario; list = globals.a; told = record { text = None; writes = 0; faults = 0 }; dim = scenario.setup.dim; sure = true; lent = [] }
 
 pub first_stands : (scenario : Scenario) (between : Between) (vertices : Holdings (Vertex Fields)) (cells : Holdings (CellRec Fields)) → IsDim scenario.setup.dim
     → between.grid ≡ record { dim = scenario.setup.dim; finished = 0; swapped = false; root = record { payload = between.globals } } → between.globals.a ≡ zeros

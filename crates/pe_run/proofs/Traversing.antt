@@ -4,6 +4,7 @@ use Rattle.std.specs.Prelude.{IfOk}
 use Rattle.std.proofs.lemmas.List.{length-map, append-nil}
 use Rattle.pe_base.specs.declared.fields.Fields.{Fields}
 use Rattle.pe_base.specs.declared.tally.Tally.{Tally}
+use Rattle.pe_base.specs.Limits.{most_cells}
 use Rattle.pe_base.specs.Tree.Dim.{IsDim}
 use Rattle.pe_base.specs.Walk.Core.{Setting}
 use Rattle.pe_base.specs.Walk.Grids.{Grid, IsWellFormed}

@@ -1,38 +1,38 @@
-use Rattle.std.proofs.Common.{refl, sym, subst, ◌∙◌, arith}
-use Rattle.pe_base.specs.Tree.Places.{IsCellPlace, corner}
-use Rattle.pe_stacks.specs.Sights.{record_of, corner_records}
-use Rattle.pe_hang.specs.InHand.{setting_of, family_in_hand}
-use Rattle.pe_adapt.specs.Ages.{GiveKinds}
-use Rattle.pe_adapt.proofs.InsideLaws.{kind-inside}
-use Rattle.pe_adapt.proofs.Fitting.{load_as-fits}
+use Rattle.std.proofs.Common.{Ok, Err}
+use Rattle.pe_adapt.specs.TouchCalls.{hand_of}
+use Rattle.pe_adapt.proofs.CountedTouches.{load-touched}
+use Rattle.pe_adapt.proofs.Alone.{alone-may-load}
 use Rattle.pe_adapt.proofs.corner.load_corner.Goals as goal
 
-pub load_aged-requires-clause-kinds : goal.load_aged-requires-clause-kinds
-load_aged-requires-clause-kinds g c =
-    let spot = c.args.spot.now in
-    let its = corner_records g.M.Mapping.numbers.vertex c.args.parents.now in
-    subst (λ d. GiveKinds d spot.traversal spot.cell its c.corner_ages-ages.result) (sym c.requires.dim)
-    (c.corner_ages-ages.ensures spot.cell its (subst (λ d. IsCellPlace d spot.cell) c.requires.dim c.requires.spot.cell) refl c.requires.spot.child (c.ages_of.ensures g.M.Mapping.numbers.vertex))
+pub load_in_slot-requires-clause-fits : goal.load_in_slot-requires-clause-fits
+load_in_slot-requires-clause-fits g c =
+    let old = hand_of (g.M.Mapping.held c.args.m.now) (g.DV.Depot.holds c.args.dv.now) (g.DV.Depot.room c.args.dv.now) c.args.parents.now c.args.parent.now c.at_first-progress.result in
+    let set = c.settings_at-settings.ensures in
+    alone-may-load g.M.Effects.rules g.M.Mapping.numbers c.settings_at-settings.result c.args.spot.now old c.requires.state.grid c.requires.spot c.requires.quiet c.requires.counts
+    c.at_first-progress.ensures set.input set.traversal c.requires.source
 
-pub load_aged-requires-clause-placed : goal.load_aged-requires-clause-placed
-load_aged-requires-clause-placed g c =
-    let dim = (g.M.Mapping.held c.args.m.now).dim in
-    let spot = c.args.spot.now in
-    let its = corner_records g.M.Mapping.numbers.vertex c.args.parents.now in
-    let is = c.requires.spot in
-    let kinds : GiveKinds dim spot.traversal spot.cell its c.corner_ages-ages.result = subst (λ d. GiveKinds d spot.traversal spot.cell its c.corner_ages-ages.result) (sym c.requires.dim)
-    (c.corner_ages-ages.ensures spot.cell its (subst (λ d. IsCellPlace d spot.cell) c.requires.dim c.requires.spot.cell) refl c.requires.spot.child (c.ages_of.ensures g.M.Mapping.numbers.vertex)) in
-    record {
-      inside = λ counts. kind-inside dim spot.traversal spot.cell spot.digits spot.corner its c.requires.state.grid is.cell is.deep is.digits is.child is.corner c.requires.quiet
-          (λ hangs. counts (kinds spot.corner is.corner ∙ hangs));
-    }
-
-pub load_aged-requires-clause-fits : goal.load_aged-requires-clause-fits
-load_aged-requires-clause-fits g c =
+pub returns-in-Ok-clause-follows : goal.returns-in-Ok-clause-follows
+returns-in-Ok-clause-follows g c = λ cells.
+    let rules = g.M.Effects.rules in
     let numbers = g.M.Mapping.numbers in
-    let old = g.M.Mapping.held c.args.m.now in
     let spot = c.args.spot.now in
-    let holds = g.DV.Depot.holds c.args.dv.now in
-    let set = setting_of g.M.Effects.rules old c.args.setup.now.start_level 0 spot.traversal in
-    load_as-fits set (record_of numbers.vertex) holds (family_in_hand numbers c.args.parents.now c.args.parent.now old.list) spot.input _ _ (corner old.dim spot.cell spot.corner)
-    (omega (arith, c.requires.counts.fresh)) (λ s. omega (arith, c.requires.counts.pops s)) c.requires.source
+    let settings = c.settings_at-settings.result in
+    let old = hand_of (g.M.Mapping.held c.args.m.now) (g.DV.Depot.holds c.args.dv.now) (g.DV.Depot.room c.args.dv.now) c.args.parents.now c.args.parent.now c.at_first-progress.result in
+    let call = c.load_in_slot.new in
+    let new = hand_of (g.M.Mapping.held call.m) (g.DV.Depot.holds call.dv) (g.DV.Depot.room call.dv) call.parents call.parent call.progress in
+    let set = c.settings_at-settings.ensures in
+    let may = alone-may-load rules numbers settings spot old c.requires.state.grid c.requires.spot c.requires.quiet c.requires.counts c.at_first-progress.ensures set.input set.traversal c.requires.source in
+    rw set.setup at (rw set.traversal at (rw set.input at (rw c.unwrap.ensures at (load-touched rules numbers settings spot.cell spot.corner (Ok tt) old new call.slot may c.in-Ok.ensures.goes cells))))
+
+pub returns-in-Err-clause-follows : goal.returns-in-Err-clause-follows
+returns-in-Err-clause-follows g c = λ cells.
+    let rules = g.M.Effects.rules in
+    let numbers = g.M.Mapping.numbers in
+    let spot = c.args.spot.now in
+    let settings = c.settings_at-settings.result in
+    let old = hand_of (g.M.Mapping.held c.args.m.now) (g.DV.Depot.holds c.args.dv.now) (g.DV.Depot.room c.args.dv.now) c.args.parents.now c.args.parent.now c.at_first-progress.result in
+    let call = c.load_in_slot.new in
+    let new = hand_of (g.M.Mapping.held call.m) (g.DV.Depot.holds call.dv) (g.DV.Depot.room call.dv) call.parents call.parent call.progress in
+    let set = c.settings_at-settings.ensures in
+    let may = alone-may-load rules numbers settings spot old c.requires.state.grid c.requires.spot c.requires.quiet c.requires.counts c.at_first-progress.ensures set.input set.traversal c.requires.source in
+    rw c.of_halt.ensures.failure (rw set.setup at (rw set.traversal at (rw set.input at (load-touched rules numbers settings spot.cell spot.corner (Err c.in-Err.halt) old new call.slot may c.in-Err.ensures.goes cells))))

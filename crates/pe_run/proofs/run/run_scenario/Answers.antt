@@ -1,7 +1,13 @@
 use Rattle.pe_scene.specs.SaidView.{said_of}
 use Rattle.pe_io.specs.Sink.{told_by}
-use Rattle.pe_run.proofs.Ending.{done_stops, halt_ends}
+use Rattle.pe_run.proofs.Ending.{done_ends, done_stops, halt_ends}
 use Rattle.pe_run.proofs.run.run_scenario.Goals as goal
+
+pub returns-in_ok-write_line-in-Ok-clause-run : goal.returns-in_ok-write_line-in-Ok-clause-run
+returns-in_ok-write_line-in-Ok-clause-run g c =
+    let tells = told_by g.K.Sink.text g.K.Sink.writes g.K.Sink.faults in
+    done_ends (said_of c.args.scenario.now) (tells c.args.sink.now) (tells c.traverse_all.new.sink) (tells c.write_line.new.sink)
+    (g.DV.Depot.holds c.traverse_all.new.vertices) (g.DC.Depot.holds c.traverse_all.new.cells) c.in-Ok.ensures.answer c.in_ok-write_line-in-Ok.ensures.told
 
 pub returns-in_err-write_line-in-Ok-clause-run : goal.returns-in_err-write_line-in-Ok-clause-run
 returns-in_err-write_line-in-Ok-clause-run g c =
