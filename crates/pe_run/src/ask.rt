@@ -1,5 +1,6 @@
 //! What the words ask for.
 ghost use Rattle.std.specs.Prelude.{◌≡◌, ◌+◌, ◌≤◌, Some, map, length, string_bytes, IfOk};
+ghost use Rattle.pe_base.specs.Limits.{scenario_traversals};
 ghost use Rattle.pe_scene.specs.SaidView.{said_of};
 ghost use Rattle.pe_run.specs.Words.{job_of};
 ghost use Rattle.pe_run.specs.Run.{names_of};
@@ -20,7 +21,7 @@ pub fn ask<H: Shelf>(alloc: Global, words: &[String], shelf: &mut H) -> Result<S
     ensures contents { H.contents shelf.new ≡ H.contents shelf.old }
     ensures faults { H.faults shelf.old ≤ H.faults shelf.new }
     ensures calls { H.calls shelf.new ≤ H.calls shelf.old + length (names_of (job_of (map string_bytes words.now))) }
-    ensures few { IfOk result (λ scenario. scenario.traversals ≤ 1000) }
+    ensures few { IfOk result (λ scenario. scenario.traversals ≤ scenario_traversals) }
 {
     match scenario_name(words) {
         Some(name) => ask_for(alloc, name, shelf),
@@ -35,7 +36,7 @@ fn ask_for<H: Shelf>(alloc: Global, name: &str, shelf: &mut H) -> Result<Scenari
     ensures contents { H.contents shelf.new ≡ H.contents shelf.old }
     ensures faults { H.faults shelf.old ≤ H.faults shelf.new }
     ensures calls { H.calls shelf.new ≤ H.calls shelf.old + 1 }
-    ensures few { IfOk result (λ scenario. scenario.traversals ≤ 1000) }
+    ensures few { IfOk result (λ scenario. scenario.traversals ≤ scenario_traversals) }
 {
     match shelf.get(name, SCENARIO_BYTES) {
         Got::Whole(bytes) => match read_scenario(alloc, &bytes) {

@@ -1,5 +1,6 @@
 // The run of the program, stage by stage.
 ghost use Rattle.std.specs.Prelude.{◌≡◌, ◌≢◌, ◌≤◌, ◌+◌, Result as Outcome, Err, Ok, OnOk, map, length, string_bytes};
+ghost use Rattle.pe_base.specs.Limits.{scenario_traversals};
 ghost use Rattle.pe_base.specs.Calls.Counters.{Rises};
 ghost use Rattle.pe_base.specs.Calls.Told.{Tells};
 ghost use Rattle.pe_io.specs.Sink.{told_by};
@@ -112,7 +113,7 @@ fn run_scenario<K: Sink, DV: Depot<Vertex<Fields>>, DC: Depot<CellRec<Fields>>>(
     vertices: &mut DV,
     cells: &mut DC,
 ) -> Result<Status, Interrupted>
-    requires few { scenario.now.traversals ≤ 1000 }
+    requires few { scenario.now.traversals ≤ scenario_traversals }
     requires vertices { DV.holds vertices.old ≡ new_holdings 10 }
     requires cells { DC.holds cells.old ≡ new_holdings 2 }
     ensures run { RunsTo (run_asked (Ok (said_of scenario.now))) (told_by K.text K.writes K.faults sink.old) (told_by K.text K.writes K.faults sink.new) result }

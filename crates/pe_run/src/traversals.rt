@@ -1,5 +1,6 @@
 //! The traversals of a scenario in turn.
 ghost use Rattle.std.specs.Prelude.{◌≡◌, ◌<◌, ◌≤◌, false, length, List};
+ghost use Rattle.pe_base.specs.Limits.{scenario_traversals};
 ghost use Rattle.pe_base.specs.Acts.Payloads.{zeros};
 ghost use Rattle.pe_base.specs.Tree.Dim.{IsDim};
 ghost use Rattle.pe_base.specs.Walk.Grids.{Grid as AGrid};
@@ -87,7 +88,7 @@ fn walk_once<K: Sink, DV: Depot<Vertex<Fields>>, DC: Depot<CellRec<Fields>>>(
     vertices: &mut DV,
     cells: &mut DC,
 ) -> Result<(Between, Tally), WalkStop>
-    requires stands { (made : List Traversal) × (grid : AGrid) × (length made < 1000)
+    requires stands { (made : List Traversal) × (grid : AGrid) × (length made < scenario_traversals)
         × Stands (said_of scenario.now) between (DV.holds vertices.old) (DC.holds cells.old) made grid }
     ensures answer { (made : List Traversal) (grid : AGrid) → Stands (said_of scenario.now) between (DV.holds vertices.old) (DC.holds cells.old) made grid
         → WalkAnswer (said_of scenario.now) grid made (told_by K.text K.writes K.faults sink.old) (told_by K.text K.writes K.faults sink.new)
@@ -113,7 +114,7 @@ fn traverse_more<K: Sink, DV: Depot<Vertex<Fields>>, DC: Depot<CellRec<Fields>>>
     vertices: &mut DV,
     cells: &mut DC,
 ) -> Result<Between, Halt>
-    requires stands { (made : List Traversal) × (grid : AGrid) × (length made < 1000)
+    requires stands { (made : List Traversal) × (grid : AGrid) × (length made < scenario_traversals)
         × Stands (said_of scenario.now) between (DV.holds vertices.old) (DC.holds cells.old) made grid }
     ensures answer { (made : List Traversal) (grid : AGrid) → Stands (said_of scenario.now) between (DV.holds vertices.old) (DC.holds cells.old) made grid
         → TraversalAnswer (said_of scenario.now) grid made (told_by K.text K.writes K.faults sink.old) (told_by K.text K.writes K.faults sink.new)
@@ -142,7 +143,7 @@ pub fn traverse_all<K: Sink, DV: Depot<Vertex<Fields>>, DC: Depot<CellRec<Fields
     vertices: &mut DV,
     cells: &mut DC,
 ) -> Result<(), Halt>
-    requires few { scenario.now.traversals ≤ 1000 }
+    requires few { scenario.now.traversals ≤ scenario_traversals }
     requires vertices { DV.holds vertices.old ≡ new_holdings 10 }
     requires cells { DC.holds cells.old ≡ new_holdings 2 }
     ensures answer { TraversalsAnswer (said_of scenario.now) (told_by K.text K.writes K.faults sink.old) (told_by K.text K.writes K.faults sink.new)

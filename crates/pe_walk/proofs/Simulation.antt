@@ -50,10 +50,14 @@ pub mod Traverses
 pub mod Tallied
 -- with how it closes
 pub mod Answers
+-- a walk does the same whatever lies beneath
+pub mod Beneath
 -- the law of a touch
 pub mod CornerLaw
 -- the law of a face
 pub mod FaceLaw
+-- a cell is walked without what lies beneath
+pub mod CutOff
 -- the children of the root may be walked one after another
 pub mod FirstCells
 -- and those of each cell that is entered

@@ -26,5 +26,7 @@ pub mod Visits
 pub mod GivenUp
 -- the touch of a corner on stacks and by address
 pub mod CornerLaw
+-- the walk of a cell, and what lies beneath
+pub mod Beneath
 -- the walk of a cell on stacks and by address
 pub mod FaceLaw

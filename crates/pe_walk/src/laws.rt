@@ -2,14 +2,16 @@
 //! `pe_order`, where each is explained. Each function but `walk_cell` has a law for its contract, and no body: the law holds
 //! of the definitions alone. They hold in two to four axes, both ways, at every depth. `walk_cell` walks one cell, and has
 //! the law of a face for its contract. `cells_in_turn` says that the children of the root may be walked by it, one after
-//! another, from the first event of a traversal on.
+//! another, from the first event of a traversal on, and so those of each cell that is entered.
 //!
-//! The values: `core_keeps` and `kinds_are_found` are what they need, and `stacks_are_addresses` says that a traversal on
+//! The values: `core_keeps` and `kinds_are_found` are what they need. `load_of_a_corner` and `store_of_a_corner` say that one
+//! touch on stacks is the one by address, and `stacks_are_addresses` says that a traversal on
 //! stacks is the walk by address; `traversals_are_exact` says what it counts and moves. So it is with the walk of one cell, by
 //! `law_of_a_face` and `cells_are_exact`.
 ghost use Rattle.pe_walk.specs.CoreKeeps.{CoreKeeps};
 ghost use Rattle.pe_walk.specs.Standing.{KindsAreFound};
 ghost use Rattle.pe_walk.specs.Gridded.{StacksAreAddresses};
+ghost use Rattle.pe_walk.specs.Beneath.{BeneathIsLeft, BeneathStays};
 ghost use Rattle.pe_walk.specs.CornerLaw.{LoadOfACorner, StoreOfACorner};
 ghost use Rattle.pe_walk.specs.FaceLaw.{LawOfAFace, CellsAreExact, FirstCellMayBeWalked, FirstChildMayBeWalked, NextCellMayBeWalked};
 ghost use Rattle.pe_walk.specs.Traversing.{CountsStay};
@@ -50,6 +52,13 @@ pub fn store_of_a_corner<E: Effects>()
 /// each stack, what it gives is, and all beneath is as it was. Each push leaves its stack short.
 pub fn law_of_a_face<E: Effects>()
     ensures same { LawOfAFace E.Plan }
+{}
+
+/// The walk of a cell does the same whatever lies beneath what it takes: it looks at no record there, and all of them are
+/// afterwards where they were, each with its values.
+pub fn beneath_is_left<E: Effects>()
+    ensures left { BeneathIsLeft E.Plan }
+    ensures stays { BeneathStays E.Plan }
 {}
 
 /// The walk of a cell on stacks counts and moves just what its loads and stores do, and no more is out in between than the

@@ -11,5 +11,5 @@ plain_wider : (axes : ℕ) (names : Names) → IsWider (reach_in (context_at eve
 plain_wider axes names = record { sort = refl; dim = λ placed. absurd cc; vertex = names.few_of_vertices; cell = names.few_of_cells; global = names.few_of_all }
 
 pub eval-answer-requires-clause-fits : goal.eval-answer-requires-clause-fits
-eval-answer-requires-clause-fits c =
-    c.fits_widen.ensures _ _ c.in_ok-body-2.body (plain_wider c.in_ok-ok_or.field-0 c.in_ok-names.names) c.in_ok-body-2.ensures.fits
+eval-answer-requires-clause-fits g c =
+    c.fits_widen.ensures _ _ c.in-Ok.body (plain_wider c.expect-plane.result c.names-names.result) c.in-Ok.ensures.fits
