@@ -2,6 +2,8 @@
 //! list changes with each vertex that it makes.
 #![tactic(auto)]
 
+#[cfg(test)]
+mod corners;
 mod mapping;
 #[cfg(test)]
 mod rows;

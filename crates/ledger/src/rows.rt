@@ -107,22 +107,27 @@ fn enter<M: Mapping>(
     }
 }
 
-// Four corners, of the kind that is kept and refined.
-fn square(dim: Dim, numbers: (Number, Number, Number, Number)) -> Corners<Number>
+/// Four corners of a state and a kind.
+pub(crate) fn square(
+    dim: Dim,
+    state: State,
+    kind: Kind,
+    numbers: (Number, Number, Number, Number),
+) -> Corners<Number>
     requires { dim ≡ 2 }
     ensures { IsFull 2 result }
 {
     let (a, b, c, d) = numbers;
     let mut corners = Corners::empty(dim);
-    corners.put(0, Vertex::new(State::Refined, Kind::Kept, a));
-    corners.put(1, Vertex::new(State::Refined, Kind::Kept, b));
-    corners.put(2, Vertex::new(State::Refined, Kind::Kept, c));
-    corners.put(3, Vertex::new(State::Refined, Kind::Kept, d));
+    corners.put(0, Vertex::new(state, kind, a));
+    corners.put(1, Vertex::new(state, kind, b));
+    corners.put(2, Vertex::new(state, kind, c));
+    corners.put(3, Vertex::new(state, kind, d));
     corners
 }
 
-// Takes the corners out, and tells the state of the first.
-fn opened(corners: Corners<Number>) -> State
+/// Takes the corners out, and tells the state of the first.
+pub(crate) fn opened(corners: Corners<Number>) -> State
     requires { IsFull 2 corners }
 {
     let mut corners = corners;
@@ -134,8 +139,10 @@ fn opened(corners: Corners<Number>) -> State
     first
 }
 
-fn four(ledger: &mut Ledger) -> Result<(Number, Number, Number, Number), AllocError>
-    ensures { ledger.new.dim ≡ ledger.old.dim }
+/// Four numbers.
+pub(crate) fn four(ledger: &mut Ledger) -> Result<(Number, Number, Number, Number), AllocError>
+    ensures dim { ledger.new.dim ≡ ledger.old.dim }
+    ensures greatest { ledger.new.greatest ≡ ledger.old.greatest }
 {
     Ok((
         ledger.fresh_v()?,
@@ -158,8 +165,8 @@ fn events_see_boxes(rt: HostRuntime) -> Result<(), Fail> {
     let mut parent = CellRec::new(ledger.fresh_c()?);
     let above = four(&mut ledger)?;
     let below = four(&mut ledger)?;
-    let mut parents = square(dim, above);
-    let mut corners = square(dim, below);
+    let mut parents = square(dim, State::Refined, Kind::Kept, above);
+    let mut corners = square(dim, State::Refined, Kind::Kept, below);
     assert!(rt; begin(&mut ledger, 1).is_ok());
     assert!(rt; welcome(&mut ledger, 1, &at, &mut vertex, &mut parents, &mut parent).is_ok());
     let kind = enter(
