@@ -7,7 +7,7 @@
 //! The values: `core_keeps` and `kinds_are_found` are what they need. `load_of_a_corner` and `store_of_a_corner` say that one
 //! touch on stacks is the one by address, and `stacks_are_addresses` says that a traversal on
 //! stacks is the walk by address; `traversals_are_exact` says what it counts and moves. So it is with the walk of one cell, by
-//! `law_of_a_face` and `cells_are_exact`.
+//! `law_of_a_face` and `cells_are_exact`, and `beneath_is_left` says that it leaves what lies beneath.
 ghost use Rattle.pe_walk.specs.CoreKeeps.{CoreKeeps};
 ghost use Rattle.pe_walk.specs.Standing.{KindsAreFound};
 ghost use Rattle.pe_walk.specs.Gridded.{StacksAreAddresses};
@@ -54,8 +54,8 @@ pub fn law_of_a_face<E: Effects>()
     ensures same { LawOfAFace E.Plan }
 {}
 
-/// The walk of a cell does the same whatever lies beneath what it takes: it looks at no record there, and all of them are
-/// afterwards where they were, each with its values.
+/// The walk of a cell does the same whatever lies beneath what it takes, and leaves all records there as they are. So, where a
+/// cell may be walked, the vertices beneath are afterwards where they were, each with its values.
 pub fn beneath_is_left<E: Effects>()
     ensures left { BeneathIsLeft E.Plan }
     ensures stays { BeneathStays E.Plan }

@@ -15,6 +15,7 @@ use Rattle.pe_walk.specs.Traversing.{Stores}
 use Rattle.pe_walk.proofs.AgeLaws.{length-seen}
 use Rattle.pe_walk.proofs.Simulation.Tallied.Alike.{is_seen, alike-sym}
 use Rattle.pe_walk.proofs.WalkedCells.{cell-fits, cell_answers, same-course}
+use Rattle.pe_walk.proofs.Simulation.CutOff.{beneath_stays}
 use Rattle.pe_walk.proofs.face.walk_cell.Goals as goal
 
 pub walk_cell-walked-requires-clause-kinds : goal.walk_cell-walked-requires-clause-kinds
@@ -73,6 +74,22 @@ returns-in-Ok-clause-answers g c moment can =
     cell_answers set moment begins can.may found before told after ends (alike-sym (is_seen (record_of numbers.vertex) before.vertices)) (alike-sym (is_seen (seen_cell numbers.cell) before.cells))
     (alike-sym (is_seen (record_of numbers.vertex) after.vertices)) (alike-sym (is_seen (seen_cell numbers.cell) after.cells)) c.requires.few failure_of (Ok (tt {0}))
     (subst (λ course. Follows course (λ (done : Unit {0}). ends) (Ok (tt {0})) found told) same c.in-Ok.ensures.follows)
+
+pub returns-in-Ok-clause-beneath : goal.returns-in-Ok-clause-beneath
+returns-in-Ok-clause-beneath g c moment can s =
+    let numbers = g.M.Mapping.numbers in
+    let held = g.M.Mapping.held c.args.m.now in
+    let begins = machine_in_hand numbers (g.DV.Depot.holds c.args.dv.now) (cells_on_stacks numbers (g.DC.Depot.holds c.args.dc.now)) c.args.parents.now c.args.parent.now held.list c.args.tally.now in
+    let ends = machine_in_hand numbers (g.DV.Depot.holds c.walk_cell-walked.new.dv) (cells_on_stacks numbers (g.DC.Depot.holds c.walk_cell-walked.new.dc)) c.walk_cell-walked.new.parents c.walk_cell-walked.new.parent
+    (g.M.Mapping.held c.walk_cell-walked.new.m).list c.walk_cell-walked.new.progress.tally in
+    let set = setting_of g.M.Effects.rules held c.args.setup.now.start_level c.args.setup.now.max_cells c.args.traversal in
+    let found = found_of held (held_by (g.DV.Depot.holds c.args.dv.now) (g.DV.Depot.room c.args.dv.now)) (held_by (g.DC.Depot.holds c.args.dc.now) (g.DC.Depot.room c.args.dc.now)) in
+    let told = (g.M.Mapping.held c.walk_cell-walked.new.m).told in
+    let same = same-course g.M.Effects.rules held c.args.setup.now c.settings_at-settings.result c.args.traversal c.args.input c.args.cell_input c.walked_cell-cell.result.place c.args.at.now begins moment
+    c.settings_at-settings.ensures.setup c.settings_at-settings.ensures.traversal c.settings_at-settings.ensures.input c.settings_at-settings.ensures.cell_input c.walked_cell-cell.ensures.place can.here in
+    let follows : Follows (machine.walk_cell set (ports_of moment.outset.outlook.swapped) (suc moment.levels) moment.stage.cell begins) (λ (done : Unit {0}). ends) (Ok (tt {0})) found told =
+    subst (λ course. Follows course (λ (done : Unit {0}). ends) (Ok (tt {0})) found told) same c.in-Ok.ensures.follows in
+    beneath_stays set moment begins ends can.may follows.ends s
 
 pub returns-in-Err-clause-answers : goal.returns-in-Err-clause-answers
 returns-in-Err-clause-answers g c moment can =
