@@ -2,9 +2,8 @@
 ghost use Rattle.std.specs.Prelude.{◌≡◌, IfSome};
 
 use crate::running::Repeats;
+use pe_base::limits::{MOST_CELLS, MOST_LEVELS};
 use pe_base::{Dim, Setup};
-
-const MOST_CELLS: u64 = 4_194_304;
 
 /// Which mapping walks which grid, and how often.
 #[derive(Clone, Copy)]
@@ -19,7 +18,7 @@ pub enum Job {
 
 fn setup_of(axes: u8, max_level: u8, start_level: u8) -> Option<Setup> {
     let dim = Dim::new(axes)?;
-    if start_level < 1 || max_level < start_level || 20 < max_level {
+    if start_level < 1 || max_level < start_level || MOST_LEVELS < max_level {
         return None;
     }
     Some(Setup {

@@ -5,6 +5,7 @@ ghost use Rattle.pe_mapping.specs.Held.{Keeps, max_level};
 ghost use Rattle.pe_walk.specs.Traversing.{HoldsNothing, HoldAGrid};
 
 use crate::times::Times;
+use pe_base::limits::MOST_TRAVERSALS;
 use pe_base::{Setup, Tally, Way};
 use pe_mapping::Mapping;
 use pe_stacks::{CellRec, Depot, Grid, VecDepot, Vertex};
@@ -15,8 +16,6 @@ use std::io::{ErrorKind, Print};
 use std::time::{Clock, Instant};
 
 const FEW: u64 = 1 << 60;
-
-const MOST_TRAVERSALS: u64 = 1_000_000_000;
 
 /// How often a grid is walked, and how many walks are behind before it has its size.
 #[derive(Clone, Copy)]

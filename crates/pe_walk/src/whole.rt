@@ -30,26 +30,6 @@ fn settings_of<C>(grid: &Grid<C>, setup: &Setup) -> Settings
     settings_at(setup, grid.finished() + 1, grid.input(), grid.cell_input())
 }
 
-// Nothing is counted yet.
-fn at_first(settings: &Settings) -> Progress
-    ensures { result.tally ≡ no_tally settings.now.traversal }
-{
-    Progress {
-        tally: Tally {
-            traversal: settings.traversal,
-            way: settings.way,
-            cells: 0,
-            read: 0,
-            written: 0,
-            created: 0,
-            destroyed: 0,
-            hanging: 0,
-            deepest: 0,
-        },
-        at: ROOT,
-    }
-}
-
 /// A traversal on stacks. On an error the root's record is lent and given up, and no record is out.
 pub(crate) fn traverse_stacks<M: Mapping, DV: Depot<Vertex<M::V>>, DC: Depot<CellRec<M::C>>>(
     grid: Grid<M::C>,
@@ -76,7 +56,7 @@ pub(crate) fn traverse_stacks<M: Mapping, DV: Depot<Vertex<M::V>>, DC: Depot<Cel
     ensures advanced { IfOk result (λ answer. IsAdvanced grid answer.0) }
 {
     let settings = settings_of(&grid, setup);
-    let mut progress = at_first(&settings);
+    let mut progress = Progress::at_first(&settings, ROOT);
     let mut walked = grid;
     match walk_stacks(&settings, &mut progress, m, dv, dc, walked.root_mut()) {
         Ok(()) => Ok((walked.advanced(), progress.tally)),

@@ -7,6 +7,7 @@ use crate::running::{Row, walks_as};
 use crate::{Plan, Planned, Scarce};
 use ledger::{Ledger, Number};
 use pe_adapt::WalkStop;
+use pe_base::limits::MOST_CELLS;
 use pe_base::{Dim, Place, Setup, Stop};
 use pe_mapping::Mapping;
 use pe_stacks::{CellRec, Depot, Shown, VecDepot, Vertex};
@@ -16,8 +17,6 @@ use std::test::Fail;
 
 /// The number of no event.
 const NEVER: u64 = u64::MAX;
-
-const MOST_CELLS: u64 = 4_194_304;
 
 /// More pushes than make a stack longer than it ever was, in any walk here.
 const MANY: u64 = 1000;

@@ -5,6 +5,7 @@ ghost use Rattle.pe_mapping.specs.Held.{Keeps, max_level};
 ghost use Rattle.pe_walk.specs.Traversing.{Stores, HoldsNothing, HoldAGrid};
 
 use pe_adapt::WalkStop;
+use pe_base::limits::MOST_TRAVERSALS;
 use pe_base::{Setup, Tally, Way};
 use pe_mapping::Mapping;
 use pe_stacks::{CellRec, Depot, Grid, Vertex};
@@ -94,7 +95,7 @@ where
     assert!(rt; holds_nothing(dv, 10) && holds_nothing(dc, 2));
     let mut grid = begun(root, setup, m, dv, dc);
     for row in rows {
-        assert!(rt; counts_few(dv) && counts_few(dc) && grid.finished() < 1_000_000_000);
+        assert!(rt; counts_few(dv) && counts_few(dc) && grid.finished() < MOST_TRAVERSALS);
         let wanted = tally_of(grid.finished() + 1, *row);
         match traverse(grid, setup, m, dv, dc) {
             Ok((next, tally)) => {
