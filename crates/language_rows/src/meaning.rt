@@ -101,7 +101,11 @@ const ROWS: &[(&str, &str, Result<(), Stop>)] = &[
 fn what_bodies_write(rt: HostRuntime) {
     for (text, lines, answer) in ROWS {
         let ran = run_text(&rt, rt.alloc(), text);
-        assert!(rt; ran.answer == *answer, "{:?} of {text}", ran.answer);
-        assert!(rt; ran.sink.text() == lines.as_bytes(), "{text}");
+        let told = (ran.sink.text(), ran.answer);
+        assert!(rt;
+            told == (lines.as_bytes(), *answer),
+            "{:?} of {text}",
+            ran.answer
+        );
     }
 }

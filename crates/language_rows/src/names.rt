@@ -14,16 +14,22 @@ const VERTEX: Event = Event::TouchVertexFirstTime;
 
 const CELL: Event = Event::EnterCell;
 
+fn text(rt: &impl Abort, alloc: Global, word: &str) -> Text {
+    Text::new(String::from_str(alloc, word).expect(rt, "memory"))
+}
+
 // One name of a field, and those that are spelled like first words.
 fn fields(rt: &impl Abort, alloc: Global, own: &str) -> List<Text>
     ensures { length result ≤ 8 }
 {
-    let mut names = Vec::new(alloc);
-    for word in [own, "t", "v", "cell", "x0"] {
-        let word = String::from_str(alloc, word).expect(rt, "memory");
-        names.push(Text::new(word)).expect(rt, "memory");
-    }
-    List::new(names)
+    let names = vec![in alloc;
+        text(rt, alloc, own),
+        text(rt, alloc, "t"),
+        text(rt, alloc, "v"),
+        text(rt, alloc, "cell"),
+        text(rt, alloc, "x0"),
+    ];
+    List::new(names.expect(rt, "memory"))
 }
 
 /// The names of the fields of all rows.
@@ -91,11 +97,15 @@ const ROWS: &[(Event, &str, Option<CheckFault>)] = &[
     ),
 ];
 
+fn check_row(rt: &impl Abort, alloc: Global, event: Event, text: &str, wanted: Option<CheckFault>) {
+    let fault = fault_of_text(rt, alloc, event, text);
+    assert!(rt; fault == wanted, "{fault:?} of {text} at {event:?}");
+}
+
 #[test]
 fn names_and_their_faults(rt: HostRuntime) {
     for (event, text, wanted) in ROWS {
-        let fault = fault_of_text(&rt, rt.alloc(), *event, text);
-        assert!(rt; fault == *wanted, "{fault:?} of {text}");
+        check_row(&rt, rt.alloc(), *event, text, *wanted);
     }
 }
 
@@ -111,9 +121,8 @@ const UNKNOWN: &[(&str, u64)] = &[
 fn unknown_at_every_event(rt: HostRuntime) {
     for event in Event::ALL {
         for (text, at) in UNKNOWN {
-            let fault = fault_of_text(&rt, rt.alloc(), event, text);
             let wanted = Some(CheckFault::UnknownName { at: *at });
-            assert!(rt; fault == wanted, "{fault:?} of {text} at {event:?}");
+            check_row(&rt, rt.alloc(), event, text, wanted);
         }
     }
 }
