@@ -192,23 +192,40 @@ fn document(alloc: Global, head: &str, row: &str) -> Result<String, AllocError> 
     Ok(text)
 }
 
+fn cause_of(fault: &SceneFault) -> &'static str {
+    match fault {
+        SceneFault::UnknownKey { .. } => "UnknownKey",
+        SceneFault::Missing { .. } => "Missing",
+        SceneFault::Shape { .. } => "Shape",
+        SceneFault::Range { .. } => "Range",
+        SceneFault::Name { .. } => "Name",
+        SceneFault::Body { .. } => "Body",
+        SceneFault::TooLong => "TooLong",
+        SceneFault::NotToml => "NotToml",
+        SceneFault::Memory => "Memory",
+    }
+}
+
 // A refusal as the rows have it.
 fn described(alloc: Global, fault: &SceneFault) -> Result<String, AllocError> {
-    let (cause, key) = match fault {
-        SceneFault::UnknownKey { key } => ("UnknownKey", key.as_str()),
-        SceneFault::Missing { key } => ("Missing", key.as_str()),
-        SceneFault::Shape { key } => ("Shape", key.as_str()),
-        SceneFault::Range { key } => ("Range", key.as_str()),
-        SceneFault::Name { key } => ("Name", key.as_str()),
+    let cause = cause_of(fault);
+    match fault {
+        SceneFault::UnknownKey { key }
+        | SceneFault::Missing { key }
+        | SceneFault::Shape { key }
+        | SceneFault::Range { key }
+        | SceneFault::Name { key } => {
+            let key = key.as_str();
+            format!(in alloc; "{cause} {key}")
+        }
         SceneFault::Body { event, at, cause } => {
             let name = event.name();
-            return format!(in alloc; "{cause:?} {name} {at}");
+            format!(in alloc; "{cause:?} {name} {at}")
         }
-        SceneFault::TooLong => return String::from_str(alloc, "TooLong"),
-        SceneFault::NotToml => return String::from_str(alloc, "NotToml"),
-        SceneFault::Memory => return String::from_str(alloc, "Memory"),
-    };
-    format!(in alloc; "{cause} {key}")
+        SceneFault::TooLong | SceneFault::NotToml | SceneFault::Memory => {
+            String::from_str(alloc, cause)
+        }
+    }
 }
 
 // What comes of some bytes, as the rows have it.
