@@ -5,7 +5,7 @@ use pe_base::{Dim, State};
 use pe_stream::HeaderField::{
     CellFields, Dim as DimField, GlobalFields, MaxLevel, Traversals, VertexFields, Zero,
 };
-use pe_stream::{Expect, HeaderField, StreamFault, read_stream, write_stream};
+use pe_stream::{Expect, HeaderField, Saved, StreamFault, read_stream, write_stream};
 use std::alloc::Global;
 use std::process::Abort;
 
@@ -67,22 +67,28 @@ fn length(expected: u128, found: u64) -> Option<StreamFault> {
     Some(StreamFault::Length { expected, found })
 }
 
+// Reads a stream, and writes it again: the bytes are the same.
+fn both_ways(rt: &impl Abort, alloc: Global, bytes: &[u8], expect: Option<&Expect>) -> Saved {
+    let saved = read_stream(alloc, bytes, expect).expect(rt, "a stream");
+    let again = write_stream(alloc, &saved).expect(rt, "memory");
+    assert!(rt; again.as_slice() == bytes);
+    saved
+}
+
 #[test]
 fn plain_both_ways(rt: HostRuntime) {
     let expect = expected(&rt);
-    let saved = read_stream(rt.alloc(), &plain(), Some(&expect)).expect(&rt, "a stream");
+    let saved = both_ways(&rt, rt.alloc(), &plain(), Some(&expect));
     let vertices = saved.vertices.as_slice();
     let cells = saved.cells.as_slice();
     assert!(rt; (saved.dim.axes(), saved.max_level, saved.finished) == (2, 5, 2));
     assert!(rt; (vertices.len(), saved.cell_count, cells.len()) == (29, 45, 0));
     assert!(rt; matches!(vertices, [first, ..] if first.state == State::Refined));
-    let bytes = write_stream(rt.alloc(), &saved).expect(&rt, "memory");
-    assert!(rt; bytes.as_slice() == plain().as_slice());
 }
 
 #[test]
 fn full_both_ways(rt: HostRuntime) {
-    let saved = read_stream(rt.alloc(), &FULL, None).expect(&rt, "a stream");
+    let saved = both_ways(&rt, rt.alloc(), &FULL, None);
     let vertices = saved.vertices.as_slice();
     let cells = saved.cells.as_slice();
     assert!(rt; vertices.len() == 2);
@@ -99,8 +105,6 @@ fn full_both_ways(rt: HostRuntime) {
     ];
     assert!(rt; states == [State::RefinementTriggered, State::EraseTriggered]);
     assert!(rt; numbers == [-2, 0, 1, 258, i64::MIN, -1, i64::MAX]);
-    let bytes = write_stream(rt.alloc(), &saved).expect(&rt, "memory");
-    assert!(rt; bytes.as_slice() == FULL.as_slice());
 }
 
 #[test]
@@ -246,7 +250,7 @@ fn states_of_each_vertex(rt: HostRuntime) {
 #[test]
 fn cells_without_fields(rt: HostRuntime) {
     let bytes = with_number(32, u64::MAX);
-    let saved = read_stream(rt.alloc(), &bytes, None).expect(&rt, "a stream");
+    let saved = both_ways(&rt, rt.alloc(), &bytes, None);
     let cells = saved.cells.as_slice();
     assert!(rt; (saved.cell_count, cells.len()) == (u64::MAX, 0));
 }
