@@ -17,7 +17,7 @@ pub mod Below
 -- what has a carrier inside is inside
 pub mod Carried
 -- what is foreseen of a grid is a foresight
-pub mod Outsets
+pub mod ForeseenStarts
 -- a cell is entered, and left
 pub mod Visits
 -- the core logs nothing

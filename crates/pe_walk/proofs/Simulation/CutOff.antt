@@ -28,8 +28,8 @@ use Rattle.pe_order.specs.Takings.{takes}
 use Rattle.pe_order.specs.Apart.{lies, occurs}
 use Rattle.pe_order.specs.Traffic.{OnlyCounting}
 use Rattle.pe_walk.specs.Machine as machine
-use Rattle.pe_walk.specs.Standing.{Outset, Stage, Stands, Fair, IsFair, IsWritten, IsIdle, IsLive, Owes, times}
-use Rattle.pe_walk.specs.Gridded.{ports_of}
+use Rattle.pe_walk.specs.Standing.{ForeseenStart, Stage, Stands, Fair, IsFair, IsWritten, IsIdle, IsLive, Owes, times}
+use Rattle.pe_walk.specs.Gridded.{stream_stacks_of}
 use Rattle.pe_walk.specs.FaceLaw.{Moment, MayWalk, CellEndsAlike}
 use Rattle.pe_walk.specs.Beneath.{StackOver, IsOver, LiesOver, WalksOver, KeepsBeneath, BeneathStays}
 use Rattle.pe_walk.proofs.Simulation.Leaves.{record_of, image_of}
@@ -126,10 +126,10 @@ at-removed_if test m (x ∷ xs) q = go (test x) refl (is_same x q) refl (at-remo
 -- # The moment without what lies beneath
 module _ {Plan : Type 0} (set : Setting Plan) (at : Moment) (m : Machine) (may : MayWalk set at m) where
   abbrev o : Outlook
-  o = at.outset.outlook
+  o = at.foreseen_start.outlook
 
-  abbrev e : Outset
-  e = at.outset
+  abbrev e : ForeseenStart
+  e = at.foreseen_start
 
   abbrev st : Stage
   st = at.stage
@@ -141,10 +141,10 @@ module _ {Plan : Type 0} (set : Setting Plan) (at : Moment) (m : Machine) (may :
   t = at.places
 
   abbrev tops : ℕ → List Place
-  tops s = takes at.outset.outlook at.levels s at.stage.cell
+  tops s = takes at.foreseen_start.outlook at.levels s at.stage.cell
 
   abbrev t0 : Tokens
-  t0 = record at.places { vertices = record at.places.vertices { stacks = cut_from (λ s. takes at.outset.outlook at.levels s at.stage.cell) 0 at.places.vertices.stacks } }
+  t0 = record at.places { vertices = record at.places.vertices { stacks = cut_from (λ s. takes at.foreseen_start.outlook at.levels s at.stage.cell) 0 at.places.vertices.stacks } }
 
   abbrev below : List Place
   below = below_from at.beneath 0 at.places.vertices.stacks
@@ -312,7 +312,7 @@ module _ {Plan : Type 0} (set : Setting Plan) (at : Moment) (m : Machine) (may :
 
   may_walk : MayWalk set without above
   may_walk = record {
-    outset = may.outset;
+    foreseen_start = may.foreseen_start;
     stage = may.stage;
     unloaded = may.unloaded;
     deep = may.deep;
@@ -363,17 +363,17 @@ module _ {Plan : Type 0} (set : Setting Plan) (at : Moment) (m : Machine) (may :
     tally = refl;
   }
 
-  stays : (after : Machine) → (machine.walk_cell set (ports_of o.swapped) (suc at.levels) st.cell m).ending ≡ done after → (s : ℕ) → KeepsBeneath (length (at.beneath s)) (items_at m.vertices s) (items_at after.vertices s)
+  stays : (after : Machine) → (machine.walk_cell set (stream_stacks_of o.swapped) (suc at.levels) st.cell m).ending ≡ done after → (s : ℕ) → KeepsBeneath (length (at.beneath s)) (items_at m.vertices s) (items_at after.vertices s)
   stays after ends s =
-      go (model.walk_cell set at.levels st.parent st.cell w0).ending (machine.walk_cell set (ports_of o.swapped) (suc at.levels) st.cell above).ending refl (law_of_a_face set without above may_walk).ending
+      go (model.walk_cell set at.levels st.parent st.cell w0).ending (machine.walk_cell set (stream_stacks_of o.swapped) (suc at.levels) st.cell above).ending refl (law_of_a_face set without above may_walk).ending
     where
       over : LiesOver beneath (λ s. []) above m
       over = subst (LiesOver beneath (λ s. []) above) may.image lies_over
 
-      walks : WalksOver set (ports_of o.swapped) (suc at.levels) st.cell beneath (λ s. []) above m
-      walks = beneath_is_left set (ports_of o.swapped) (suc at.levels) st.cell beneath (λ s. []) above m over
+      walks : WalksOver set (stream_stacks_of o.swapped) (suc at.levels) st.cell beneath (λ s. []) above m
+      walks = beneath_is_left set (stream_stacks_of o.swapped) (suc at.levels) st.cell beneath (λ s. []) above m over
 
-      go : (a : Ending Working) (b : Ending Machine) → (machine.walk_cell set (ports_of o.swapped) (suc at.levels) st.cell above).ending ≡ b → CellEndsAlike set without a b
+      go : (a : Ending Working) (b : Ending Machine) → (machine.walk_cell set (stream_stacks_of o.swapped) (suc at.levels) st.cell above).ending ≡ b → CellEndsAlike set without a b
           → KeepsBeneath (length (at.beneath s)) (items_at m.vertices s) (items_at after.vertices s)
       go (done x) (done top) k alike =
           let rest = walks.walks top k in

@@ -4,7 +4,7 @@ use Rattle.pe_base.specs.Tree.Places.{IsDigits, child_at}
 use Rattle.pe_base.specs.Walk.Course.{each}
 use Rattle.pe_stacks.specs.Corners.{no_vertices}
 use Rattle.pe_base.specs.Calls.Follows.{Leads}
-use Rattle.pe_adapt.specs.WalkedCells.{ports_of}
+use Rattle.pe_adapt.specs.WalkedCells.{stream_stacks_of}
 use Rattle.pe_walk.specs.Machine.{walk_cell}
 use Rattle.pe_walk.specs.Children.{IsChild}
 use Rattle.pe_walk.specs.Visits.{walk_children, hands_of, machine_of, found_in, WalkLeft}
@@ -34,8 +34,8 @@ invariant-walk_children-loop-digits g l =
     let set = set_in rules s before in
     let coming = map (child_at l.above.place) l.digits-iterator in
     record {
-      leads : Leads (walk_children set (ports_of s) l.levels l.above.place (machine_of numbers before))
-          (found_in before) (found_in now) (each (walk_cell set (ports_of s) l.levels) coming (machine_of numbers now));
+      leads : Leads (walk_children set (stream_stacks_of s) l.levels l.above.place (machine_of numbers before))
+          (found_in before) (found_in now) (each (walk_cell set (stream_stacks_of s) l.levels) coming (machine_of numbers now));
       digits : All (IsDigits s.setup.dim) l.digits-iterator;
       child : IsChild s.setup.dim s l.above l.child;
       left : WalkLeft numbers s 0 (Ok tt) before now;
