@@ -2,7 +2,7 @@
 ghost use Rattle.std.specs.Prelude.{◌≡◌, ◌^◌, [], ◌∷◌};
 
 use pe_base::{Digits, Dim, Place, Way};
-use pe_curve::{Cursor, child};
+use pe_curve::{Cursor, Step, child};
 
 // The children of the root in the plane, in the order of the curve.
 const PLANE: [(u64, u64); 9] = [
@@ -90,4 +90,18 @@ fn each_step_crosses_a_face(rt: HostRuntime) {
             }
         }
     }
+}
+
+#[test]
+fn the_first_column_of_the_plane_and_the_turn(rt: HostRuntime) {
+    let dim = Dim::new(2).expect(&rt, "a dimension");
+    let mut step = Step::first(dim, Way::Forward, 0);
+    let up = step.advance(2);
+    let top = step.advance(2);
+    let turn = step.advance(2);
+    let next = Step {
+        digits: Digits { k: [1, 2, 0, 0] },
+        ups: [true, false, true, true],
+    };
+    assert!(rt; ((up, top, turn), step) == ((1, 1, 0), next));
 }

@@ -11,14 +11,13 @@ ghost use Rattle.pe_adapt.specs.WalkedCells.{stream_stacks_of, IsWalked};
 ghost use Rattle.pe_walk.specs.Children.{IsAbove};
 ghost use Rattle.pe_walk.specs.Visits.{walk_children, walk_below, visit_cell, with_family, MayWalkCells, Walks, WalkLeft, hands_of};
 
-use crate::child::{Above, child_of, move_to};
+use crate::child::{Above, advance, first_child};
 use crate::corners::{load_corners, store_corners};
 use crate::count::count_cell;
 use crate::hand::give_up_from;
-use crate::order::cursor_in;
 use crate::visit::{enter_cell, leave_cell};
-use pe_adapt::{Inner, Progress, Settings, WalkedCell, ages_of};
-use pe_base::{Digits, Kind};
+use pe_adapt::{Inner, Progress, Settings, WalkedCell, ages_of, dim_in};
+use pe_base::Kind;
 use pe_mapping::Mapping;
 use pe_stacks::{CellRec, Corners, Depot, Vertex};
 use pe_states::kind_of;
@@ -222,9 +221,9 @@ pub(crate) fn walk_children<
         (hands_of (M.held m.new) (DV.holds dv.new) (DV.room dv.new) (DC.holds dc.new) (DC.room dc.new) parents.new parent.new progress.new) }
 {
     let mut corners = Corners::empty(settings.setup.dim);
-    let mut child = child_of::<AXES>(settings, above, Digits { k: [0; 4] });
-    for digits in cursor_in::<AXES>(settings, above.state.flips()) {
-        move_to::<AXES>(settings, above, &mut child, digits);
+    let mut child = first_child::<AXES>(settings, above);
+    let parts = dim_in::<AXES>(settings).parts();
+    for n in 0..parts {
         let cell = &child.cell;
         match walk_cell::<AXES, M, DV, DC>(
             settings,
@@ -244,6 +243,9 @@ pub(crate) fn walk_children<
                 corners.close();
                 return Err(halt);
             }
+        }
+        if n + 1 < parts {
+            advance::<AXES>(settings, above, &mut child);
         }
     }
     corners.close();

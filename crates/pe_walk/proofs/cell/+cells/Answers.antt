@@ -1,9 +1,8 @@
-use Rattle.std.proofs.Common.{◌≡◌, suc, ◌+◌, ◌-◌, ◌^◌, ◌<◌, ◌≤◌, List, [], map, Ok, Err, refl, sym, ap, subst, ◌∙◌, rules as the_rules, arith}
-use Rattle.std.specs.Prelude.{All}
+use Rattle.std.proofs.Common.{◌≡◌, ℕ, suc, ◌+◌, ◌-◌, ◌^◌, ◌<◌, ◌≤◌, List, [], map, drop, length, Ok, Err, refl, sym, ap, subst, ◌∙◌, rules as the_rules, arith}
 use Rattle.pe_base.specs.declared.place.Place.{Place}
 use Rattle.pe_base.specs.declared.tally.Tally.{Tally}
-use Rattle.pe_base.specs.Tree.Places.{IsDigits, child_at}
-use Rattle.pe_base.specs.Tree.Curve.{children}
+use Rattle.pe_base.specs.Tree.Places.{child_at}
+use Rattle.pe_base.specs.Tree.Curve.{children, child_digits, flips}
 use Rattle.pe_base.specs.Tree.Ways.{way_of}
 use Rattle.pe_base.specs.Acts.Effects.{VertexRecord}
 use Rattle.pe_base.specs.Walk.Course.{Course, and_then, each}
@@ -25,7 +24,7 @@ use Rattle.pe_adapt.specs.Ages.{AreAgesOf, GiveKinds}
 use Rattle.pe_adapt.specs.WalkedCells.{IsWalked, stream_stacks_of, failure_in}
 use Rattle.pe_adapt.specs.CountedTouches.{Machine}
 use Rattle.pe_walk.specs.Machine.{kind_among, enter_cell, outside, walk_cell}
-use Rattle.pe_walk.specs.Children.{IsAbove}
+use Rattle.pe_walk.specs.Children.{IsAbove, IsChild}
 use Rattle.pe_walk.specs.Visits.{walk_children, walk_below, visit_cell, with_family, hands_of, machine_of, found_in, MayWalkCells}
 use Rattle.pe_walk.proofs.Walking.{set_in, Goes, goes-set, runs-may, runs-then, runs-err, runs-as, left-then}
 use Rattle.pe_walk.proofs.AgeLaws.{kind_among-kept, kind_among-deep, kind_below-ages, any-kind, length-seen, few-corners, ages-kept}
@@ -33,8 +32,12 @@ use Rattle.pe_walk.proofs.Children.{child-walked}
 use Rattle.pe_walk.proofs.Below.{below-hanging, below-walked, below-greatest}
 use Rattle.pe_walk.proofs.AnyCells.{load_all-any_cells, store_all-any_cells}
 use Rattle.pe_walk.proofs.CellWalks.{counting, loading, storing, visiting, entering, below, leaving, after_enter, after_load, after_count, visit-grouped, counts-to}
-use Rattle.pe_walk.proofs.ChildWalks.{all-children, all-tail, child-walk, child-may, child-next, child-err}
+use Rattle.pe_walk.proofs.ChildWalks.{all-children, child-walk, child-may, child-next, child-err, children-end}
+use Rattle.pe_curve.proofs.DigitLaws.{drop-slice_get}
+use Rattle.pe_base.proofs.Tree.CurveLaws.{length-child_digits}
+use Rattle.std.proofs.lemmas.List.{drop_all}
 use Rattle.pe_walk.proofs.cell.+cells.Goals as goal
+use Rattle.pe_walk.proofs.cell.+cells.Goals.{walk_children-then-n-parts, walk_children-else-n-parts}
 
 pub visit_cell-enter_cell-requires-clause-fits : goal.visit_cell-enter_cell-requires-clause-fits
 visit_cell-enter_cell-requires-clause-fits g t c =
@@ -481,8 +484,8 @@ walk_cell-returns-in-Err-visit_cell-clause-follows g t c =
     (runs-as rules s (λ set. and_then (visits set) (storing streams levels place set)) (λ set. after_load streams levels place set it) after (Err failure) loaded new (visit-grouped streams levels place (set_in rules s loaded) it)
     (runs-err rules s visits (storing streams levels place) to_visit after failure loaded new c.in-Err-visit_cell.ensures.follows)))
 
-pub walk_children-loop-digits-init : goal.walk_children-loop-digits-init
-walk_children-loop-digits-init g t c =
+pub walk_children-loop-n-init : goal.walk_children-loop-n-init
+walk_children-loop-n-init g t c =
     let numbers = g.M.Mapping.numbers in
     let rules = g.M.Effects.rules in
     let s = c.args.settings.now in
@@ -494,15 +497,11 @@ walk_children-loop-digits-init g t c =
     let old = hands_of (g.M.Mapping.held c.args.m.now) (g.DV.Depot.holds c.args.dv.now) (g.DV.Depot.room c.args.dv.now) (g.DC.Depot.holds c.args.dc.now) (g.DC.Depot.room c.args.dc.now) c.args.parents.now c.args.parent.now c.args.progress.now in
     let set = set_in rules s old in
     let whole = walk_children set streams levels place (machine_of numbers old) in
-    let kept = c.into_iter-digits-iterator.ensures.into_iter_gives in
-    let same : IsAbove axes s above = subst (λ d. IsAbove d s above) c.requires.may.dim c.requires.above in
-    let all : map (child_at place) c.into_iter-digits-iterator.result ≡ children old.held.dim (way_of s.traversal) place =
-    all-children axes (way_of s.traversal) s.way place c.flips.result c.cursor_in-digits-items.result c.into_iter-digits-iterator.result s.turned kept c.cursor_in-digits-items.ensures.digits (c.flips.ensures axes s.way place same.place same.state)
-    ∙ ap (λ d. children d (way_of s.traversal) place) (sym c.requires.may.dim) in
+    let all : map (child_at place) (child_digits axes s.way (flips axes place.pos)) ≡ children old.held.dim (way_of s.traversal) place =
+    all-children axes (way_of s.traversal) s.way place s.turned ∙ ap (λ d. children d (way_of s.traversal) place) (sym c.requires.may.dim) in
     record {
       leads = subst (λ cells. Leads whole (found_in old) (found_in old) (each (walk_cell set streams levels) cells (machine_of numbers old))) (sym all) (leads_start whole (found_in old));
-      digits = subst (All (IsDigits axes)) (sym kept) c.cursor_in-digits-items.ensures.places;
-      child = c.child_of-child.ensures.child;
+      child = λ some. c.first_child-child.ensures;
       left = record {
         vertices = record { count = refl; keeps = λ n. omega arith; out = omega arith };
         cells = record { count = refl; keeps = λ n. omega arith; out = omega arith };
@@ -513,7 +512,7 @@ walk_children-loop-digits-init g t c =
     }
 
 pub walk_children-walk_cell-requires : goal.walk_children-walk_cell-requires
-walk_children-walk_cell-requires g t c κs within =
+walk_children-walk_cell-requires g t c κs lent =
     let numbers = g.M.Mapping.numbers in
     let rules = g.M.Effects.rules in
     let s = c.args.settings.now in
@@ -525,23 +524,27 @@ walk_children-walk_cell-requires g t c κs within =
     let old = hands_of (g.M.Mapping.held c.args.m.now) (g.DV.Depot.holds c.args.dv.now) (g.DV.Depot.room c.args.dv.now) (g.DC.Depot.holds c.args.dc.now) (g.DC.Depot.room c.args.dc.now) c.args.parents.now c.args.parent.now c.args.progress.now in
     let set = set_in rules s old in
     let whole = walk_children set streams levels place (machine_of numbers old) in
-    let now = hands_of (g.M.Mapping.held c.loop-digits.m) (g.DV.Depot.holds c.loop-digits.dv) (g.DV.Depot.room c.loop-digits.dv) (g.DC.Depot.holds c.loop-digits.dc) (g.DC.Depot.room c.loop-digits.dc) c.loop-digits.parents c.loop-digits.parent c.loop-digits.progress in
-    let is = c.loop-digits.invariant in
+    let now = hands_of (g.M.Mapping.held c.loop-n.m) (g.DV.Depot.holds c.loop-n.dv) (g.DV.Depot.room c.loop-n.dv) (g.DC.Depot.holds c.loop-n.dc) (g.DC.Depot.room c.loop-n.dc) c.loop-n.parents c.loop-n.parent c.loop-n.progress in
+    let is = c.loop-n.invariant in
     let goes : Goes rules s old now = record { keeps = is.left.stays.keeps; vertices = is.left.vertices.keeps; cells = is.left.cells.keeps } in
-    let child = c.move_to.ensures.child in
-    let there : c.move_to.new.child.cell.place ≡ child_at place c.in-Some.digits = child.place ∙ ap (child_at place) c.move_to.ensures.digits in
-    let same = child-walk streams set (set_in rules s now) levels (child_at place c.in-Some.digits) c.move_to.new.child.cell.place (machine_of numbers now) (goes-set rules s old now goes) c.requires.some there in
+    let n = c.loop-n.n in
+    let order = child_digits axes s.way (flips axes place.pos) in
+    let within : n < 3 ^ axes = omega (arith, c.loop-n-test.true, c.parts-parts.ensures.value ∙ ap (λ (d : ℕ). 3 ^ d) c.dim_in.ensures) in
+    let child = is.child within in
+    let digits = c.loop-n.child.step.digits in
+    let first = drop-slice_get order n digits child.step.nth in
+    let same = child-walk streams set (set_in rules s now) levels (child_at place digits) c.loop-n.child.cell.place (machine_of numbers now) (goes-set rules s old now goes) c.requires.some child.place in
     let dim : now.held.dim ≡ axes = is.left.stays.keeps.dim ∙ c.requires.may.dim in
-    let aged : AreAgesOf axes (corner_records numbers.vertex c.loop-digits.parents) above.ages =
-    subst (λ d. AreAgesOf d (corner_records numbers.vertex c.loop-digits.parents) above.ages) c.requires.may.dim (ages-kept (corner_records numbers.vertex c.args.parents.now) (corner_records numbers.vertex c.loop-digits.parents) is.left.stays.parents.ages old.held.dim above.ages c.requires.aged) in
-    let level : c.move_to.new.child.cell.place.level ≡ place.level + 1 = ap (λ (p : Place). p.level) there in
-    let walked : IsWalked axes s c.move_to.new.child.cell = child-walked axes s above c.move_to.new.child (subst (λ d. IsAbove d s above) c.requires.may.dim c.requires.above) child in
-    let kinds = child.kinds (corner_records numbers.vertex c.loop-digits.parents) aged in
-    let kind = kind_among-kept (corner_records numbers.vertex c.args.parents.now) (corner_records numbers.vertex c.loop-digits.parents) is.left.stays.parents.ages s.traversal c.move_to.new.child.cell.place ∙ c.requires.kind c.move_to.new.child.cell.place level in
-    let may = child-may streams set levels place whole (found_in old) (found_in now) c.loop-digits.digits-iterator (machine_of numbers now) c.in-Some.digits c.next.new.self c.in-Some.ensures.steps is.leads c.requires.may.fits in
-    let walked' = subst (λ d. IsWalked d s c.move_to.new.child.cell) (sym dim) walked in
-    let kinds' = subst (λ d. GiveKinds d s.traversal c.move_to.new.child.cell.place (corner_records numbers.vertex c.loop-digits.parents) c.move_to.new.child.cell.ages) (sym dim) kinds in
-    let ready : MayWalkCells rules numbers s c.move_to.new.child.cell.place.level (levels - 1) (λ set. walk_cell set streams (suc (levels - 1)) c.move_to.new.child.cell.place) now =
+    let aged : AreAgesOf axes (corner_records numbers.vertex c.loop-n.parents) above.ages =
+    subst (λ d. AreAgesOf d (corner_records numbers.vertex c.loop-n.parents) above.ages) c.requires.may.dim (ages-kept (corner_records numbers.vertex c.args.parents.now) (corner_records numbers.vertex c.loop-n.parents) is.left.stays.parents.ages old.held.dim above.ages c.requires.aged) in
+    let level : c.loop-n.child.cell.place.level ≡ place.level + 1 = ap (λ (p : Place). p.level) child.place in
+    let walked : IsWalked axes s c.loop-n.child.cell = child-walked axes s above n c.loop-n.child (subst (λ d. IsAbove d s above) c.requires.may.dim c.requires.above) child in
+    let kinds = child.kinds (corner_records numbers.vertex c.loop-n.parents) aged in
+    let kind = kind_among-kept (corner_records numbers.vertex c.args.parents.now) (corner_records numbers.vertex c.loop-n.parents) is.left.stays.parents.ages s.traversal c.loop-n.child.cell.place ∙ c.requires.kind c.loop-n.child.cell.place level in
+    let may = child-may streams set levels place whole (found_in old) (found_in now) (drop n order) (machine_of numbers now) digits (drop (n + 1) order) first is.leads c.requires.may.fits in
+    let walked' = subst (λ d. IsWalked d s c.loop-n.child.cell) (sym dim) walked in
+    let kinds' = subst (λ d. GiveKinds d s.traversal c.loop-n.child.cell.place (corner_records numbers.vertex c.loop-n.parents) c.loop-n.child.cell.ages) (sym dim) kinds in
+    let ready : MayWalkCells rules numbers s c.loop-n.child.cell.place.level (levels - 1) (λ set. walk_cell set streams (suc (levels - 1)) c.loop-n.child.cell.place) now =
     record {
       dim = dim;
       levels = omega (arith, level, c.requires.may.levels, c.requires.some);
@@ -549,10 +552,10 @@ walk_children-walk_cell-requires g t c κs within =
       few = omega (arith, is.left.counts.few);
       fits = subst Fits (sym same) may;
     } in
-    (search the_rules, (search the_rules, (within.0, (within.1.0, (within.1.1.0, (within.1.1.1.0, (within.1.1.1.1.0, (within.1.1.1.1.1, (c.requires.axes, (ready, (walked', (kinds', (kind, is.empty ∙ ap no_vertices (sym dim))))))))))))))
+    (search the_rules, (search the_rules, (lent.0, (lent.1.0, (lent.1.1.0, (lent.1.1.1.0, (lent.1.1.1.1.0, (lent.1.1.1.1.1, (c.requires.axes, (ready, (walked', (kinds', (kind, is.empty ∙ ap no_vertices (sym dim))))))))))))))
 
-pub walk_children-loop-digits-preserved : goal.walk_children-loop-digits-preserved
-walk_children-loop-digits-preserved g t c =
+pub walk_children-loop-n-preserved : goal.walk_children-loop-n-preserved
+walk_children-loop-n-preserved g t c =
     let numbers = g.M.Mapping.numbers in
     let rules = g.M.Effects.rules in
     let s = c.args.settings.now in
@@ -564,22 +567,28 @@ walk_children-loop-digits-preserved g t c =
     let old = hands_of (g.M.Mapping.held c.args.m.now) (g.DV.Depot.holds c.args.dv.now) (g.DV.Depot.room c.args.dv.now) (g.DC.Depot.holds c.args.dc.now) (g.DC.Depot.room c.args.dc.now) c.args.parents.now c.args.parent.now c.args.progress.now in
     let set = set_in rules s old in
     let whole = walk_children set streams levels place (machine_of numbers old) in
-    let now = hands_of (g.M.Mapping.held c.loop-digits.m) (g.DV.Depot.holds c.loop-digits.dv) (g.DV.Depot.room c.loop-digits.dv) (g.DC.Depot.holds c.loop-digits.dc) (g.DC.Depot.room c.loop-digits.dc) c.loop-digits.parents c.loop-digits.parent c.loop-digits.progress in
+    let now = hands_of (g.M.Mapping.held c.loop-n.m) (g.DV.Depot.holds c.loop-n.dv) (g.DV.Depot.room c.loop-n.dv) (g.DC.Depot.holds c.loop-n.dc) (g.DC.Depot.room c.loop-n.dc) c.loop-n.parents c.loop-n.parent c.loop-n.progress in
     let new = hands_of (g.M.Mapping.held c.walk_cell.new.m) (g.DV.Depot.holds c.walk_cell.new.dv) (g.DV.Depot.room c.walk_cell.new.dv) (g.DC.Depot.holds c.walk_cell.new.dc) (g.DC.Depot.room c.walk_cell.new.dc) c.walk_cell.new.parents c.walk_cell.new.parent c.walk_cell.new.progress in
-    let is = c.loop-digits.invariant in
+    let is = c.loop-n.invariant in
     let goes : Goes rules s old now = record { keeps = is.left.stays.keeps; vertices = is.left.vertices.keeps; cells = is.left.cells.keeps } in
-    let child = c.move_to.ensures.child in
-    let there : c.move_to.new.child.cell.place ≡ child_at place c.in-Some.digits = child.place ∙ ap (child_at place) c.move_to.ensures.digits in
-    let same = child-walk streams set (set_in rules s now) levels (child_at place c.in-Some.digits) c.move_to.new.child.cell.place (machine_of numbers now) (goes-set rules s old now goes) c.requires.some there in
+    let n = c.loop-n.n in
+    let order = child_digits axes s.way (flips axes place.pos) in
+    let within : n < 3 ^ axes = omega (arith, c.loop-n-test.true, c.parts-parts.ensures.value ∙ ap (λ (d : ℕ). 3 ^ d) c.dim_in.ensures) in
+    let child = is.child within in
+    let digits = c.loop-n.child.step.digits in
+    let first = drop-slice_get order n digits child.step.nth in
+    let same = child-walk streams set (set_in rules s now) levels (child_at place digits) c.loop-n.child.cell.place (machine_of numbers now) (goes-set rules s old now goes) c.requires.some child.place in
     let dim : now.held.dim ≡ axes = is.left.stays.keeps.dim ∙ c.requires.may.dim in
     let done = c.in-Ok.ensures in
     record {
-      leads = child-next streams set levels place whole (found_in old) (found_in now) c.loop-digits.digits-iterator (machine_of numbers now) c.in-Some.digits c.next.new.self c.in-Some.ensures.steps is.leads
+      leads = child-next streams set levels place whole (found_in old) (found_in now) (drop n order) (machine_of numbers now) digits (drop (n + 1) order) first is.leads
           (found_in new) (machine_of numbers new)
           (subst (λ course. Follows course (λ (u : Unit {0}). machine_of numbers new) (Ok tt) (found_in now) new.held.told) same done.follows)
           (record { sure = done.left.stays.keeps.sure; vertices = done.left.vertices.keeps; cells = done.left.cells.keeps });
-      digits = all-tail (IsDigits axes) c.in-Some.digits c.next.new.self c.loop-digits.digits-iterator c.in-Some.ensures.steps is.digits;
-      child = child;
+      child = λ more. elim c.if-n-parts.branch [
+        | walk_children-then-n-parts w ↦ subst (λ next. IsChild axes s above (n + 1) next) (sym w.child-is) (w.advance.ensures n more child)
+        | walk_children-else-n-parts w ↦ absurd (omega (arith, more, w.if-n-parts, c.parts-parts.ensures.value ∙ ap (λ (d : ℕ). 3 ^ d) c.dim_in.ensures))
+      ];
       left = left-then is.left done.left;
       empty = done.emptied ∙ ap no_vertices dim;
     }
@@ -597,16 +606,20 @@ walk_children-returns-in-Err-clause-follows g t c =
     let old = hands_of (g.M.Mapping.held c.args.m.now) (g.DV.Depot.holds c.args.dv.now) (g.DV.Depot.room c.args.dv.now) (g.DC.Depot.holds c.args.dc.now) (g.DC.Depot.room c.args.dc.now) c.args.parents.now c.args.parent.now c.args.progress.now in
     let set = set_in rules s old in
     let whole = walk_children set streams levels place (machine_of numbers old) in
-    let now = hands_of (g.M.Mapping.held c.loop-digits.m) (g.DV.Depot.holds c.loop-digits.dv) (g.DV.Depot.room c.loop-digits.dv) (g.DC.Depot.holds c.loop-digits.dc) (g.DC.Depot.room c.loop-digits.dc) c.loop-digits.parents c.loop-digits.parent c.loop-digits.progress in
+    let now = hands_of (g.M.Mapping.held c.loop-n.m) (g.DV.Depot.holds c.loop-n.dv) (g.DV.Depot.room c.loop-n.dv) (g.DC.Depot.holds c.loop-n.dc) (g.DC.Depot.room c.loop-n.dc) c.loop-n.parents c.loop-n.parent c.loop-n.progress in
     let new = hands_of (g.M.Mapping.held c.walk_cell.new.m) (g.DV.Depot.holds c.walk_cell.new.dv) (g.DV.Depot.room c.walk_cell.new.dv) (g.DC.Depot.holds c.walk_cell.new.dc) (g.DC.Depot.room c.walk_cell.new.dc) c.walk_cell.new.parents c.walk_cell.new.parent c.walk_cell.new.progress in
-    let is = c.loop-digits.invariant in
+    let is = c.loop-n.invariant in
     let goes : Goes rules s old now = record { keeps = is.left.stays.keeps; vertices = is.left.vertices.keeps; cells = is.left.cells.keeps } in
-    let child = c.move_to.ensures.child in
-    let there : c.move_to.new.child.cell.place ≡ child_at place c.in-Some.digits = child.place ∙ ap (child_at place) c.move_to.ensures.digits in
-    let same = child-walk streams set (set_in rules s now) levels (child_at place c.in-Some.digits) c.move_to.new.child.cell.place (machine_of numbers now) (goes-set rules s old now goes) c.requires.some there in
+    let n = c.loop-n.n in
+    let order = child_digits axes s.way (flips axes place.pos) in
+    let within : n < 3 ^ axes = omega (arith, c.loop-n-test.true, c.parts-parts.ensures.value ∙ ap (λ (d : ℕ). 3 ^ d) c.dim_in.ensures) in
+    let child = is.child within in
+    let digits = c.loop-n.child.step.digits in
+    let first = drop-slice_get order n digits child.step.nth in
+    let same = child-walk streams set (set_in rules s now) levels (child_at place digits) c.loop-n.child.cell.place (machine_of numbers now) (goes-set rules s old now goes) c.requires.some child.place in
     let after = λ (u : Unit {0}). machine_of numbers new in
     let failure = failure_in c.walk_cell.new.progress c.in-Err.halt in
-    child-err streams set levels place whole (found_in old) (found_in now) c.loop-digits.digits-iterator (machine_of numbers now) c.in-Some.digits c.next.new.self c.in-Some.ensures.steps is.leads
+    child-err streams set levels place whole (found_in old) (found_in now) (drop n order) (machine_of numbers now) digits (drop (n + 1) order) first is.leads
     after after failure (found_in new)
     (subst (λ course. Follows course after (Err failure) (found_in now) new.held.told) same c.in-Err.ensures.follows)
 
@@ -617,4 +630,22 @@ walk_cell-give_up_from-requires-clause-full g t c =
     full_from c.args.settings.now.setup.dim corners (subst (λ d. IsFull d corners) kept c.in-Err-visit_cell.ensures.own.full)
 
 pub walk_children-returns-in-Err-clause-left : goal.walk_children-returns-in-Err-clause-left
-walk_children-returns-in-Err-clause-left g t c = left-then c.loop-digits.invariant.left c.in-Err.ensures.left
+walk_children-returns-in-Err-clause-left g t c = left-then c.loop-n.invariant.left c.in-Err.ensures.left
+
+pub walk_children-returns-clause-follows : goal.walk_children-returns-clause-follows
+walk_children-returns-clause-follows g t c =
+    let numbers = g.M.Mapping.numbers in
+    let rules = g.M.Effects.rules in
+    let s = c.args.settings.now in
+    let streams = stream_stacks_of s in
+    let place = c.args.above.now.place in
+    let levels = c.args.levels in
+    let axes = s.setup.dim in
+    let old = hands_of (g.M.Mapping.held c.args.m.now) (g.DV.Depot.holds c.args.dv.now) (g.DV.Depot.room c.args.dv.now) (g.DC.Depot.holds c.args.dc.now) (g.DC.Depot.room c.args.dc.now) c.args.parents.now c.args.parent.now c.args.progress.now in
+    let set = set_in rules s old in
+    let whole = walk_children set streams levels place (machine_of numbers old) in
+    let now = hands_of (g.M.Mapping.held c.loop-n.m) (g.DV.Depot.holds c.loop-n.dv) (g.DV.Depot.room c.loop-n.dv) (g.DC.Depot.holds c.loop-n.dc) (g.DC.Depot.room c.loop-n.dc) c.loop-n.parents c.loop-n.parent c.loop-n.progress in
+    let order = child_digits axes s.way (flips axes place.pos) in
+    let n = c.loop-n.n in
+    let past : length order ≤ n = omega (arith, c.loop-n-test.false, length-child_digits axes s.way (flips axes place.pos), c.parts-parts.ensures.value ∙ ap (λ (d : ℕ). 3 ^ d) c.dim_in.ensures) in
+    children-end streams set levels place whole (found_in old) (found_in now) (drop n order) (machine_of numbers now) (drop_all n order past) c.loop-n.invariant.leads
