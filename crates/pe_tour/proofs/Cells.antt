@@ -1,13 +1,12 @@
 -- A cell with all below it: it is counted and visited, and nothing is in hand afterwards.
-use Rattle.std.proofs.Common.{◌≡◌, ℕ, suc, ◌^◌, Result, Ok, Err, sym, ap, subst, ◌∙◌}
-use Rattle.std.specs.Prelude.{false, true, is_err}
-use Rattle.pe_base.specs.declared.place.Place.{Place}
+use Rattle.std.proofs.Common.{ℕ, suc, ◌^◌, Ok, Err, sym, ap, subst}
+use Rattle.std.specs.Prelude.{false, true}
 use Rattle.pe_base.specs.Walk.Steps.{walk, visits}
 use Rattle.pe_tour.specs.declared.cell.CellAt.{CellAt}
-use Rattle.pe_tour.specs.Going.{Here, Goes, answer_by}
-use Rattle.pe_tour.specs.Sights.{Between, Amid, loading, storing, failed, around_amid, amid_of, between_of}
+use Rattle.pe_tour.specs.Going.{Goes}
+use Rattle.pe_tour.specs.Sights.{Between, Amid, loading, storing, failed, around_amid, between_of}
 use Rattle.pe_tour.specs.Walker.{Walker, IsLawful}
-use Rattle.pe_tour.specs.Moves.{plan_of, settings_of, May, MayWalk, MayTouch, Walks, Touches, Counts, GivesUp}
+use Rattle.pe_tour.specs.Moves.{plan_of, settings_of, MayWalk, MayTouch, Walks, Touches, Counts, GivesUp}
 use Rattle.pe_tour.proofs.Leading.{goes-as, goes-ends, goes-rests}
 use Rattle.pe_tour.proofs.Underway.{Underway, under-starts, under-first, under-next, under-fails}
 

@@ -1,5 +1,5 @@
 -- Within a body: from the start of a course to its end.
-use Rattle.std.proofs.Common.{◌≡◌, Result, Ok, Err, refl, sym, ap, subst, ◌∙◌}
+use Rattle.std.proofs.Common.{◌≡◌, Result, Ok, Err, refl, sym, subst, ◌∙◌}
 use Rattle.pe_base.specs.Calls.Courses.{Courses}
 use Rattle.pe_tour.specs.Going.{Here, Goes, Rests, Leads, GoesOn}
 

@@ -14,3 +14,5 @@ pub mod Opening
 pub mod Cells
 -- the children of a cell, one after another
 pub mod Rows
+-- each child from the one before it
+pub mod Children

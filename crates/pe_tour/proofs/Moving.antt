@@ -1,22 +1,29 @@
 -- What calls of a walk may do, and do, one after another.
-use Rattle.std.proofs.Common.{◌≡◌, ℕ, suc, ◌+◌, ◌-◌, ◌^◌, ◌<◌, Result, Ok, Err, refl, sym, ap, subst, ◌∙◌, arith}
-use Rattle.std.specs.Prelude.{false, OnOk, is_err, ◌≤◌}
+use Rattle.std.proofs.Common.{◌≡◌, ℕ, suc, ◌+◌, ◌-◌, ◌^◌, ◌<◌, Result, Ok, Err, sym, ap, subst, ◌∙◌, arith}
+use Rattle.std.specs.Prelude.{OnOk}
 use Rattle.pe_base.specs.declared.place.Place.{Place}
 use Rattle.pe_base.specs.Walk.Steps.{loads, stores}
 use Rattle.pe_tour.specs.declared.cell.CellAt.{CellAt}
 use Rattle.pe_tour.specs.Cells.{IsAt, IsAgedBy}
-use Rattle.pe_tour.specs.Going.{Here, Goes, Leads, GoesOn, answer_by}
-use Rattle.pe_tour.specs.Sights.{Between, Amid, Open, Stage, loading, storing, failed, stage_after, around_amid, around_open}
+use Rattle.pe_tour.specs.Going.{Goes, GoesOn, answer_by}
+use Rattle.pe_tour.specs.Sights.{Between, Amid, Stage, loading, storing, around_amid}
 use Rattle.pe_tour.specs.Walker.{Walker, IsLawful}
-use Rattle.pe_tour.specs.Moves.{plan_of, settings_of, May, MayWalk, MayTouch, MayMove, Walks, Touches, TouchesOn, Moves, loads_of, stores_of}
-use Rattle.pe_tour.proofs.Leading.{fits-first, fits-then, leads-start, leads-then, step-on, goes_on-then, leads-all}
+use Rattle.pe_tour.specs.Moves.{plan_of, settings_of, May, MayTouch, Touches, TouchesOn, loads_of, stores_of}
+use Rattle.pe_tour.proofs.Leading.{fits-first, step-on, goes_on-then, leads-all}
 
 module _ {S H R E : Type 0} (w : Walker S H R E) where
   -- what may be done of one course may be done of another one
   pub may-with : {X Y : Type 0} (cell : CellAt) (Holds : Between S H R → Type 0) (around : Between S H R) (course : w.Plan → w.courses.Course X) (course' : w.Plan → w.courses.Course Y)
       → May w cell Holds around course → w.courses.Fits (course' (plan_of w around.tour)) → May w cell Holds around course'
   may-with cell Holds around course course' may fits = record {
-    at = may.at; from = may.from; since = may.since; ages = may.ages; were = may.were; are = may.are; by = may.by; fits = fits;
+    at = may.at;
+    from = may.from;
+    since = may.since;
+    ages = may.ages;
+    were = may.were;
+    are = may.are;
+    by = may.by;
+    fits = fits;
   }
 
   -- and where another call has left off

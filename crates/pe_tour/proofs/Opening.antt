@@ -1,15 +1,14 @@
 -- While a cell's record is in hand: the cell is entered, its children are walked, and it is left.
-use Rattle.std.proofs.Common.{◌≡◌, ℕ, Result, Ok, Err, Some, None, refl, sym, ap, subst, ◌∙◌}
-use Rattle.std.specs.Prelude.{false, true, is_err, is_some, Option, Bool}
+use Rattle.std.proofs.Common.{◌≡◌, ℕ, Result, Ok, Err, sym, ap, subst, ◌∙◌}
+use Rattle.std.specs.Prelude.{false, true}
 use Rattle.pe_base.specs.declared.place.Place.{Place}
 use Rattle.pe_base.specs.Walk.Steps.{walk, walks_below, walks_children, if_on, visits_open}
 use Rattle.pe_tour.specs.declared.cell.CellAt.{CellAt}
-use Rattle.pe_tour.specs.Going.{Here, Goes, answer_by}
-use Rattle.pe_tour.specs.Sights.{Between, Amid, Open, around_open, below_open, above_again}
+use Rattle.pe_tour.specs.Going.{answer_by}
+use Rattle.pe_tour.specs.Sights.{Between, Open, around_open, below_open, above_again}
 use Rattle.pe_tour.specs.Walker.{Walker, IsLawful}
-use Rattle.pe_tour.specs.Moves.{plan_of, settings_of, May, MayMove, Moves, Walks}
+use Rattle.pe_tour.specs.Moves.{plan_of, MayMove, Moves, Walks}
 use Rattle.pe_tour.proofs.Leading.{goes-as, goes-ends, goes-then, goes-fails}
-use Rattle.pe_tour.proofs.Moving.{may-with}
 use Rattle.pe_tour.proofs.Underway.{Underway, under-starts, under-first, under-next, under-fails}
 
 module _ {S H R E : Type 0} (w : Walker S H R E) (lawful : IsLawful w) (cell : CellAt) (levels : ℕ) where

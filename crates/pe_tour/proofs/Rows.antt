@@ -1,6 +1,6 @@
 -- The children of a cell, one after another.
-use Rattle.std.proofs.Common.{◌≡◌, ℕ, zero, suc, ◌+◌, ◌-◌, ◌^◌, ◌<◌, ◌≤◌, List, [], ◌∷◌, drop, length, Result, Ok, Err, Some, refl, sym, ap, subst, ◌∙◌, arith}
-use Rattle.std.specs.Prelude.{false, true, is_err, slice_get}
+use Rattle.std.proofs.Common.{◌≡◌, ℕ, zero, suc, ◌^◌, ◌<◌, ◌≤◌, List, [], ◌∷◌, drop, length, Ok, Err, Some, refl, sym, ap, subst, ◌∙◌, arith}
+use Rattle.std.specs.Prelude.{false, true, slice_get}
 use Rattle.pe_base.specs.declared.place.Place.{Place}
 use Rattle.pe_base.specs.Tree.Places.{child_at}
 use Rattle.pe_base.specs.Tree.Curve.{children, child_digits, flips}
@@ -8,22 +8,23 @@ use Rattle.std.proofs.lemmas.List.{length-map}
 use Rattle.pe_base.proofs.Tree.CurveLaws.{length-child_digits, power_positive}
 use Rattle.pe_base.specs.Walk.Steps.{walk, walks_children, in_turn}
 use Rattle.pe_tour.specs.declared.cell.CellAt.{CellAt}
-use Rattle.pe_tour.specs.Cells.{IsNth}
-use Rattle.pe_tour.specs.Going.{Here, Goes, Leads, answer_by}
+use Rattle.pe_tour.specs.declared.child.Child.{Child}
+use Rattle.pe_tour.specs.Cells.{IsNth, IsChild}
+use Rattle.pe_tour.specs.Going.{Leads}
 use Rattle.pe_tour.specs.Sights.{Between}
 use Rattle.pe_tour.specs.Walker.{Walker, IsLawful}
 use Rattle.pe_tour.specs.Moves.{plan_of, settings_of, MayWalk, Walks}
-use Rattle.pe_tour.proofs.Leading.{goes-as, goes-ends, goes-then, goes-fails, leads-start, leads-then, leads-step}
+use Rattle.pe_tour.proofs.Leading.{goes-as, goes-ends, goes-fails, leads-start, leads-then, leads-step}
 
 module _ {S H R E : Type 0} (w : Walker S H R E) (over : CellAt) (ages levels : ℕ) where
   -- the children from a number on are to be walked
   abbrev pub to_come : ℕ → w.Plan → w.Rested → w.courses.Course w.Rested
   to_come n plan = in_turn (w.steps plan) (walk (w.steps plan) levels) (drop n (children (w.steps plan).axes (w.steps plan).way over.place))
 
-  pub record IsAmong (old : Between S H R) (n : ℕ) (child : CellAt) (own : H) (now : Between S H R) : Type 0 where
+  pub record IsAmong (old : Between S H R) (n : ℕ) (child : Child) (own : H) (now : Between S H R) : Type 0 where
     pub leads : Leads w.courses (λ plan. walks_children (w.steps plan) (walk (w.steps plan) levels) over.place (w.rested old)) (λ plan. to_come n plan (w.rested now)) (w.here old.tour) (w.here now.tour)
     pub ready : w.Ready false old now
-    pub nth : n < 3 ^ (settings_of w now.tour).dim → IsNth (settings_of w now.tour) over ages n child
+    pub nth : n < 3 ^ (settings_of w now.tour).dim → IsChild (settings_of w now.tour) over ages n child
     pub few : n ≤ 3 ^ (settings_of w now.tour).dim
     pub empty : w.IsEmpty (plan_of w now.tour) own
 
@@ -48,7 +49,7 @@ module _ {S H R E : Type 0} (w : Walker S H R E) (lawful : IsLawful w) (over : C
   to_walk child plan = walk (w.steps plan) levels child.place
 
   -- none is walked yet
-  pub among-starts : {at : Between S H R} {own : H} {child : CellAt} → w.Ready false at at → IsNth (settings_of w at.tour) over ages 0 child → w.IsEmpty (plan_of w at.tour) own
+  pub among-starts : {at : Between S H R} {own : H} {child : Child} → w.Ready false at at → IsChild (settings_of w at.tour) over ages 0 child → w.IsEmpty (plan_of w at.tour) own
       → IsAmong w over ages levels at 0 child own at
   among-starts {at} {own} {child} ready nth empty = record {
     leads = leads-start w.courses (λ plan. to_come w over ages levels 0 plan (w.rested at)) (w.here at.tour);
@@ -67,33 +68,33 @@ module _ {S H R E : Type 0} (w : Walker S H R E) (lawful : IsLawful w) (over : C
       let nth = ap (λ axes. slice_get (children axes (w.steps plan).way over.place) n) (lawful.axes plan) ∙ ap (λ way. slice_get (children (w.settings plan).dim way over.place) n) (lawful.ways plan) ∙ is.nth in
       ap (λ cells. walks cells (w.rested at)) (drop-at (children (w.steps plan).axes (w.steps plan).way over.place) n child.place nth)
 
-  pub among-may : {old at : Between S H R} {own : H} {child : CellAt} (n : ℕ) → w.AreAges old ages → w.courses.Fits (whole old (plan_of w old.tour)) → n < 3 ^ (settings_of w at.tour).dim
-      → IsAmong w over ages levels old n child own at → MayWalk w child (to_walk child) at
+  pub among-may : {old at : Between S H R} {own : H} {child : Child} (n : ℕ) → w.AreAges old ages → w.courses.Fits (whole old (plan_of w old.tour)) → n < 3 ^ (settings_of w at.tour).dim
+      → IsAmong w over ages levels old n child own at → MayWalk w child.cell (to_walk child.cell) at
   among-may {old} {at} {own} {child} n are fits below among = record {
-    at = (among.nth below).at;
+    at = (among.nth below).is.at;
     from = old;
     since = among.ready;
     ages = ages;
     were = are;
     are = lawful.ages_stay old at ages among.ready are;
-    by = (among.nth below).aged;
-    fits = w.courses.fits_first (to_walk child (plan_of w at.tour) (w.rested at)) (to_come w over ages levels (suc n) (plan_of w at.tour))
-        (subst w.courses.Fits (to_come-is at child n (among.nth below)) (among.leads.fits fits));
+    by = (among.nth below).is.aged;
+    fits = w.courses.fits_first (to_walk child.cell (plan_of w at.tour) (w.rested at)) (to_come w over ages levels (suc n) (plan_of w at.tour))
+        (subst w.courses.Fits (to_come-is at child.cell n (among.nth below).is) (among.leads.fits fits));
   }
 
   -- it is walked
-  pub among-next : {old at new : Between S H R} {own own' : H} {child child' : CellAt} {done : Unit {0}} (n : ℕ) → n < 3 ^ (settings_of w at.tour).dim → IsAmong w over ages levels old n child own at
-      → Walks w (to_walk child) (Ok done) at new → (suc n < 3 ^ (settings_of w new.tour).dim → IsNth (settings_of w new.tour) over ages (suc n) child') → w.IsEmpty (plan_of w new.tour) own'
+  pub among-next : {old at new : Between S H R} {own own' : H} {child child' : Child} {done : Unit {0}} (n : ℕ) → n < 3 ^ (settings_of w at.tour).dim → IsAmong w over ages levels old n child own at
+      → Walks w (to_walk child.cell) (Ok done) at new → (suc n < 3 ^ (settings_of w new.tour).dim → IsChild (settings_of w new.tour) over ages (suc n) child') → w.IsEmpty (plan_of w new.tour) own'
       → IsAmong w over ages levels old (suc n) child' own' new
   among-next {old} {at} {new} {own} {own'} {child} {child'} {done} n below among walks nth empty =
-      let steps = leads-step w.courses (λ plan. to_walk child plan (w.rested at)) (λ plan. to_come w over ages levels (suc n) plan) (w.rested new) (w.here at.tour) (w.here new.tour) done walks.goes in
-      let is = to_come-is at child n (among.nth below) in
+      let steps = leads-step w.courses (λ plan. to_walk child.cell plan (w.rested at)) (λ plan. to_come w over ages levels (suc n) plan) (w.rested new) (w.here at.tour) (w.here new.tour) done walks.goes in
+      let is = to_come-is at child.cell n (among.nth below).is in
       let dims = ap (λ plan. 3 ^ (w.settings plan).dim) walks.goes.plan in
       record {
         leads = leads-then w.courses (whole old) (λ plan. to_come w over ages levels n plan (w.rested at)) (λ plan. to_come w over ages levels (suc n) plan (w.rested new)) (w.here old.tour) (w.here at.tour) (w.here new.tour) among.leads
             (record {
               plan = steps.plan;
-              goes = λ after answer end goes. goes-as w.courses (λ plan. w.courses.and_then (to_walk child plan (w.rested at)) (to_come w over ages levels (suc n) plan)) (λ plan. to_come w over ages levels n plan (w.rested at)) after answer
+              goes = λ after answer end goes. goes-as w.courses (λ plan. w.courses.and_then (to_walk child.cell plan (w.rested at)) (to_come w over ages levels (suc n) plan)) (λ plan. to_come w over ages levels n plan (w.rested at)) after answer
                   (w.here at.tour) end (sym is) (steps.goes after answer end goes);
               fits = λ fits. steps.fits (subst w.courses.Fits is fits);
             });
@@ -104,20 +105,20 @@ module _ {S H R E : Type 0} (w : Walker S H R E) (lawful : IsLawful w) (over : C
       }
 
   -- it fails
-  pub among-fails : {old at new : Between S H R} {own : H} {child : CellAt} {stop : E} (n : ℕ) → n < 3 ^ (settings_of w at.tour).dim → IsAmong w over ages levels old n child own at
-      → Walks w (to_walk child) (Err stop) at new → Walks w (λ plan. walks_children (w.steps plan) (walk (w.steps plan) levels) over.place) (Err stop) old new
+  pub among-fails : {old at new : Between S H R} {own : H} {child : Child} {stop : E} (n : ℕ) → n < 3 ^ (settings_of w at.tour).dim → IsAmong w over ages levels old n child own at
+      → Walks w (to_walk child.cell) (Err stop) at new → Walks w (λ plan. walks_children (w.steps plan) (walk (w.steps plan) levels) over.place) (Err stop) old new
   among-fails {old} {at} {new} {own} {child} {stop} n below among walks =
       let after = λ (done : Unit {0}). w.rested new in
       record {
         goes = among.leads.goes after (Err (w.failure new.tour stop)) (w.here new.tour)
-            (goes-as w.courses (λ plan. w.courses.and_then (to_walk child plan (w.rested at)) (to_come w over ages levels (suc n) plan)) (λ plan. to_come w over ages levels n plan (w.rested at)) after (Err (w.failure new.tour stop))
-            (w.here at.tour) (w.here new.tour) (sym (to_come-is at child n (among.nth below)))
-            (goes-fails w.courses (λ plan. to_walk child plan (w.rested at)) (λ plan. to_come w over ages levels (suc n) plan) after after (w.failure new.tour stop) (w.here at.tour) (w.here new.tour) walks.goes));
+            (goes-as w.courses (λ plan. w.courses.and_then (to_walk child.cell plan (w.rested at)) (to_come w over ages levels (suc n) plan)) (λ plan. to_come w over ages levels n plan (w.rested at)) after (Err (w.failure new.tour stop))
+            (w.here at.tour) (w.here new.tour) (sym (to_come-is at child.cell n (among.nth below).is))
+            (goes-fails w.courses (λ plan. to_walk child.cell plan (w.rested at)) (λ plan. to_come w over ages levels (suc n) plan) after after (w.failure new.tour stop) (w.here at.tour) (w.here new.tour) walks.goes));
         ready = λ from holds. lawful.joins from at new true (lawful.joins from old at false holds among.ready) (walks.ready at (lawful.starts old at among.ready));
       }
 
   -- all are walked
-  pub among-ends : {old at : Between S H R} {own : H} {child : CellAt} {done : Unit {0}} (n : ℕ) → n ≡ 3 ^ (settings_of w at.tour).dim → IsAmong w over ages levels old n child own at
+  pub among-ends : {old at : Between S H R} {own : H} {child : Child} {done : Unit {0}} (n : ℕ) → n ≡ 3 ^ (settings_of w at.tour).dim → IsAmong w over ages levels old n child own at
       → Walks w (λ plan. walks_children (w.steps plan) (walk (w.steps plan) levels) over.place) (Ok done) old at
   among-ends {old} {at} {own} {child} {done} n all among =
       let plan = plan_of w at.tour in
@@ -142,7 +143,7 @@ module _ {S H R E : Type 0} (w : Walker S H R E) (lawful : IsLawful w) (over : C
       count : 0 < length (children (w.steps plan).axes (w.steps plan).way over.place)
       count =
           let all = length-map (child_digits (w.steps plan).axes (w.steps plan).way (flips (w.steps plan).axes over.place.pos)) (child_at over.place)
-              ∙ length-child_digits (w.steps plan).axes (w.steps plan).way (flips (w.steps plan).axes over.place.pos) in
+          ∙ length-child_digits (w.steps plan).axes (w.steps plan).way (flips (w.steps plan).axes over.place.pos) in
           omega (arith, all, power_positive (w.steps plan).axes)
 
       by : (n : ℕ) → w.courses.Fits (walks_children (w.steps plan) (walk (w.steps plan) n) over.place b) → 0 < n

@@ -1,5 +1,5 @@
 -- A call that is under way: some of its course is done, and the rest may be done.
-use Rattle.std.proofs.Common.{◌≡◌, ℕ, Result, Ok, Err}
+use Rattle.std.proofs.Common.{ℕ, Ok, Err}
 use Rattle.pe_tour.specs.declared.cell.CellAt.{CellAt}
 use Rattle.pe_tour.specs.Going.{Here, Goes, Leads}
 use Rattle.pe_tour.specs.Sights.{Between}

@@ -1,14 +1,14 @@
 -- Within a cell: its corners are loaded, its record comes, it is visited, the record goes, and the corners are stored.
-use Rattle.std.proofs.Common.{◌≡◌, ℕ, ◌^◌, Result, Ok, Err, sym, ap, subst, ◌∙◌}
-use Rattle.std.specs.Prelude.{false, true, is_err}
+use Rattle.std.proofs.Common.{◌≡◌, ℕ, ◌^◌, Result, Ok, Err, sym, ap, subst}
+use Rattle.std.specs.Prelude.{false, true}
 use Rattle.pe_base.specs.declared.place.Place.{Place}
-use Rattle.pe_base.specs.Walk.Steps.{loads, stores, walk, walks_below, visits, visits_open}
+use Rattle.pe_base.specs.Walk.Steps.{loads, stores, walk, visits, visits_open}
 use Rattle.pe_tour.specs.declared.cell.CellAt.{CellAt}
-use Rattle.pe_tour.specs.Going.{Here, Goes, Leads, Rests, answer_by}
-use Rattle.pe_tour.specs.Sights.{Between, Amid, Open, Stage, loading, storing, failed, stage_after, around_amid, around_open, below_open, above_again}
+use Rattle.pe_tour.specs.Going.{Goes, answer_by}
+use Rattle.pe_tour.specs.Sights.{Between, Amid, Open, Stage, loading, storing, failed, stage_after, around_amid, around_open}
 use Rattle.pe_tour.specs.Walker.{Walker, IsLawful}
-use Rattle.pe_tour.specs.Moves.{plan_of, settings_of, May, MayWalk, MayTouch, MayMove, Walks, Touches, Moves, Comes, GoesOff, GivesUp, Counts, loads_of, stores_of, with_record, without}
-use Rattle.pe_tour.proofs.Leading.{goes-as, goes-ends, goes-rests}
+use Rattle.pe_tour.specs.Moves.{plan_of, settings_of, MayTouch, MayMove, Touches, Moves, Comes, GoesOff, GivesUp, loads_of, stores_of, with_record, without}
+use Rattle.pe_tour.proofs.Leading.{goes-as, goes-rests}
 use Rattle.pe_tour.proofs.Moving.{may-with}
 use Rattle.pe_tour.proofs.Underway.{Underway, under-starts, under-first, under-next, under-fails}
 

@@ -1,11 +1,11 @@
 -- What the calls of a walk ask, and what they do.
-use Rattle.std.specs.Prelude.{◌≡◌, ℕ, suc, ◌^◌, Bool, true, false, Result, Ok, Err, is_err}
+use Rattle.std.specs.Prelude.{◌≡◌, ℕ, ◌^◌, true, false, Result, Ok, Err, is_err}
 use Rattle.pe_base.specs.declared.place.Place.{Place}
-use Rattle.pe_base.specs.Walk.Steps.{loads, stores, walk, visits, visits_open, walks_children}
+use Rattle.pe_base.specs.Walk.Steps.{loads, stores}
 use Rattle.pe_tour.specs.declared.settings.TourSettings.{TourSettings}
 use Rattle.pe_tour.specs.declared.cell.CellAt.{CellAt}
 use Rattle.pe_tour.specs.Cells.{IsAt, IsAgedBy}
-use Rattle.pe_tour.specs.Going.{Here, Goes, GoesOn, Rests, answer_by}
+use Rattle.pe_tour.specs.Going.{Goes, GoesOn, Rests, answer_by}
 use Rattle.pe_tour.specs.Sights.{Between, Amid, Open, Stage, loading, storing, failed, stage_after, around_amid, around_open}
 use Rattle.pe_tour.specs.Walker.{Walker}
 

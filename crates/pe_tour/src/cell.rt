@@ -1,5 +1,6 @@
 use pe_access::{CellState, Row};
-use pe_base::{Digits, Kind, Place};
+use pe_base::{Kind, Place};
+use pe_curve::Step;
 use pe_states::Ages;
 
 /// What a walk knows of a cell, beside its records.
@@ -7,8 +8,8 @@ use pe_states::Ages;
 pub struct CellAt {
     /// Its place.
     pub place: Place,
-    /// Where it lies in the cell above it.
-    pub digits: Digits,
+    /// Where it lies in the cell above it, and how each axis is walked there.
+    pub step: Step,
     /// Its state, which tells the routes of its corners.
     pub state: CellState,
     /// The numbers of its corners' routes, of which those of its row are a part.

@@ -13,7 +13,6 @@ mod settings;
 mod tour;
 
 pub use cell::CellAt;
-
 pub use recursion::{walk_cell, walk_children};
 pub use settings::TourSettings;
 pub use tour::Tour;

@@ -142,13 +142,17 @@ pub fn walk_children<const AXES: u8, T: Tour>(
     let settings = tour.settings();
     let mut own = tour.empty();
     let mut child = first_child::<AXES>(&settings, over, ages);
-    for _ in 0..parts_in::<AXES>(&settings) {
+    let parts = parts_in::<AXES>(&settings);
+    for n in 0..parts {
         match walk_cell::<AXES, T>(tour, &child.cell, levels - 1, &mut own, above, parent) {
-            Ok(()) => advance::<AXES>(&settings, over, ages, &mut child),
+            Ok(()) => {}
             Err(stop) => {
                 tour.close(own);
                 return Err(stop);
             }
+        }
+        if n + 1 < parts {
+            advance::<AXES>(&settings, over, ages, &mut child);
         }
     }
     tour.close(own);

@@ -1,4 +1,4 @@
-use Rattle.std.proofs.Common.{◌≡◌, ◌^◌, ap, ◌∙◌, sym, refl, arith}
+use Rattle.std.proofs.Common.{◌≡◌, ◌^◌, ap, ◌∙◌, arith}
 use Rattle.pe_tour.specs.Sights.{amid_of}
 use Rattle.pe_tour.specs.Moves.{settings_of}
 use Rattle.pe_tour.proofs.Moving.{loads-all, loads-may}

@@ -1,16 +1,16 @@
-use Rattle.std.proofs.Common.{◌≡◌, ℕ, suc, ◌+◌, ◌-◌, ◌^◌, ◌<◌, ◌≤◌, Ok, Err, refl, sym, ap, subst, ◌∙◌, rules as the_rules, arith}
-use Rattle.std.specs.Prelude.{false, true}
-use Rattle.pe_base.specs.Walk.Steps.{walk, walks_below, walks_children}
+use Rattle.std.proofs.Common.{◌≡◌, suc, ◌+◌, ◌-◌, ◌^◌, ◌<◌, ◌≤◌, Ok, Err, sym, ap, subst, ◌∙◌, rules as the_rules, arith}
+use Rattle.pe_base.specs.declared.place.Place.{Place}
+use Rattle.pe_base.specs.Walk.Steps.{walk}
 use Rattle.pe_base.proofs.Calls.Errors.{err-is}
-use Rattle.pe_tour.specs.Sights.{between_of, amid_of, open_of, loading, storing}
+use Rattle.pe_tour.specs.Sights.{between_of, amid_of, open_of}
 use Rattle.pe_tour.specs.declared.settings.TourSettings.{TourSettings}
-use Rattle.pe_tour.specs.Cells.{IsOver, IsNth}
+use Rattle.pe_tour.specs.Cells.{IsOver, IsChild}
 use Rattle.pe_tour.specs.Moves.{plan_of, settings_of, MayWalk, Walks, with_record}
 use Rattle.pe_tour.proofs.Visiting.{VisitIn, after_come, may-load, visit-loaded, visit-unloaded, may-come, visit-came, visit-unmade, may-open, visit-opened, visit-unopened, may-go, visit-gone, visit-unput, may-store, visit-stored}
 use Rattle.pe_tour.proofs.Opening.{may-enter, open-entered, may-below, open-walked, open-left, open-unentered, open-unwalked, below-none, below-fits, below-some}
 use Rattle.pe_tour.proofs.Cells.{may-count, cell-counted, cell-uncounted, may-visit, cell-visited, cell-unvisited}
-use Rattle.pe_tour.proofs.Rows.{IsAmong, among-starts, among-may, among-next, among-fails, among-ends, some-levels}
-use Rattle.pe_tour.proofs.recursion.+cells.Goals.{visit-in-Born+in_ok-its-in-Born, visit-in_default}
+use Rattle.pe_tour.proofs.Rows.{IsAmong, among-may, among-next, among-fails, among-ends, some-levels}
+use Rattle.pe_tour.proofs.recursion.+cells.Goals.{visit-in-Born+in_ok-its-in-Born, visit-in_default, walk_children-then-n-parts, walk_children-else-n-parts}
 use Rattle.pe_tour.proofs.recursion.+cells.Goals as goal
 
 -- # A cell
@@ -69,14 +69,14 @@ pub visit-make-requires-clause-may : goal.visit-make-requires-clause-may
 visit-make-requires-clause-may g t c =
     let w = g.T.Tour.walk in
     let loaded = visit-loaded w g.met.T.Tour.lawful c.args.at.now c.args.levels (amid_of c.args.tour.now c.args.own.now c.args.above.now c.args.parent.now)
-        (amid_of c.load_corners.new.tour c.load_corners.new.own c.load_corners.new.above c.load_corners.new.parent) c.in_ok-load_corners.field-0 c.requires.may c.in_ok-load_corners.ensures in
+    (amid_of c.load_corners.new.tour c.load_corners.new.own c.load_corners.new.above c.load_corners.new.parent) c.in_ok-load_corners.field-0 c.requires.may c.in_ok-load_corners.ensures in
     may-come w g.met.T.Tour.lawful c.args.at.now c.args.levels loaded
 
 pub visit-returns-in_err-its-in-Born : goal.visit-returns-in_err-its-in-Born
 visit-returns-in_err-its-in-Born g t c =
     let w = g.T.Tour.walk in
     let loaded = visit-loaded w g.met.T.Tour.lawful c.args.at.now c.args.levels (amid_of c.args.tour.now c.args.own.now c.args.above.now c.args.parent.now)
-        (amid_of c.load_corners.new.tour c.load_corners.new.own c.load_corners.new.above c.load_corners.new.parent) c.in_ok-load_corners.field-0 c.requires.may c.in_ok-load_corners.ensures in
+    (amid_of c.load_corners.new.tour c.load_corners.new.own c.load_corners.new.above c.load_corners.new.parent) c.in_ok-load_corners.field-0 c.requires.may c.in_ok-load_corners.ensures in
     rw (err-is c.from_residual-in_err-its-in-Born.result _ c.from_residual-in_err-its-in-Born.ensures.1)
     (visit-unmade w g.met.T.Tour.lawful c.args.at.now c.args.levels c.make.new.self c.in_err-its-in-Born.field-0.0 loaded c.in_err-its-in-Born.ensures)
 
@@ -84,7 +84,7 @@ pub visit-fetch-its-requires : goal.visit-fetch-its-requires
 visit-fetch-its-requires g t c =
     let w = g.T.Tour.walk in
     let loaded = visit-loaded w g.met.T.Tour.lawful c.args.at.now c.args.levels (amid_of c.args.tour.now c.args.own.now c.args.above.now c.args.parent.now)
-        (amid_of c.load_corners.new.tour c.load_corners.new.own c.load_corners.new.above c.load_corners.new.parent) c.in_ok-load_corners.field-0 c.requires.may c.in_ok-load_corners.ensures in
+    (amid_of c.load_corners.new.tour c.load_corners.new.own c.load_corners.new.above c.load_corners.new.parent) c.in_ok-load_corners.field-0 c.requires.may c.in_ok-load_corners.ensures in
     record { may = may-come w g.met.T.Tour.lawful c.args.at.now c.args.levels loaded; there = λ born. c.in_default.not-Born born }
 
 pub visit-visit_open-requires : goal.visit-visit_open-requires
@@ -94,12 +94,13 @@ visit-visit_open-requires g t c κs within =
     let cell = c.args.at.now in
     let levels = c.args.levels in
     let loaded = visit-loaded w laws cell levels (amid_of c.args.tour.now c.args.own.now c.args.above.now c.args.parent.now)
-        (amid_of c.load_corners.new.tour c.load_corners.new.own c.load_corners.new.above c.load_corners.new.parent) c.in_ok-load_corners.field-0 c.requires.may c.in_ok-load_corners.ensures in
+    (amid_of c.load_corners.new.tour c.load_corners.new.own c.load_corners.new.above c.load_corners.new.parent) c.in_ok-load_corners.field-0 c.requires.may c.in_ok-load_corners.ensures in
     let now = amid_of c.load_corners.new.tour c.load_corners.new.own c.load_corners.new.above c.load_corners.new.parent in
     let old = amid_of c.args.tour.now c.args.own.now c.args.above.now c.args.parent.now in
     let came : VisitIn w laws cell levels old (after_come w laws cell levels) (with_record w now c.match-at.tour c.match-at.its) = elim c.match-at.branch [
-        visit-in-Born+in_ok-its-in-Born b ↦ visit-came w laws cell levels b.tour-is b.its-is loaded b.in_ok-its-in-Born.ensures
-      | visit-in_default b ↦ visit-came w laws cell levels b.tour-is b.its-is loaded b.fetch-its.ensures ] in
+      | visit-in-Born+in_ok-its-in-Born b ↦ visit-came w laws cell levels b.tour-is b.its-is loaded b.in_ok-its-in-Born.ensures
+      | visit-in_default b ↦ visit-came w laws cell levels b.tour-is b.its-is loaded b.fetch-its.ensures
+    ] in
     let axes = ap (λ plan. (w.settings plan).dim) came.leads.plan ∙ c.requires.axes in
     (search the_rules, (search the_rules, (within.0, (within.1.0, (within.1.1.0, (within.1.1.1, (axes, (c.requires.levels, may-open w laws cell levels came))))))))
 
@@ -110,12 +111,13 @@ visit-forget-requires g t c =
     let cell = c.args.at.now in
     let levels = c.args.levels in
     let loaded = visit-loaded w laws cell levels (amid_of c.args.tour.now c.args.own.now c.args.above.now c.args.parent.now)
-        (amid_of c.load_corners.new.tour c.load_corners.new.own c.load_corners.new.above c.load_corners.new.parent) c.in_ok-load_corners.field-0 c.requires.may c.in_ok-load_corners.ensures in
+    (amid_of c.load_corners.new.tour c.load_corners.new.own c.load_corners.new.above c.load_corners.new.parent) c.in_ok-load_corners.field-0 c.requires.may c.in_ok-load_corners.ensures in
     let now = amid_of c.load_corners.new.tour c.load_corners.new.own c.load_corners.new.above c.load_corners.new.parent in
     let old = amid_of c.args.tour.now c.args.own.now c.args.above.now c.args.parent.now in
     let came : VisitIn w laws cell levels old (after_come w laws cell levels) (with_record w now c.match-at.tour c.match-at.its) = elim c.match-at.branch [
-        visit-in-Born+in_ok-its-in-Born b ↦ visit-came w laws cell levels b.tour-is b.its-is loaded b.in_ok-its-in-Born.ensures
-      | visit-in_default b ↦ visit-came w laws cell levels b.tour-is b.its-is loaded b.fetch-its.ensures ] in
+      | visit-in-Born+in_ok-its-in-Born b ↦ visit-came w laws cell levels b.tour-is b.its-is loaded b.in_ok-its-in-Born.ensures
+      | visit-in_default b ↦ visit-came w laws cell levels b.tour-is b.its-is loaded b.fetch-its.ensures
+    ] in
     record { entered = (came.may.from, c.visit_open.new.own, c.visit_open.new.above, c.visit_open.new.parent, c.in-Err.ensures.entered came.may.from came.may.since) }
 
 pub visit-returns-in-Err : goal.visit-returns-in-Err
@@ -125,12 +127,13 @@ visit-returns-in-Err g t c =
     let cell = c.args.at.now in
     let levels = c.args.levels in
     let loaded = visit-loaded w laws cell levels (amid_of c.args.tour.now c.args.own.now c.args.above.now c.args.parent.now)
-        (amid_of c.load_corners.new.tour c.load_corners.new.own c.load_corners.new.above c.load_corners.new.parent) c.in_ok-load_corners.field-0 c.requires.may c.in_ok-load_corners.ensures in
+    (amid_of c.load_corners.new.tour c.load_corners.new.own c.load_corners.new.above c.load_corners.new.parent) c.in_ok-load_corners.field-0 c.requires.may c.in_ok-load_corners.ensures in
     let now = amid_of c.load_corners.new.tour c.load_corners.new.own c.load_corners.new.above c.load_corners.new.parent in
     let old = amid_of c.args.tour.now c.args.own.now c.args.above.now c.args.parent.now in
     let came : VisitIn w laws cell levels old (after_come w laws cell levels) (with_record w now c.match-at.tour c.match-at.its) = elim c.match-at.branch [
-        visit-in-Born+in_ok-its-in-Born b ↦ visit-came w laws cell levels b.tour-is b.its-is loaded b.in_ok-its-in-Born.ensures
-      | visit-in_default b ↦ visit-came w laws cell levels b.tour-is b.its-is loaded b.fetch-its.ensures ] in
+      | visit-in-Born+in_ok-its-in-Born b ↦ visit-came w laws cell levels b.tour-is b.its-is loaded b.in_ok-its-in-Born.ensures
+      | visit-in_default b ↦ visit-came w laws cell levels b.tour-is b.its-is loaded b.fetch-its.ensures
+    ] in
     visit-unopened w laws cell levels c.forget.new.self came c.in-Err.ensures c.forget.ensures.gives_up
     (λ from holds. c.forget.ensures.within from c.visit_open.new.own c.visit_open.new.above c.visit_open.new.parent holds)
 
@@ -141,12 +144,13 @@ visit-put-requires g t c =
     let cell = c.args.at.now in
     let levels = c.args.levels in
     let loaded = visit-loaded w laws cell levels (amid_of c.args.tour.now c.args.own.now c.args.above.now c.args.parent.now)
-        (amid_of c.load_corners.new.tour c.load_corners.new.own c.load_corners.new.above c.load_corners.new.parent) c.in_ok-load_corners.field-0 c.requires.may c.in_ok-load_corners.ensures in
+    (amid_of c.load_corners.new.tour c.load_corners.new.own c.load_corners.new.above c.load_corners.new.parent) c.in_ok-load_corners.field-0 c.requires.may c.in_ok-load_corners.ensures in
     let now = amid_of c.load_corners.new.tour c.load_corners.new.own c.load_corners.new.above c.load_corners.new.parent in
     let old = amid_of c.args.tour.now c.args.own.now c.args.above.now c.args.parent.now in
     let came : VisitIn w laws cell levels old (after_come w laws cell levels) (with_record w now c.match-at.tour c.match-at.its) = elim c.match-at.branch [
-        visit-in-Born+in_ok-its-in-Born b ↦ visit-came w laws cell levels b.tour-is b.its-is loaded b.in_ok-its-in-Born.ensures
-      | visit-in_default b ↦ visit-came w laws cell levels b.tour-is b.its-is loaded b.fetch-its.ensures ] in
+      | visit-in-Born+in_ok-its-in-Born b ↦ visit-came w laws cell levels b.tour-is b.its-is loaded b.in_ok-its-in-Born.ensures
+      | visit-in_default b ↦ visit-came w laws cell levels b.tour-is b.its-is loaded b.fetch-its.ensures
+    ] in
     let opened = visit-opened w laws cell levels came c.in-Ok.ensures in
     record { may = may-go w laws cell levels opened }
 
@@ -157,12 +161,13 @@ visit-returns-in_err-put g t c =
     let cell = c.args.at.now in
     let levels = c.args.levels in
     let loaded = visit-loaded w laws cell levels (amid_of c.args.tour.now c.args.own.now c.args.above.now c.args.parent.now)
-        (amid_of c.load_corners.new.tour c.load_corners.new.own c.load_corners.new.above c.load_corners.new.parent) c.in_ok-load_corners.field-0 c.requires.may c.in_ok-load_corners.ensures in
+    (amid_of c.load_corners.new.tour c.load_corners.new.own c.load_corners.new.above c.load_corners.new.parent) c.in_ok-load_corners.field-0 c.requires.may c.in_ok-load_corners.ensures in
     let now = amid_of c.load_corners.new.tour c.load_corners.new.own c.load_corners.new.above c.load_corners.new.parent in
     let old = amid_of c.args.tour.now c.args.own.now c.args.above.now c.args.parent.now in
     let came : VisitIn w laws cell levels old (after_come w laws cell levels) (with_record w now c.match-at.tour c.match-at.its) = elim c.match-at.branch [
-        visit-in-Born+in_ok-its-in-Born b ↦ visit-came w laws cell levels b.tour-is b.its-is loaded b.in_ok-its-in-Born.ensures
-      | visit-in_default b ↦ visit-came w laws cell levels b.tour-is b.its-is loaded b.fetch-its.ensures ] in
+      | visit-in-Born+in_ok-its-in-Born b ↦ visit-came w laws cell levels b.tour-is b.its-is loaded b.in_ok-its-in-Born.ensures
+      | visit-in_default b ↦ visit-came w laws cell levels b.tour-is b.its-is loaded b.fetch-its.ensures
+    ] in
     let opened = visit-opened w laws cell levels came c.in-Ok.ensures in
     rw (err-is c.from_residual-in_err-put.result _ c.from_residual-in_err-put.ensures.1)
     (visit-unput w laws cell levels c.put.new.self opened c.in_err-put.ensures)
@@ -174,12 +179,13 @@ visit-store_corners-requires-clause-may g t c =
     let cell = c.args.at.now in
     let levels = c.args.levels in
     let loaded = visit-loaded w laws cell levels (amid_of c.args.tour.now c.args.own.now c.args.above.now c.args.parent.now)
-        (amid_of c.load_corners.new.tour c.load_corners.new.own c.load_corners.new.above c.load_corners.new.parent) c.in_ok-load_corners.field-0 c.requires.may c.in_ok-load_corners.ensures in
+    (amid_of c.load_corners.new.tour c.load_corners.new.own c.load_corners.new.above c.load_corners.new.parent) c.in_ok-load_corners.field-0 c.requires.may c.in_ok-load_corners.ensures in
     let now = amid_of c.load_corners.new.tour c.load_corners.new.own c.load_corners.new.above c.load_corners.new.parent in
     let old = amid_of c.args.tour.now c.args.own.now c.args.above.now c.args.parent.now in
     let came : VisitIn w laws cell levels old (after_come w laws cell levels) (with_record w now c.match-at.tour c.match-at.its) = elim c.match-at.branch [
-        visit-in-Born+in_ok-its-in-Born b ↦ visit-came w laws cell levels b.tour-is b.its-is loaded b.in_ok-its-in-Born.ensures
-      | visit-in_default b ↦ visit-came w laws cell levels b.tour-is b.its-is loaded b.fetch-its.ensures ] in
+      | visit-in-Born+in_ok-its-in-Born b ↦ visit-came w laws cell levels b.tour-is b.its-is loaded b.in_ok-its-in-Born.ensures
+      | visit-in_default b ↦ visit-came w laws cell levels b.tour-is b.its-is loaded b.fetch-its.ensures
+    ] in
     let opened = visit-opened w laws cell levels came c.in-Ok.ensures in
     let gone = visit-gone w laws cell levels c.put.new.self opened c.in_ok-put.ensures in
     may-store w laws cell levels gone
@@ -191,12 +197,13 @@ visit-returns g t c =
     let cell = c.args.at.now in
     let levels = c.args.levels in
     let loaded = visit-loaded w laws cell levels (amid_of c.args.tour.now c.args.own.now c.args.above.now c.args.parent.now)
-        (amid_of c.load_corners.new.tour c.load_corners.new.own c.load_corners.new.above c.load_corners.new.parent) c.in_ok-load_corners.field-0 c.requires.may c.in_ok-load_corners.ensures in
+    (amid_of c.load_corners.new.tour c.load_corners.new.own c.load_corners.new.above c.load_corners.new.parent) c.in_ok-load_corners.field-0 c.requires.may c.in_ok-load_corners.ensures in
     let now = amid_of c.load_corners.new.tour c.load_corners.new.own c.load_corners.new.above c.load_corners.new.parent in
     let old = amid_of c.args.tour.now c.args.own.now c.args.above.now c.args.parent.now in
     let came : VisitIn w laws cell levels old (after_come w laws cell levels) (with_record w now c.match-at.tour c.match-at.its) = elim c.match-at.branch [
-        visit-in-Born+in_ok-its-in-Born b ↦ visit-came w laws cell levels b.tour-is b.its-is loaded b.in_ok-its-in-Born.ensures
-      | visit-in_default b ↦ visit-came w laws cell levels b.tour-is b.its-is loaded b.fetch-its.ensures ] in
+      | visit-in-Born+in_ok-its-in-Born b ↦ visit-came w laws cell levels b.tour-is b.its-is loaded b.in_ok-its-in-Born.ensures
+      | visit-in_default b ↦ visit-came w laws cell levels b.tour-is b.its-is loaded b.fetch-its.ensures
+    ] in
     let opened = visit-opened w laws cell levels came c.in-Ok.ensures in
     let gone = visit-gone w laws cell levels c.put.new.self opened c.in_ok-put.ensures in
     visit-stored w laws cell levels c.store_corners.result gone c.store_corners.ensures
@@ -246,9 +253,25 @@ walk_below-walk_children-requires g t c κs within =
     let some = c.in-Some.ensures.goes_on c.args.above.now c.args.parent.now in
     let fits = below-fits w g.met.T.Tour.lawful c.args.at.now c.args.levels may some in
     let few : 0 < c.args.levels = some-levels w g.met.T.Tour.lawful c.args.at.now c.in-Some.ages c.args.levels (plan_of w c.args.tour.now) (w.rested (between_of c.args.tour.now c.args.own.now c.args.its.now)) fits in
-    let over : IsOver (settings_of w c.args.tour.now) c.args.at.now = record { place = may.at.place; level = omega (arith, c.requires.levels, few); state = may.at.state } in
-    (search the_rules, (search the_rules, (within.0, (within.1.0, (within.1.1.0, (within.1.1.1,
-    (c.requires.axes, (c.requires.levels, (few, (over, (c.in-Some.ensures.aged, (g.met.T.Tour.lawful.lowers may.from old may.since, fits))))))))))))
+    let over : IsOver (settings_of w c.args.tour.now) c.args.at.now = record { place = may.at.place; level = omega (arith, c.requires.levels, few); state = may.at.state } in (
+      search the_rules,
+      (
+        search the_rules,
+        (
+          within.0,
+          (
+            within.1.0,
+            (
+              within.1.1.0,
+              (
+                within.1.1.1,
+                (c.requires.axes, (c.requires.levels, (few, (over, (c.in-Some.ensures.aged, (g.met.T.Tour.lawful.lowers may.from old may.since, fits)))))),
+              ),
+            ),
+          ),
+        ),
+      ),
+    )
 
 pub walk_below-returns-in-Some : goal.walk_below-returns-in-Some
 walk_below-returns-in-Some g t c =
@@ -261,60 +284,82 @@ walk_below-returns-in-None g t c = below-none g.T.Tour.walk g.met.T.Tour.lawful 
 pub walk_children-walk_cell-requires : goal.walk_children-walk_cell-requires
 walk_children-walk_cell-requires g t c κs within =
     let w = g.T.Tour.walk in
-    let at = between_of c.loop.tour c.loop.above c.loop.parent in
-    let child = c.loop.child.cell in
+    let at = between_of c.loop-n.tour c.loop-n.above c.loop-n.parent in
+    let child = c.loop-n.child.cell in
     let again : suc (c.args.levels - 1) ≡ c.args.levels = omega (arith, c.requires.some) in
-    let axes : (settings_of w c.loop.tour).dim ≡ g.row.AXES = ap (λ plan. (w.settings plan).dim) c.loop.invariant.leads.plan ∙ c.requires.axes in
-    let here : settings_of w c.loop.tour ≡ c.settings-settings.result = ap (λ plan. w.settings plan) c.loop.invariant.leads.plan ∙ sym c.settings-settings.ensures in
-    let parts : c.parts_in-end.result ≡ 3 ^ (settings_of w c.loop.tour).dim = c.parts_in-end.ensures.value ∙ ap (λ (s : TourSettings). 3 ^ s.dim) (sym here) in
-    let below : c.loop.counter < 3 ^ (settings_of w c.loop.tour).dim = omega (arith, c.loop-test.true, parts) in
-    let may = among-may w g.met.T.Tour.lawful c.args.over.now c.args.ages c.args.levels c.loop.counter c.requires.aged c.requires.fits below c.loop.invariant in
-    let level : child.place.level + (c.args.levels - 1) ≤ 20 = omega (arith, (c.loop.invariant.nth below).deeper, c.requires.levels, c.requires.some) in
-    (search the_rules, (search the_rules, (within.0, (within.1.0, (within.1.1.0, (within.1.1.1,
-    (axes, (level, (c.loop.invariant.empty, subst (λ n. MayWalk w child (λ plan. walk (w.steps plan) n child.place) at) (sym again) may)))))))))
+    let axes : (settings_of w c.loop-n.tour).dim ≡ g.row.AXES = ap (λ plan. (w.settings plan).dim) c.loop-n.invariant.leads.plan ∙ c.requires.axes in
+    let here : settings_of w c.loop-n.tour ≡ c.settings-settings.result = ap (λ plan. w.settings plan) c.loop-n.invariant.leads.plan ∙ sym c.settings-settings.ensures in
+    let parts : c.parts_in-parts.result ≡ 3 ^ (settings_of w c.loop-n.tour).dim = c.parts_in-parts.ensures.value ∙ ap (λ (s : TourSettings). 3 ^ s.dim) (sym here) in
+    let below : c.loop-n.n < 3 ^ (settings_of w c.loop-n.tour).dim = omega (arith, c.loop-n-test.true, parts) in
+    let may = among-may w g.met.T.Tour.lawful c.args.over.now c.args.ages c.args.levels c.loop-n.n c.requires.aged c.requires.fits below c.loop-n.invariant in
+    let level : child.place.level + (c.args.levels - 1) ≤ 20 = omega (arith, (let under = ap (λ (p : Place). p.level) (c.loop-n.invariant.nth below).is.under in under), c.requires.levels, c.requires.some) in (
+      search the_rules,
+      (
+        search the_rules,
+        (
+          within.0,
+          (
+            within.1.0,
+            (
+              within.1.1.0,
+              (
+                within.1.1.1,
+                (axes, (level, (c.loop-n.invariant.empty, subst (λ n. MayWalk w child (λ plan. walk (w.steps plan) n child.place) at) (sym again) may))),
+              ),
+            ),
+          ),
+        ),
+      ),
+    )
 
 pub walk_children-returns-in-Err : goal.walk_children-returns-in-Err
 walk_children-returns-in-Err g t c =
     let w = g.T.Tour.walk in
-    let old = between_of c.loop.tour c.loop.above c.loop.parent in
+    let old = between_of c.loop-n.tour c.loop-n.above c.loop-n.parent in
     let new = between_of c.walk_cell.new.tour c.walk_cell.new.above c.walk_cell.new.parent in
-    let child = c.loop.child.cell in
+    let child = c.loop-n.child.cell in
     let again : suc (c.args.levels - 1) ≡ c.args.levels = omega (arith, c.requires.some) in
-    let here : settings_of w c.loop.tour ≡ c.settings-settings.result = ap (λ plan. w.settings plan) c.loop.invariant.leads.plan ∙ sym c.settings-settings.ensures in
-    let parts : c.parts_in-end.result ≡ 3 ^ (settings_of w c.loop.tour).dim = c.parts_in-end.ensures.value ∙ ap (λ (s : TourSettings). 3 ^ s.dim) (sym here) in
-    let below : c.loop.counter < 3 ^ (settings_of w c.loop.tour).dim = omega (arith, c.loop-test.true, parts) in
-    among-fails w g.met.T.Tour.lawful c.args.over.now c.args.ages c.args.levels c.loop.counter below c.loop.invariant
+    let here : settings_of w c.loop-n.tour ≡ c.settings-settings.result = ap (λ plan. w.settings plan) c.loop-n.invariant.leads.plan ∙ sym c.settings-settings.ensures in
+    let parts : c.parts_in-parts.result ≡ 3 ^ (settings_of w c.loop-n.tour).dim = c.parts_in-parts.ensures.value ∙ ap (λ (s : TourSettings). 3 ^ s.dim) (sym here) in
+    let below : c.loop-n.n < 3 ^ (settings_of w c.loop-n.tour).dim = omega (arith, c.loop-n-test.true, parts) in
+    among-fails w g.met.T.Tour.lawful c.args.over.now c.args.ages c.args.levels c.loop-n.n below c.loop-n.invariant
     (subst (λ n. Walks w (λ plan. walk (w.steps plan) n child.place) (Err c.in-Err.stop) old new) again c.in-Err.ensures.walks)
 
-pub walk_children-loop-preserved : goal.walk_children-loop-preserved
-walk_children-loop-preserved g t c =
+pub walk_children-loop-n-preserved : goal.walk_children-loop-n-preserved
+walk_children-loop-n-preserved g t c =
     let w = g.T.Tour.walk in
     let over = c.args.over.now in
     let ages = c.args.ages in
     let first = between_of c.args.tour.now c.args.above.now c.args.parent.now in
-    let old = between_of c.loop.tour c.loop.above c.loop.parent in
+    let old = between_of c.loop-n.tour c.loop-n.above c.loop-n.parent in
     let new = between_of c.walk_cell.new.tour c.walk_cell.new.above c.walk_cell.new.parent in
-    let n = c.loop.counter in
-    let child = c.loop.child.cell in
-    let next = c.advance.new.child.cell in
+    let n = c.loop-n.n in
+    let child = c.loop-n.child in
+    let next = c.if-n-parts.child in
     let again : suc (c.args.levels - 1) ≡ c.args.levels = omega (arith, c.requires.some) in
-    let here : settings_of w c.loop.tour ≡ c.settings-settings.result = ap (λ plan. w.settings plan) c.loop.invariant.leads.plan ∙ sym c.settings-settings.ensures in
-    let parts : c.parts_in-end.result ≡ 3 ^ (settings_of w c.loop.tour).dim = c.parts_in-end.ensures.value ∙ ap (λ (s : TourSettings). 3 ^ s.dim) (sym here) in
-    let below : n < 3 ^ (settings_of w c.loop.tour).dim = omega (arith, c.loop-test.true, parts) in
-    let walks = subst (λ m. Walks w (λ plan. walk (w.steps plan) m child.place) (Ok c.in-Ok.field-0) old new) again c.in-Ok.ensures.walks in
+    let here : settings_of w c.loop-n.tour ≡ c.settings-settings.result = ap (λ plan. w.settings plan) c.loop-n.invariant.leads.plan ∙ sym c.settings-settings.ensures in
+    let parts : c.parts_in-parts.result ≡ 3 ^ (settings_of w c.loop-n.tour).dim = c.parts_in-parts.ensures.value ∙ ap (λ (s : TourSettings). 3 ^ s.dim) (sym here) in
+    let below : n < 3 ^ (settings_of w c.loop-n.tour).dim = omega (arith, c.loop-n-test.true, parts) in
+    let walks = subst (λ m. Walks w (λ plan. walk (w.steps plan) m child.cell.place) (Ok c.in-Ok.field-0) old new) again c.in-Ok.ensures.walks in
     let there : settings_of w c.walk_cell.new.tour ≡ c.settings-settings.result = ap (λ plan. w.settings plan) walks.goes.plan ∙ here in
     let one : n + 1 ≡ suc n = omega arith in
-    let is : suc n < 3 ^ (settings_of w c.walk_cell.new.tour).dim → IsNth (settings_of w c.walk_cell.new.tour) over ages (suc n) next = λ few.
-        let few-here = subst (λ (s : TourSettings). n + 1 < 3 ^ s.dim) there (subst (λ m. m < 3 ^ (settings_of w c.walk_cell.new.tour).dim) (sym one) few) in
-        let nth = c.advance.ensures n (subst (λ s. IsNth s over ages n child) here (c.loop.invariant.nth below)) few-here in
-        subst (λ s. IsNth s over ages (suc n) next) (sym there) (subst (λ m. IsNth c.settings-settings.result over ages m next) one nth) in
+    let s = c.settings-settings.result in
+    let count : c.parts_in-parts.result ≡ 3 ^ s.dim = c.parts_in-parts.ensures.value in
+    let nth = subst (λ s. IsChild s over ages n child) here (c.loop-n.invariant.nth below) in
+    let comes : n + 1 < 3 ^ s.dim → IsChild s over ages (n + 1) next = elim c.if-n-parts.branch [
+      | walk_children-then-n-parts b ↦ (λ few. subst (IsChild s over ages (n + 1)) (sym b.child-is) (b.advance.ensures n few nth))
+      | walk_children-else-n-parts b ↦ (λ few. absurd (omega (arith, few, count, b.if-n-parts.false)))
+    ] in
+    let is : suc n < 3 ^ (settings_of w c.walk_cell.new.tour).dim → IsChild (settings_of w c.walk_cell.new.tour) over ages (suc n) next = λ few.
+    let few-here = subst (λ (s : TourSettings). n + 1 < 3 ^ s.dim) there (subst (λ m. m < 3 ^ (settings_of w c.walk_cell.new.tour).dim) (sym one) few) in
+    subst (λ s. IsChild s over ages (suc n) next) (sym there) (subst (λ m. IsChild s over ages m next) one (comes few-here)) in
     subst (λ m. IsAmong w over ages c.args.levels first m next c.walk_cell.new.own new) (sym one)
-    (among-next w g.met.T.Tour.lawful over ages c.args.levels n below c.loop.invariant walks is c.in-Ok.ensures.empty)
+    (among-next w g.met.T.Tour.lawful over ages c.args.levels n below c.loop-n.invariant walks is c.in-Ok.ensures.empty)
 
 pub walk_children-returns : goal.walk_children-returns
 walk_children-returns g t c =
     let w = g.T.Tour.walk in
-    let here : settings_of w c.loop.tour ≡ c.settings-settings.result = ap (λ plan. w.settings plan) c.loop.invariant.leads.plan ∙ sym c.settings-settings.ensures in
-    let parts : c.parts_in-end.result ≡ 3 ^ (settings_of w c.loop.tour).dim = c.parts_in-end.ensures.value ∙ ap (λ (s : TourSettings). 3 ^ s.dim) (sym here) in
-    let all : c.loop.counter ≡ 3 ^ (settings_of w c.loop.tour).dim = omega (arith, c.loop-test.false, c.loop.invariant.few, parts) in
-    among-ends w g.met.T.Tour.lawful c.args.over.now c.args.ages c.args.levels c.loop.counter all c.loop.invariant
+    let here : settings_of w c.loop-n.tour ≡ c.settings-settings.result = ap (λ plan. w.settings plan) c.loop-n.invariant.leads.plan ∙ sym c.settings-settings.ensures in
+    let parts : c.parts_in-parts.result ≡ 3 ^ (settings_of w c.loop-n.tour).dim = c.parts_in-parts.ensures.value ∙ ap (λ (s : TourSettings). 3 ^ s.dim) (sym here) in
+    let all : c.loop-n.n ≡ 3 ^ (settings_of w c.loop-n.tour).dim = omega (arith, c.loop-n-test.false, c.loop-n.invariant.few, parts) in
+    among-ends w g.met.T.Tour.lawful c.args.over.now c.args.ages c.args.levels c.loop-n.n all c.loop-n.invariant

@@ -19,7 +19,7 @@ abbrev pub decreases-walk_children : goal.decreases-walk_children
 decreases-walk_children g l = 5 * l.levels
 
 -- some children are walked, and the others are to come
-abbrev pub invariant-walk_children-loop : goal.invariant-walk_children-loop
-invariant-walk_children-loop g l =
+abbrev pub invariant-walk_children-loop-n : goal.invariant-walk_children-loop-n
+invariant-walk_children-loop-n g l =
     let w = g.T.Tour.walk in
-    IsAmong w l.over l.ages l.levels (between_of l.initial.tour l.initial.above l.initial.parent) l.counter l.child.cell l.own (between_of l.tour l.above l.parent)
+    IsAmong w l.over l.ages l.levels (between_of l.initial.tour l.initial.above l.initial.parent) l.n l.child l.own (between_of l.tour l.above l.parent)
