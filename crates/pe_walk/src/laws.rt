@@ -55,7 +55,7 @@ pub fn law_of_a_face<E: Effects>()
 {}
 
 /// The walk of a cell does the same whatever lies beneath what it takes, and leaves all records there as they are. So, where a
-/// cell may be walked, the vertices beneath are afterwards where they were, each with its values.
+/// cell may be walked, the vertices and the cells beneath are afterwards where they were, each with its values.
 pub fn beneath_is_left<E: Effects>()
     ensures left { BeneathIsLeft E.Plan }
     ensures stays { BeneathStays E.Plan }
