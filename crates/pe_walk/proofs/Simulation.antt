@@ -66,3 +66,5 @@ pub mod CutCells
 pub mod FirstCells
 -- and those of each cell that is entered
 pub mod InnerCells
+-- and with the last child the cell's own walk ends
+pub mod LastCells

@@ -1,5 +1,5 @@
 -- A cell that may be walked may be walked without the vertices that lie beneath. So they stay.
-use Rattle.std.proofs.Common.{◌≡◌, ℕ, ℤ, zero, suc, ◌+◌, ◌^◌, ◌<◌, ◌≤◌, Bool, true, false, not, ◌&&◌, List, [], map, length, Option, Some, None, refl, sym, ap, ap₂, subst, ◌∙◌, inl, inr, append-nil, arith}
+use Rattle.std.proofs.Common.{◌≡◌, ℕ, zero, suc, ◌+◌, ◌^◌, ◌<◌, ◌≤◌, Bool, true, false, not, ◌&&◌, List, [], map, length, Option, Some, None, refl, sym, ap, ap₂, subst, ◌∙◌, inl, inr, append-nil, arith}
 use Rattle.std.specs.Prelude.{nat_lt, is_some, if◌then◌else◌}
 use Rattle.std.specs.Option.{unwrap_or}
 use Rattle.std.specs.List.{range_with_len, AllByRecursion as Each}
@@ -14,7 +14,7 @@ use Rattle.pe_base.specs.Walk.Core.{Setting}
 use Rattle.pe_base.specs.Walk.Working.{Working, no_vertex, vertex_at, cell_at, record_at, family_of}
 use Rattle.pe_base.proofs.Lists.{Each-left, map_same}
 use Rattle.pe_base.proofs.Walk.Families.{Each-range}
-use Rattle.pe_stacks.specs.Holdings.{Stack, stack_at, items_at}
+use Rattle.pe_stacks.specs.Holdings.{Stack, items_at}
 use Rattle.pe_stacks.specs.Grid.{output_stack}
 use Rattle.pe_hang.specs.InHand.{map_holdings}
 use Rattle.pe_adapt.specs.CountedTouches.{Machine}
