@@ -51,8 +51,13 @@ pub record KeepsBeneath {X : Type 0} (count : ℕ) (before after : List X) : Typ
   pub is : after ≡ left ++ beneath
   pub all : length beneath ≡ count
 
--- Where a cell may be walked and was, the vertices that lay beneath what it took from their stack lie beneath what it left there.
+-- The vertices and the cells that lay beneath what the walk of a cell took from their stack lie beneath what it left there.
+pub record LeavesBeneath (at : Moment) (before after : Machine) : Type 0 where
+  pub vertices : (s : ℕ) → KeepsBeneath (length (at.beneath s)) (items_at before.vertices s) (items_at after.vertices s)
+  pub cells : (s : ℕ) → KeepsBeneath (length (at.cells_beneath s)) (items_at before.cells s) (items_at after.cells s)
+
+-- So it is where a cell may be walked and was.
 abbrev pub BeneathStays : Type 0 → Type 0
 BeneathStays Plan = (set : Setting Plan) (at : Moment) (m after : Machine) → MayWalk set at m
     → (walk_cell set (stream_stacks_of at.foreseen_start.outlook.swapped) (suc at.levels) at.stage.cell m).ending ≡ done after
-    → (s : ℕ) → KeepsBeneath (length (at.beneath s)) (items_at m.vertices s) (items_at after.vertices s)
+    → LeavesBeneath at m after

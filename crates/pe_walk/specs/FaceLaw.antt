@@ -10,7 +10,7 @@ use Rattle.pe_base.specs.Tree.Places.{IsCellPlace, IsDigits, root, child_at, par
 use Rattle.pe_base.specs.Tree.Ways.{way_of}
 use Rattle.pe_base.specs.Tree.Curve.{children}
 use Rattle.pe_base.specs.Life.Kinds.{is_hanging}
-use Rattle.pe_base.specs.Walk.Course.{Ending, done, halts, stuck, Push, Course, and_then}
+use Rattle.pe_base.specs.Walk.Course.{Ending, done, halts, stuck, Push, Course, and_then, each}
 use Rattle.pe_base.specs.Walk.Core.{Setting, Own, way}
 use Rattle.pe_base.specs.Walk.Grids.{Grid}
 use Rattle.pe_base.specs.Walk.Working.{Working}
@@ -189,3 +189,25 @@ abbrev pub NextCellMayBeWalked : Type 0 → Type 0
 NextCellMayBeWalked Plan = (set : Setting Plan) (greatest stream cell_stream : ℕ) (cell next : Place) (others beyond : List Place) (m after : Machine) (working : Working) (at : Moment)
     → MayCall set greatest cell stream cell_stream m at → ComeAfter set (next ∷ others) beyond at → HasWalked set at working after
     → (moment : Moment) × MayCall set greatest next stream cell_stream after moment × ComeAfter set others beyond moment
+
+-- a cell from its children on: it is left, and its corners are stored
+abbrev pub leaves : {Plan : Type 0} → Setting Plan → StreamStacks → Place → Own × Machine → Course Machine
+leaves set streams cell it = and_then (machine.leave_cell set streams cell it) (λ it. machine.store_all set streams cell 0 it.0 it.1)
+
+-- The three parts of the walk of a cell, up to its children, of these, and from them on, are together its walk by address: they
+-- add the same text, and the last ends alike.
+pub record MakesTheWalk {Plan A : Type 0} (set : Setting Plan) (at : Moment) (entered : Course A) (below left : Course Machine) : Type 0 where
+  pub text : entered.text ++ (below.text ++ left.text) ≡ (by_address set at).text
+  pub ending : CellEndsAlike set at (by_address set at).ending left.ending
+
+-- Once a cell that may be walked was entered, and its children were walked one after another, its corners and numbers come to
+-- hand again; and as it is left, and its corners are stored, its own walk ends.
+abbrev pub LastChildEndsTheCell : Type 0 → Type 0
+LastChildEndsTheCell Plan = (set : Setting Plan) (at : Moment) (m walked : Machine) (it : Own × Machine) → MayWalk set at m
+    → (enters set (stream_stacks_of at.foreseen_start.outlook.swapped) at.stage.cell m).ending ≡ done it → is_hanging (kind_below it.0.corners) ≡ false
+    → (each (machine.walk_cell set (stream_stacks_of at.foreseen_start.outlook.swapped) at.levels) (children set.axes (way set) at.stage.cell)
+    (machine.inside set (stream_stacks_of at.foreseen_start.outlook.swapped) it.0 it.1)).ending ≡ done walked
+    → MakesTheWalk set at (enters set (stream_stacks_of at.foreseen_start.outlook.swapped) at.stage.cell m)
+    (each (machine.walk_cell set (stream_stacks_of at.foreseen_start.outlook.swapped) at.levels) (children set.axes (way set) at.stage.cell)
+    (machine.inside set (stream_stacks_of at.foreseen_start.outlook.swapped) it.0 it.1))
+    (leaves set (stream_stacks_of at.foreseen_start.outlook.swapped) at.stage.cell (machine.outside set (stream_stacks_of at.foreseen_start.outlook.swapped) it.1 walked))
