@@ -7,7 +7,7 @@ use pe_stream::HeaderField::{
 };
 use pe_stream::{Expect, HeaderField, StreamFault, read_stream, write_stream};
 use std::alloc::Global;
-use std::test::Fail;
+use std::process::Abort;
 
 /// A stream of two dimensions with 29 vertices, of which the first is refined, and 45 cells, after two
 /// traversals. Nothing has fields.
@@ -44,22 +44,19 @@ const FULL: [u8; 98] = [
 ];
 
 /// What a scenario of two traversals without fields expects.
-fn expected() -> Option<Expect> {
-    Some(Expect {
-        dim: Dim::new(2)?,
+fn expected(rt: &impl Abort) -> Expect {
+    Expect {
+        dim: Dim::new(2).expect(rt, "a dimension"),
         max_level: 5,
         vertex_fields: 0,
         cell_fields: 0,
         global_fields: 0,
         traversals: 2,
-    })
+    }
 }
 
 fn fault_of(alloc: Global, bytes: &[u8], expect: Option<&Expect>) -> Option<StreamFault> {
-    match read_stream(alloc, bytes, expect) {
-        Ok(_) => None,
-        Err(fault) => Some(fault),
-    }
+    read_stream(alloc, bytes, expect).err()
 }
 
 fn header(field: HeaderField, found: u64) -> Option<StreamFault> {
@@ -71,156 +68,185 @@ fn length(expected: u128, found: u64) -> Option<StreamFault> {
 }
 
 #[test]
-fn plain_both_ways(rt: HostRuntime) -> Result<(), Fail> {
-    let alloc = rt.alloc();
-    let expect = expected().ok_or("two axes")?;
-    let saved = read_stream(alloc, &plain(), Some(&expect))?;
-    assert!(rt; saved.dim.axes() == 2);
-    assert!(rt; saved.max_level == 5);
-    assert!(rt; saved.finished == 2);
-    assert!(rt; saved.vertices.as_slice().len() == 29);
-    let first = saved.vertices.as_slice().first().ok_or("first")?;
-    assert!(rt; first.state == State::Refined);
-    assert!(rt; saved.cell_count == 45);
-    assert!(rt; saved.cells.as_slice().is_empty());
-    let bytes = write_stream(alloc, &saved)?;
+fn plain_both_ways(rt: HostRuntime) {
+    let expect = expected(&rt);
+    let saved = read_stream(rt.alloc(), &plain(), Some(&expect)).expect(&rt, "a stream");
+    let vertices = saved.vertices.as_slice();
+    let cells = saved.cells.as_slice();
+    assert!(rt; (saved.dim.axes(), saved.max_level, saved.finished) == (2, 5, 2));
+    assert!(rt; (vertices.len(), saved.cell_count, cells.len()) == (29, 45, 0));
+    assert!(rt; matches!(vertices, [first, ..] if first.state == State::Refined));
+    let bytes = write_stream(rt.alloc(), &saved).expect(&rt, "memory");
     assert!(rt; bytes.as_slice() == plain().as_slice());
-    Ok(())
 }
 
 #[test]
-fn full_both_ways(rt: HostRuntime) -> Result<(), Fail> {
-    let alloc = rt.alloc();
-    let saved = read_stream(alloc, &FULL, None)?;
-    assert!(rt; saved.globals.get(0) == -2);
-    assert!(rt; saved.globals.get(1) == 0);
-    assert!(rt; saved.root.get(0) == 1);
+fn full_both_ways(rt: HostRuntime) {
+    let saved = read_stream(rt.alloc(), &FULL, None).expect(&rt, "a stream");
     let vertices = saved.vertices.as_slice();
-    assert!(rt; vertices.len() == 2);
-    assert!(rt; vertices[0].state == State::RefinementTriggered);
-    assert!(rt; vertices[0].fields.get(0) == 258);
-    assert!(rt; vertices[1].state == State::EraseTriggered);
-    assert!(rt; vertices[1].fields.get(0) == i64::MIN);
     let cells = saved.cells.as_slice();
+    assert!(rt; vertices.len() == 2);
     assert!(rt; cells.len() == 3);
-    assert!(rt; cells[1].get(0) == -1);
-    assert!(rt; cells[2].get(0) == i64::MAX);
-    assert!(rt; write_stream(alloc, &saved)?.as_slice() == FULL.as_slice());
-    Ok(())
+    let states = [vertices[0].state, vertices[1].state];
+    let numbers = [
+        saved.globals.get(0),
+        saved.globals.get(1),
+        saved.root.get(0),
+        vertices[0].fields.get(0),
+        vertices[1].fields.get(0),
+        cells[1].get(0),
+        cells[2].get(0),
+    ];
+    assert!(rt; states == [State::RefinementTriggered, State::EraseTriggered]);
+    assert!(rt; numbers == [-2, 0, 1, 258, i64::MIN, -1, i64::MAX]);
+    let bytes = write_stream(rt.alloc(), &saved).expect(&rt, "memory");
+    assert!(rt; bytes.as_slice() == FULL.as_slice());
 }
 
 #[test]
 fn other_lengths(rt: HostRuntime) {
     let alloc = rt.alloc();
-    let bytes = plain();
-    for n in 0..69 {
-        let expected = if n < 40 { 40 } else { 69 };
-        assert!(rt; fault_of(alloc, &bytes[..n], None) == length(expected, n as u64));
-    }
     let mut longer = [0; 70];
-    longer[..69].copy_from_slice(&bytes);
-    assert!(rt; fault_of(alloc, &longer, None) == length(69, 70));
+    longer[..69].copy_from_slice(&plain());
+    for n in 0..71 {
+        let fault = fault_of(alloc, &longer[..n], None);
+        let wanted = match n {
+            69 => None,
+            _ if n < 40 => length(40, n as u64),
+            _ => length(69, n as u64),
+        };
+        assert!(rt; fault == wanted, "{n}");
+    }
     let many = with_number(24, u64::MAX);
     assert!(rt; fault_of(alloc, &many, None) == length(18_446_744_073_709_551_655, 69));
 }
 
-#[test]
-fn changed_bytes(rt: HostRuntime) -> Result<(), Fail> {
-    let alloc = rt.alloc();
-    let expect = expected().ok_or("two axes")?;
-    let changes: [(usize, u8, Option<StreamFault>); 12] = [
-        (0, 0x51, Some(StreamFault::Magic)),
-        (7, 0, Some(StreamFault::Magic)),
-        (8, 2, Some(StreamFault::Version { found: 2 })),
-        (9, 3, header(DimField, 3)),
-        (10, 6, header(MaxLevel, 6)),
-        (11, 1, header(VertexFields, 1)),
-        (12, 1, header(CellFields, 1)),
-        (13, 1, header(GlobalFields, 1)),
-        (14, 1, header(Zero, 1)),
-        (16, 0, header(Traversals, 0)),
-        (41, 2, Some(StreamFault::State { index: 1, found: 2 })),
-        (32, 0x2c, None),
-    ];
-    for (place, byte, fault) in changes {
-        let mut bytes = plain();
-        assert!(rt; place < 69);
-        bytes[place] = byte;
+// The fault of the plain stream with one byte changed.
+fn fault_at(
+    rt: &impl Abort,
+    alloc: Global,
+    place: usize,
+    byte: u8,
+    expect: Option<&Expect>,
+) -> Option<StreamFault> {
+    let mut bytes = plain();
+    assert!(rt; place < 69);
+    bytes[place] = byte;
+    fault_of(alloc, &bytes, expect)
+}
+
+// Places and their bytes, each with its fault.
+const CHANGED: &[(usize, u8, Option<StreamFault>)] = &[
+    (0, 0x51, Some(StreamFault::Magic)),
+    (7, 0, Some(StreamFault::Magic)),
+    (8, 2, Some(StreamFault::Version { found: 2 })),
+    (41, 2, Some(StreamFault::State { index: 1, found: 2 })),
+    (32, 0x2c, None),
+];
+
+// Fields of a header with numbers that are not those expected.
+const UNEXPECTED: &[(usize, u8, HeaderField)] = &[
+    (9, 3, DimField),
+    (10, 6, MaxLevel),
+    (11, 1, VertexFields),
+    (12, 1, CellFields),
+    (13, 1, GlobalFields),
+    (14, 1, Zero),
+    (16, 0, Traversals),
+];
+
+// Fields of a header with numbers that are out of their limits, whatever is expected.
+const OUT_OF_LIMITS: &[(usize, u8, HeaderField)] = &[
+    (9, 1, DimField),
+    (9, 5, DimField),
+    (10, 0, MaxLevel),
+    (10, 21, MaxLevel),
+    (11, 9, VertexFields),
+    (12, 9, CellFields),
+    (13, 9, GlobalFields),
+    (16, 0, Traversals),
+];
+
+fn check_headers(
+    rt: &impl Abort,
+    alloc: Global,
+    expect: Option<&Expect>,
+    headers: &[(usize, u8, HeaderField)],
+) {
+    for (place, byte, field) in headers {
+        let fault = fault_at(rt, alloc, *place, *byte, expect);
         assert!(rt;
-            fault_of(alloc, &bytes, Some(&expect)) == fault,
-            "at {place}"
+            fault == header(*field, u64::from(*byte)),
+            "{byte} at {place}"
         );
     }
-    Ok(())
 }
 
 #[test]
-fn headers_out_of_their_limits(rt: HostRuntime) {
-    let alloc = rt.alloc();
-    let changes = [
-        (9, 1, DimField),
-        (9, 5, DimField),
-        (10, 0, MaxLevel),
-        (10, 21, MaxLevel),
-        (11, 9, VertexFields),
-        (12, 9, CellFields),
-        (13, 9, GlobalFields),
-        (16, 0, Traversals),
-    ];
-    for (place, byte, field) in changes {
-        let mut bytes = plain();
-        assert!(rt; place < 69);
-        bytes[place] = byte;
-        assert!(rt; fault_of(alloc, &bytes, None) == header(field, u64::from(byte)));
+fn changed_bytes(rt: HostRuntime) {
+    let expect = expected(&rt);
+    for (place, byte, wanted) in CHANGED {
+        let fault = fault_at(&rt, rt.alloc(), *place, *byte, Some(&expect));
+        assert!(rt; fault == *wanted, "{byte} at {place}");
     }
+    check_headers(&rt, rt.alloc(), Some(&expect), UNEXPECTED);
+    check_headers(&rt, rt.alloc(), None, OUT_OF_LIMITS);
     let mut bytes = plain();
     bytes[14] = 1;
     bytes[15] = 2;
-    assert!(rt; fault_of(alloc, &bytes, None) == header(Zero, 513));
+    assert!(rt; fault_of(rt.alloc(), &bytes, None) == header(Zero, 513));
+}
+
+// How many traversals are finished, and whether so many are refused: alone, and beside those of the scenario.
+const FINISHED: &[(u64, bool, bool)] = &[
+    (999_999_998, false, false),
+    (999_999_999, false, true),
+    (1_000_000_000, false, true),
+    (1_000_000_001, true, true),
+];
+
+// The fault of so many traversals, if they are refused.
+fn too_many(count: u64, is_refused: bool) -> Option<StreamFault> {
+    if is_refused {
+        header(Traversals, count)
+    } else {
+        None
+    }
 }
 
 #[test]
-fn finished_traversals(rt: HostRuntime) -> Result<(), Fail> {
-    let alloc = rt.alloc();
-    let expect = expected().ok_or("two axes")?;
-    let finished: [u64; 4] = [999_999_998, 999_999_999, 1_000_000_000, 1_000_000_001];
-    let alone = [None, None, None, header(Traversals, 1_000_000_001)];
-    for (count, fault) in finished.iter().zip(alone) {
+fn finished_traversals(rt: HostRuntime) {
+    let expect = expected(&rt);
+    for (count, alone, together) in FINISHED {
         let bytes = with_number(16, *count);
-        assert!(rt; fault_of(alloc, &bytes, None) == fault);
-        let together = if *count > 999_999_998 {
-            header(Traversals, *count)
-        } else {
-            None
-        };
-        assert!(rt; fault_of(alloc, &bytes, Some(&expect)) == together);
+        let faults = (
+            fault_of(rt.alloc(), &bytes, None),
+            fault_of(rt.alloc(), &bytes, Some(&expect)),
+        );
+        let wanted = (too_many(*count, *alone), too_many(*count, *together));
+        assert!(rt; faults == wanted, "{count}");
     }
-    Ok(())
 }
 
 #[test]
 fn states_of_each_vertex(rt: HostRuntime) {
-    let alloc = rt.alloc();
     for i in 0..29 {
         for byte in 0..=255 {
-            let mut bytes = plain();
-            bytes[40 + i] = byte;
             let known = byte == 0 || byte == 1 || byte == 3 || byte == 4;
             let fault = StreamFault::State {
                 index: i as u64,
                 found: byte,
             };
             let wanted = if known { None } else { Some(fault) };
-            assert!(rt; fault_of(alloc, &bytes, None) == wanted);
+            assert!(rt; fault_at(&rt, rt.alloc(), 40 + i, byte, None) == wanted);
         }
     }
 }
 
 #[test]
-fn cells_without_fields(rt: HostRuntime) -> Result<(), Fail> {
+fn cells_without_fields(rt: HostRuntime) {
     let bytes = with_number(32, u64::MAX);
-    let saved = read_stream(rt.alloc(), &bytes, None)?;
-    assert!(rt; saved.cell_count == u64::MAX);
-    assert!(rt; saved.cells.as_slice().is_empty());
-    Ok(())
+    let saved = read_stream(rt.alloc(), &bytes, None).expect(&rt, "a stream");
+    let cells = saved.cells.as_slice();
+    assert!(rt; (saved.cell_count, cells.len()) == (u64::MAX, 0));
 }

@@ -8,7 +8,8 @@ use pe_io::MemSink;
 use pe_mapping::Mapping;
 use pe_scene::{Scenario, read_scenario};
 use pe_stacks::{CellRec, Corners, Vertex};
-use std::test::Fail;
+use std::alloc::{AllocError, Global};
+use std::process::Abort;
 
 const SCENARIO: &str = r#"
 dim = 2
@@ -37,6 +38,14 @@ fn dim_of(scenario: &Scenario) -> Dim
     ensures { result ≡ scenario.now.setup.dim }
 {
     scenario.setup.dim
+}
+
+fn read(rt: &impl Abort, alloc: Global) -> Scenario
+    ensures { result.setup.dim ≡ 2 }
+{
+    let scenario = read_scenario(alloc, SCENARIO.as_bytes()).expect(rt, "a scenario");
+    assert!(rt; dim_of(&scenario).axes() == 2);
+    scenario
 }
 
 fn new_vertex(u: i64) -> Vertex<Fields> {
@@ -71,41 +80,38 @@ fn open(corners: Corners<Fields>)
     corners.close();
 }
 
-#[test]
-fn plain_events(rt: HostRuntime) -> Result<(), Fail> {
-    let scenario = read_scenario(rt.alloc(), SCENARIO.as_bytes())?;
-    let mut sink = MemSink::new(rt.alloc(), 1000, &[])?;
-    let mut mapping = Interp::new(&scenario, Fields::zero(), &mut sink);
-    assert!(rt; mapping.plain_event(Event::BeginIteration, 7) == Ok(()));
-    assert!(rt; mapping.plain_event(Event::EndIteration, 7) == Ok(()));
-    assert!(rt; mapping.globals().get(0) == 5);
-    assert!(rt; sink.text() == b"begin_iteration 7\nprint 7\n".as_slice());
-    Ok(())
+// The last number of a payload, where there is one.
+fn last_number(payload: Result<Fields, AllocError>) -> Option<i64> {
+    match payload {
+        Ok(fields) => Some(fields.get(7)),
+        Err(_) => None,
+    }
 }
 
-#[test]
-fn fresh_payloads(rt: HostRuntime) -> Result<(), Fail> {
-    let scenario = read_scenario(rt.alloc(), SCENARIO.as_bytes())?;
-    let mut sink = MemSink::new(rt.alloc(), 1000, &[])?;
-    let mut mapping = Interp::new(&scenario, Fields::zero(), &mut sink);
+// The last numbers of payloads that are made for a vertex and for a cell.
+fn made(scenario: &Scenario, sink: &mut MemSink) -> (Option<i64>, Option<i64>) {
+    let mut mapping = Interp::new(scenario, Fields::zero(), sink);
     let of_vertex = mapping.fresh_v();
     let of_cell = mapping.fresh_c();
     let _globals = mapping.globals();
-    assert!(rt; (of_vertex?.get(7), of_cell?.get(7)) == (0, 0));
-    Ok(())
+    (last_number(of_vertex), last_number(of_cell))
 }
 
-#[test]
-fn vertex_events(rt: HostRuntime) -> Result<(), Fail> {
-    let scenario = read_scenario(rt.alloc(), SCENARIO.as_bytes())?;
-    let dim = dim_of(&scenario);
-    if dim.axes() != 2 {
-        return Err("dim".into());
-    }
-    let mut sink = MemSink::new(rt.alloc(), 1000, &[])?;
-    let mut mapping = Interp::new(&scenario, Fields::zero(), &mut sink);
+// Fires the plain events, and tells what they answer, and the number of the grid.
+fn fire_plain(scenario: &Scenario, sink: &mut MemSink) -> ([Result<(), Stop>; 2], i64) {
+    let mut mapping = Interp::new(scenario, Fields::zero(), sink);
+    let begun = mapping.plain_event(Event::BeginIteration, 7);
+    let ended = mapping.plain_event(Event::EndIteration, 7);
+    ([begun, ended], mapping.globals().get(0))
+}
+
+// Fires an event of a vertex, and tells what it answers, the vertex's state and number, and the number of the grid.
+fn fire_vertex(scenario: &Scenario, sink: &mut MemSink) -> (Result<(), Stop>, State, i64, i64)
+    requires { scenario.now.setup.dim ≡ 2 }
+{
+    let mut mapping = Interp::new(scenario, Fields::zero(), sink);
     let mut vertex = Vertex::new(State::Unrefined, Kind::Kept, Fields::zero());
-    let mut parents = square(dim, [10, 11, 12, 13]);
+    let mut parents = square(scenario.setup.dim, [10, 11, 12, 13]);
     let mut parent = CellRec::new(Fields::zero());
     let answer = mapping.vertex_event(
         Event::TouchVertexLastTime,
@@ -115,28 +121,20 @@ fn vertex_events(rt: HostRuntime) -> Result<(), Fail> {
         &mut parents,
         &mut parent,
     );
-    assert!(rt; answer == Ok(()));
-    assert!(rt; mapping.globals().get(0) == 0);
-    assert!(rt; (vertex.state(), vertex.payload().get(0)) == (State::RefinementTriggered, 14));
-    assert!(rt; sink.text() == b"touch_vertex_last_time 1 1 2\nprint 1 14 0\n".as_slice());
     open(parents);
-    Ok(())
+    let sum = mapping.globals().get(0);
+    (answer, vertex.state(), vertex.payload().get(0), sum)
 }
 
-// The cell is entered, and left: the division by 0 stops the second event behind its first print.
-#[test]
-fn cell_events(rt: HostRuntime) -> Result<(), Fail> {
-    let scenario = read_scenario(rt.alloc(), SCENARIO.as_bytes())?;
-    let dim = dim_of(&scenario);
-    if dim.axes() != 2 {
-        return Err("dim".into());
-    }
-    let mut sink = MemSink::new(rt.alloc(), 1000, &[])?;
-    let mut mapping = Interp::new(&scenario, Fields::zero(), &mut sink);
+// Enters a cell and leaves it, and tells what both answer, the cell's number, and the number of the grid.
+fn fire_cell(scenario: &Scenario, sink: &mut MemSink) -> ([Result<(), Stop>; 2], i64, i64)
+    requires { scenario.now.setup.dim ≡ 2 }
+{
+    let mut mapping = Interp::new(scenario, Fields::zero(), sink);
     let mut cell = CellRec::new(Fields::zero());
     let mut parent = CellRec::new(Fields::zero());
-    let mut corners = square(dim, [1, 2, 3, 4]);
-    let mut parents = square(dim, [0, 0, 0, 0]);
+    let mut corners = square(scenario.setup.dim, [1, 2, 3, 4]);
+    let mut parents = square(scenario.setup.dim, [0, 0, 0, 0]);
     let entered = mapping.cell_event(
         Event::EnterCell,
         1,
@@ -146,7 +144,6 @@ fn cell_events(rt: HostRuntime) -> Result<(), Fail> {
         &mut parents,
         &mut parent,
     );
-    assert!(rt; entered == Ok(()));
     let left = mapping.cell_event(
         Event::LeaveCell,
         1,
@@ -156,10 +153,31 @@ fn cell_events(rt: HostRuntime) -> Result<(), Fail> {
         &mut parents,
         &mut parent,
     );
-    assert!(rt; left == Err(Stop::Division));
-    assert!(rt; (cell.payload().get(0), mapping.globals().get(0)) == (41, 41));
-    assert!(rt; sink.text() == b"leave_cell 1 1 2\nprint -3 1 -3 -1 1 0\n".as_slice());
     open(corners);
     open(parents);
-    Ok(())
+    let sum = mapping.globals().get(0);
+    ([entered, left], cell.payload().get(0), sum)
+}
+
+// Of the cell's events the second is stopped behind its first print by a division by 0.
+#[test]
+fn what_events_do(rt: HostRuntime) {
+    let scenario = read(&rt, rt.alloc());
+    let mut sink = MemSink::new(rt.alloc(), 1000, &[]).expect(&rt, "memory");
+    let made = made(&scenario, &mut sink);
+    assert!(rt; made == (Some(0), Some(0)));
+    let plain = fire_plain(&scenario, &mut sink);
+    assert!(rt; plain == ([Ok(()), Ok(())], 5));
+    let vertex = fire_vertex(&scenario, &mut sink);
+    assert!(rt; vertex == (Ok(()), State::RefinementTriggered, 14, 0));
+    let cell = fire_cell(&scenario, &mut sink);
+    assert!(rt; cell == ([Ok(()), Err(Stop::Division)], 41, 41));
+    let text = b"\
+        begin_iteration 7\n\
+        print 7\n\
+        touch_vertex_last_time 1 1 2\n\
+        print 1 14 0\n\
+        leave_cell 1 1 2\n\
+        print -3 1 -3 -1 1 0\n";
+    assert!(rt; sink.text() == text.as_slice());
 }

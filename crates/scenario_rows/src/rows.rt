@@ -1,10 +1,15 @@
 //! The rows of docs/FORMATS.md on scenarios: what is read, and what is refused for which cause.
 
-use pe_base::{Event, Text};
+use pe_base::{Event, List, Text};
 use pe_scene::{Scenario, SceneFault, read_scenario};
 use std::alloc::{AllocError, Global};
 use std::process::Abort;
-use std::test::Fail;
+
+// What most rows begin with.
+const PLANE: &str = "dim = 2\ntraversals = 1\n";
+
+// What the rows of bodies begin with: a number `u` of each vertex and a number `c` of each cell.
+const FIELDS: &str = "dim = 2\ntraversals = 1\nfields.vertex = ['u']\nfields.cell = ['c']\nevents.";
 
 // Documents that are refused, with a `~` between lines; before each the cause, with the key, or with the event and the
 // offset in its body.
@@ -29,9 +34,11 @@ const REFUSED: &[(&str, &str)] = &[
         "Range traversals",
         "dim = 2 ~ traversals = 1001 ~ max_level = 0",
     ),
+    ("NotToml", "dim = 2~dim = 2"),
+    ("NotToml", "dim ="),
 ];
 
-// The same, behind `dim = 2` and `traversals = 1`.
+// The same, in the plane.
 const REFUSED_BEHIND: &[(&str, &str)] = &[
     ("UnknownKey a b", "'a b' = 1"),
     ("Range max_level", "max_level = 0 ~ start_level = 0"),
@@ -103,42 +110,82 @@ const REFUSED_BEHIND: &[(&str, &str)] = &[
         "Syntax enter_cell 7",
         "events.leave_cell = 1 ~ events.enter_cell = 'print 1'",
     ),
+    // A key is told as it stands, however long it is, and whatever its letters.
+    (
+        "UnknownKey Größe-der-Zellen-und-Ecken-in-allen-Dimensionen-und-auf-allen-Stufen-des-Gitters",
+        "'Größe-der-Zellen-und-Ecken-in-allen-Dimensionen-und-auf-allen-Stufen-des-Gitters' = 1",
+    ),
+    (
+        "UnknownKey fields.Größe-der-Zellen-und-Ecken-in-allen-Dimensionen-und-auf-allen-Stufen-des-Gitters",
+        "fields.'Größe-der-Zellen-und-Ecken-in-allen-Dimensionen-und-auf-allen-Stufen-des-Gitters' = 1",
+    ),
+    (
+        "UnknownKey events.Größe-der-Zellen-und-Ecken-in-allen-Dimensionen-und-auf-allen-Stufen-des-Gitters",
+        "events.'Größe-der-Zellen-und-Ecken-in-allen-Dimensionen-und-auf-allen-Stufen-des-Gitters' = 1",
+    ),
 ];
 
-// Bodies that are refused, in two dimensions, with a number `u` of each vertex and a number `c` of each cell.
+// Events and their bodies that are refused.
 const REFUSED_BODIES: &[(&str, &str)] = &[
-    ("Character enter_cell 11", "cell.c = 1 & 2;"),
-    ("Character enter_cell 11", "print 1 +; &"),
-    ("Syntax begin_iteration 9", "print 1 +;"),
-    ("Syntax begin_iteration 18", "print y; print 1 +;"),
+    ("Character enter_cell 11", "enter_cell = 'cell.c = 1 & 2;'"),
+    ("Character enter_cell 11", "enter_cell = 'print 1 +; &'"),
+    ("Syntax begin_iteration 9", "begin_iteration = 'print 1 +;'"),
+    (
+        "Syntax begin_iteration 18",
+        "begin_iteration = 'print y; print 1 +;'",
+    ),
     (
         "TooDeep end_iteration 70",
-        "print (((((((((((((((((((((((((((((((((((((((((((((((((((((((((((((((((1)",
+        "end_iteration = 'print (((((((((((((((((((((((((((((((((((((((((((((((((((((((((((((((((1)'",
     ),
-    ("TooMany end_iteration 21", "print 1,1,1,1,1,1,1,1,1;"),
-    ("Literal end_iteration 6", "print 9223372036854775808;"),
-    ("UnknownName destroy_vertex 6", "print y;"),
-    ("UnknownName leave_cell 6", "print cell.d;"),
-    ("NotHere begin_iteration 6", "print v.u;"),
-    ("Corner enter_cell 0", "v4.u = 1;"),
-    ("ReadOnly begin_iteration 0", "t = 1;"),
+    (
+        "TooMany end_iteration 21",
+        "end_iteration = 'print 1,1,1,1,1,1,1,1,1;'",
+    ),
+    (
+        "Literal end_iteration 6",
+        "end_iteration = 'print 9223372036854775808;'",
+    ),
+    (
+        "UnknownName destroy_vertex 6",
+        "destroy_vertex = 'print y;'",
+    ),
+    ("UnknownName leave_cell 6", "leave_cell = 'print cell.d;'"),
+    (
+        "NotHere begin_iteration 6",
+        "begin_iteration = 'print v.u;'",
+    ),
+    ("Corner enter_cell 0", "enter_cell = 'v4.u = 1;'"),
+    ("ReadOnly begin_iteration 0", "begin_iteration = 't = 1;'"),
 ];
 
-// Documents that are read, behind `dim = 2` and `traversals = 1`.
-const READ: &[&str] = &[
-    "max_level = 1 ~ max_cells = 81",
-    "max_level = 20 ~ start_level = 20 ~ max_cells = 4194304",
-    "max_level = 7 ~ start_level = 7",
-    "fields.vertex = ['abcdefghijklmnop', 'u_1', 'x0', 't', 'states']",
-    "fields = { vertex = ['u'], cell = ['u'], global = ['u'] }",
-    "fields.cell = ['a', 'b', 'c', 'd', 'e', 'f', 'g', 'h']",
-    "fields = {} ~ events = {} ~ trace = []",
-    "events.enter_cell = ''",
+// Documents in the plane that are read.
+const READ: &[(&str, &str)] = &[
+    ("Read", "max_level = 1 ~ max_cells = 81"),
+    (
+        "Read",
+        "max_level = 20 ~ start_level = 20 ~ max_cells = 4194304",
+    ),
+    ("Read", "max_level = 7 ~ start_level = 7"),
+    (
+        "Read",
+        "fields.vertex = ['abcdefghijklmnop', 'u_1', 'x0', 't', 'states']",
+    ),
+    (
+        "Read",
+        "fields = { vertex = ['u'], cell = ['u'], global = ['u'] }",
+    ),
+    (
+        "Read",
+        "fields.cell = ['a', 'b', 'c', 'd', 'e', 'f', 'g', 'h']",
+    ),
+    ("Read", "fields = {} ~ events = {} ~ trace = []"),
+    ("Read", "events.enter_cell = ''"),
 ];
 
-// The text of a row: a line for each part.
-fn document(alloc: Global, row: &str) -> Result<String, AllocError> {
-    let mut text = String::new(alloc);
+// The text of a row: what stands before its lines, and a line for each part.
+fn document(alloc: Global, head: &str, row: &str) -> Result<String, AllocError> {
+    let mut text = String::from_str(alloc, head)?;
     for c in row.chars() {
         text.push(if c == '~' { '\n' } else { c })?;
     }
@@ -157,114 +204,49 @@ fn described(alloc: Global, fault: &SceneFault) -> Result<String, AllocError> {
             let name = event.name();
             return format!(in alloc; "{cause:?} {name} {at}");
         }
-        SceneFault::TooLong => ("TooLong", ""),
-        SceneFault::NotToml => ("NotToml", ""),
-        SceneFault::Memory => ("Memory", ""),
+        SceneFault::TooLong => return String::from_str(alloc, "TooLong"),
+        SceneFault::NotToml => return String::from_str(alloc, "NotToml"),
+        SceneFault::Memory => return String::from_str(alloc, "Memory"),
     };
     format!(in alloc; "{cause} {key}")
 }
 
-fn read_text(alloc: Global, text: &str) -> Result<Scenario, SceneFault> {
-    read_scenario(alloc, text.as_bytes())
+// What comes of some bytes, as the rows have it.
+fn told(rt: &impl Abort, alloc: Global, bytes: &[u8]) -> String {
+    let told = match read_scenario(alloc, bytes) {
+        Ok(_) => String::from_str(alloc, "Read"),
+        Err(fault) => described(alloc, &fault),
+    };
+    told.expect(rt, "memory")
 }
 
-fn assert_refused(rt: &impl Abort, alloc: Global, text: &str, refusal: &str) -> Result<(), Fail> {
-    match read_text(alloc, text) {
-        Ok(_) => panic!(rt; "{text}"),
-        Err(fault) => {
-            let told = described(alloc, &fault)?;
-            assert!(rt; told.as_str() == refusal, "{told} of {text}");
-        }
+fn check(rt: &impl Abort, alloc: Global, head: &str, rows: &[(&str, &str)]) {
+    for (wanted, row) in rows {
+        let text = document(alloc, head, row).expect(rt, "memory");
+        let told = told(rt, alloc, text.as_bytes());
+        assert!(rt; told.as_str() == *wanted, "{told} of {row}");
     }
-    Ok(())
 }
 
 #[test]
-fn refusals(rt: HostRuntime) -> Result<(), Fail> {
-    for (refusal, lines) in REFUSED {
-        let text = document(rt.alloc(), lines)?;
-        assert_refused(&rt, rt.alloc(), text.as_str(), refusal)?;
-    }
-    Ok(())
+fn documents(rt: HostRuntime) {
+    let alloc = rt.alloc();
+    check(&rt, alloc, "", REFUSED);
+    check(&rt, alloc, PLANE, REFUSED_BEHIND);
+    check(&rt, alloc, FIELDS, REFUSED_BODIES);
+    check(&rt, alloc, PLANE, READ);
 }
 
 #[test]
-fn later_refusals(rt: HostRuntime) -> Result<(), Fail> {
-    for (refusal, lines) in REFUSED_BEHIND {
-        let lines = document(rt.alloc(), lines)?;
-        let text = format!(in rt.alloc(); "dim = 2\ntraversals = 1\n{lines}")?;
-        assert_refused(&rt, rt.alloc(), text.as_str(), refusal)?;
-    }
-    Ok(())
-}
-
-#[test]
-fn refused_bodies(rt: HostRuntime) -> Result<(), Fail> {
-    for (refusal, body) in REFUSED_BODIES {
-        let (_, place) = refusal.split_once(' ').ok_or("a cause")?;
-        let (event, _) = place.split_once(' ').ok_or("an event")?;
-        let text = format!(in rt.alloc();
-            "dim = 2\ntraversals = 1\nfields.vertex = ['u']\nfields.cell = ['c']\nevents.{event} = '{body}'"
-        )?;
-        assert_refused(&rt, rt.alloc(), text.as_str(), refusal)?;
-    }
-    Ok(())
-}
-
-#[test]
-fn documents_that_are_read(rt: HostRuntime) -> Result<(), Fail> {
-    for row in READ {
-        let lines = document(rt.alloc(), row)?;
-        let text = format!(in rt.alloc(); "dim = 2\ntraversals = 1\n{lines}")?;
-        let _scenario = read_text(rt.alloc(), text.as_str())?;
-    }
-    Ok(())
-}
-
-#[test]
-fn bytes_that_are_no_document(rt: HostRuntime) -> Result<(), Fail> {
-    let mut bytes = vec![in rt.alloc(); b'\n'; 1_048_576]?;
-    assert!(rt;
-        matches!(
-            read_scenario(rt.alloc(), &bytes),
-            Err(SceneFault::Missing { .. })
-        )
-    );
-    bytes.push(255)?;
-    assert!(rt; matches!(read_scenario(rt.alloc(), &bytes), Err(SceneFault::TooLong)));
-    assert!(rt; matches!(read_scenario(rt.alloc(), b"\xff"), Err(SceneFault::NotToml)));
-    assert!(rt;
-        matches!(
-            read_text(rt.alloc(), "dim = 2\ndim = 2"),
-            Err(SceneFault::NotToml)
-        )
-    );
-    assert!(rt; matches!(read_text(rt.alloc(), "dim ="), Err(SceneFault::NotToml)));
-    Ok(())
-}
-
-// A key is told as it stands, however long it is, and whatever its letters.
-#[test]
-fn long_keys(rt: HostRuntime) -> Result<(), Fail> {
-    let key = "Größe-der-Zellen-und-Ecken-in-allen-Dimensionen-und-auf-allen-Stufen-des-Gitters";
-    for (table, named) in [("", ""), ("fields.", "fields."), ("events.", "events.")] {
-        let text = format!(in rt.alloc(); "dim = 2\ntraversals = 1\n{table}'{key}' = 1")?;
-        let refusal = format!(in rt.alloc(); "UnknownKey {named}{key}")?;
-        assert_refused(&rt, rt.alloc(), text.as_str(), refusal.as_str())?;
-    }
-    Ok(())
-}
-
-#[test]
-fn defaults(rt: HostRuntime) -> Result<(), Fail> {
-    let scenario = read_text(rt.alloc(), "dim = 3\ntraversals = 1000")?;
-    let setup = scenario.setup;
-    assert!(rt; (setup.dim.axes(), scenario.traversals) == (3, 1000));
-    assert!(rt; (setup.max_level, setup.start_level, setup.max_cells) == (20, 1, 4_194_304));
-    assert!(rt; !scenario.trace.has(Event::EnterCell));
-    assert!(rt; scenario.names.vertex.as_slice().is_empty());
-    assert!(rt; scenario.bodies.of(Event::EnterCell).is_none());
-    Ok(())
+fn bytes_that_are_no_document(rt: HostRuntime) {
+    let alloc = rt.alloc();
+    let mut bytes = vec![in alloc; b'\n'; 1_048_576].expect(&rt, "memory");
+    let longest = told(&rt, alloc, &bytes);
+    bytes.push(255).expect(&rt, "memory");
+    let longer = told(&rt, alloc, &bytes);
+    let unreadable = told(&rt, alloc, b"\xff");
+    let all = (longest.as_str(), longer.as_str(), unreadable.as_str());
+    assert!(rt; all == ("Missing dim", "TooLong", "NotToml"));
 }
 
 const WRITTEN: &str = r#"
@@ -284,32 +266,63 @@ enter_cell = "cell.c = v0.u + v3.u; global.sum = global.sum + cell.c;"
 end_iteration = "print t, global.sum;"
 "#;
 
-fn is_one(names: &[Text], name: &str) -> bool {
-    match names {
+fn read_text(rt: &impl Abort, alloc: Global, text: &str) -> Scenario {
+    read_scenario(alloc, text.as_bytes()).expect(rt, "a scenario")
+}
+
+// The axes, the traversals, the greatest and the least level, and the greatest number of cells.
+fn numbers_of(scenario: &Scenario) -> (u8, u64, u8, u8, u64) {
+    let setup = scenario.setup;
+    (
+        setup.dim.axes(),
+        scenario.traversals,
+        setup.max_level,
+        setup.start_level,
+        setup.max_cells,
+    )
+}
+
+// Whether an event is traced, and whether it has a body.
+fn acts_at(scenario: &Scenario, event: Event) -> (bool, bool) {
+    (
+        scenario.trace.has(event),
+        scenario.bodies.of(event).is_some(),
+    )
+}
+
+fn is_one(names: &List<Text>, name: &str) -> bool {
+    match names.as_slice() {
         [only] => only.as_str() == name,
         _ => false,
     }
 }
 
 #[test]
-fn a_scenario_as_it_is_written(rt: HostRuntime) -> Result<(), Fail> {
-    let scenario = read_text(rt.alloc(), WRITTEN)?;
-    let setup = scenario.setup;
-    assert!(rt; (setup.dim.axes(), scenario.traversals, setup.max_level) == (2, 2, 5));
-    assert!(rt; is_one(scenario.names.vertex.as_slice(), "u"));
-    assert!(rt; is_one(scenario.names.cell.as_slice(), "c"));
-    assert!(rt; is_one(scenario.names.global.as_slice(), "sum"));
-    for (event, traced, has_body) in [
-        (Event::CreateCell, true, false),
-        (Event::EnterCell, false, true),
-        (Event::EndIteration, false, true),
-        (Event::TouchVertexFirstTime, false, true),
-        (Event::LeaveCell, false, false),
+fn defaults(rt: HostRuntime) {
+    let scenario = read_text(&rt, rt.alloc(), "dim = 3\ntraversals = 1000");
+    assert!(rt; numbers_of(&scenario) == (3, 1000, 20, 1, 4_194_304));
+    assert!(rt; acts_at(&scenario, Event::EnterCell) == (false, false));
+    assert!(rt; scenario.names.vertex.as_slice().is_empty());
+}
+
+#[test]
+fn a_scenario_as_it_is_written(rt: HostRuntime) {
+    let scenario = read_text(&rt, rt.alloc(), WRITTEN);
+    assert!(rt; numbers_of(&scenario) == (2, 2, 5, 1, 4_194_304));
+    for (event, acts) in [
+        (Event::CreateCell, (true, false)),
+        (Event::EnterCell, (false, true)),
+        (Event::EndIteration, (false, true)),
+        (Event::TouchVertexFirstTime, (false, true)),
+        (Event::LeaveCell, (false, false)),
     ] {
-        assert!(rt; scenario.trace.has(event) == traced);
-        assert!(rt; scenario.bodies.of(event).is_some() == has_body);
+        assert!(rt; acts_at(&scenario, event) == acts, "{event:?}");
     }
-    Ok(())
+    let names = &scenario.names;
+    let vertex = is_one(&names.vertex, "u");
+    let cell = is_one(&names.cell, "c");
+    let global = is_one(&names.global, "sum");
+    assert!(rt; (vertex, cell, global) == (true, true, true));
 }
 
 const SPELLED_OTHERWISE: &str = r#"
@@ -339,15 +352,19 @@ end_iteration = "print t, global.sum;"
 touch_vertex_first_time = "if t == 1 && level == 1 && x0 == 1 { refine v; }"
 "#;
 
+// A scenario, spelled out.
+fn shown(rt: &impl Abort, alloc: Global, text: &str) -> String {
+    let scenario = read_text(rt, alloc, text);
+    let shown = format!(in alloc; "{scenario:?}");
+    shown.expect(rt, "memory")
+}
+
 // However the document is spelled, the scenario is the same.
 #[test]
-fn spellings(rt: HostRuntime) -> Result<(), Fail> {
-    let written = read_text(rt.alloc(), WRITTEN)?;
-    let written = format!(in rt.alloc(); "{written:?}")?;
+fn spellings(rt: HostRuntime) {
+    let written = shown(&rt, rt.alloc(), WRITTEN);
     for text in [SPELLED_OTHERWISE, ORDERED_OTHERWISE] {
-        let scenario = read_text(rt.alloc(), text)?;
-        let scenario = format!(in rt.alloc(); "{scenario:?}")?;
-        assert!(rt; scenario.as_str() == written.as_str());
+        let spelled = shown(&rt, rt.alloc(), text);
+        assert!(rt; spelled.as_str() == written.as_str(), "{text}");
     }
-    Ok(())
 }
