@@ -93,15 +93,21 @@ fn each_step_crosses_a_face(rt: HostRuntime) {
 }
 
 #[test]
-fn the_first_column_of_the_plane_and_the_turn(rt: HostRuntime) {
+fn the_way_into_the_plane_and_its_first_turn(rt: HostRuntime) {
     let dim = Dim::new(2).expect(&rt, "a dimension");
-    let mut step = Step::first(dim, Way::Forward, 0);
-    let up = step.advance(2);
-    let top = step.advance(2);
-    let turn = step.advance(2);
+    let first = Step::first(dim, Way::Inverted, 0);
+    let mut step = Step {
+        digits: Digits { k: [0, 2, 0, 0] },
+        ups: [true; 4],
+    };
+    let moved = step.advance(2);
+    let begin = Step {
+        digits: Digits { k: [2, 2, 0, 0] },
+        ups: [false; 4],
+    };
     let next = Step {
         digits: Digits { k: [1, 2, 0, 0] },
         ups: [true, false, true, true],
     };
-    assert!(rt; ((up, top, turn), step) == ((1, 1, 0), next));
+    assert!(rt; (first, moved, step) == (begin, 0, next));
 }
