@@ -2,7 +2,7 @@
 ghost use Rattle.std.specs.Prelude.{◌≡◌, ◌^◌, [], ◌∷◌};
 
 use pe_base::{Digits, Dim, Place, Way};
-use pe_curve::{Cursor, child};
+use pe_curve::{Cursor, Step, child};
 
 // The children of the root in the plane, in the order of the curve.
 const PLANE: [(u64, u64); 9] = [
@@ -90,4 +90,24 @@ fn each_step_crosses_a_face(rt: HostRuntime) {
             }
         }
     }
+}
+
+#[test]
+fn the_way_into_the_plane_and_its_first_turn(rt: HostRuntime) {
+    let dim = Dim::new(2).expect(&rt, "a dimension");
+    let first = Step::first(dim, Way::Inverted, 0);
+    let mut step = Step {
+        digits: Digits { k: [0, 2, 0, 0] },
+        ups: [true; 4],
+    };
+    let moved = step.advance(2);
+    let begin = Step {
+        digits: Digits { k: [2, 2, 0, 0] },
+        ups: [false; 4],
+    };
+    let next = Step {
+        digits: Digits { k: [1, 2, 0, 0] },
+        ups: [true, false, true, true],
+    };
+    assert!(rt; (first, moved, step) == (begin, 0, next));
 }

@@ -52,12 +52,21 @@ fn a_row_of_children(rt: HostRuntime) {
     let root = CellState::root(dim, Way::Forward);
     let mut child = root.descend(Digits { k: [1, 0, 0, 0] });
     let mut row = child.row();
-    let turns = root.row_turns(2, Digits { k: [1, 0, 0, 0] });
-    root.step(2, &mut child, &mut row, turns, Digits { k: [1, 1, 0, 0] });
+    root.step(2, &mut child, &mut row, false, Digits { k: [1, 1, 0, 0] });
     // The middle cell takes corner 3 from the stack of axis 1 and hands it to that of axis 0.
     let in_row = (child.coming_in(&row, 3), child.going_in(&row, 3));
     let alone = (child.coming(3), child.going(3));
     assert!(rt; (in_row, alone) == ((8 + 2, 8), (8 + 2, 8)));
+}
+
+#[test]
+fn from_row_to_row(rt: HostRuntime) {
+    let dim = Dim::new(2).expect(&rt, "a dimension");
+    let root = CellState::root(dim, Way::Forward);
+    let mut child = root.descend(Digits { k: [0, 2, 0, 0] });
+    let next = Digits { k: [1, 2, 0, 0] };
+    root.turn(2, 0, &mut child, [true, false, true, true], next);
+    assert!(rt; child == root.descend(next));
 }
 
 // Where each vertex of a level waits: not touched yet, on a stack (its number and one), or back on the stream.

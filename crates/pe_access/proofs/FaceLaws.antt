@@ -8,9 +8,9 @@ use Rattle.pe_base.specs.declared.way.Way.{Way}
 use Rattle.pe_base.specs.Tree.Places.{moved}
 use Rattle.pe_base.specs.Steps.Routes.{way_turns}
 use Rattle.pe_base.proofs.Steps.RouteLaws.{Below}
-use Rattle.pe_base.proofs.Steps.Spans.{Spot, fits, fits_all, coarse, two, two_on, low, low_on, other, is_even, is_other, deeper, enter, parents}
+use Rattle.pe_base.proofs.Steps.AroundInCell.{Spot, fits, fits_all, coarse, two, two_on, low, low_on, other, is_even, is_other, deeper, enter, parents}
 use Rattle.pe_base.proofs.Steps.Levels.{entry, or_else, fits-parents}
-use Rattle.pe_base.proofs.Steps.Rounds.{spots}
+use Rattle.pe_base.proofs.Steps.AroundAsGrid.{spots}
 use Rattle.pe_base.proofs.Steps.StackLaws.{length-parents}
 use Rattle.pe_base.proofs.Tree.Corners.{same_tests}
 use Rattle.pe_access.specs.declared.route.Route.TheVariants.{Temp}

@@ -14,9 +14,9 @@ use Rattle.pe_base.specs.Steps.Around.{threes}
 use Rattle.pe_base.specs.Steps.Routes.{way_turns}
 use Rattle.pe_access.specs.Neighbours.{is_place}
 use Rattle.pe_base.proofs.Steps.RouteLaws.{Below, Below-front, length-front, at-front}
-use Rattle.pe_base.proofs.Steps.Spans.{parents}
+use Rattle.pe_base.proofs.Steps.AroundInCell.{parents}
 use Rattle.pe_base.proofs.Steps.Levels.{cells}
-use Rattle.pe_base.proofs.Steps.Rounds.{order-cells, cells-long}
+use Rattle.pe_base.proofs.Steps.AroundAsGrid.{order-cells, cells-long}
 use Rattle.pe_base.proofs.Steps.SlowerLaws.{times, count-tally, threes-times}
 use Rattle.pe_base.proofs.Steps.StackLaws.{length-parents}
 use Rattle.pe_base.proofs.Steps.VertexTouches.{pos_itself}

@@ -12,7 +12,7 @@ use Rattle.pe_base.specs.Tree.Curve.{mirrored}
 use Rattle.pe_base.specs.Steps.Routes.{way_turns}
 use Rattle.pe_base.specs.Tree.Places.{is_same_pos}
 use Rattle.pe_base.proofs.Steps.RouteLaws.{Below}
-use Rattle.pe_base.proofs.Steps.Spans.{is_even, parents}
+use Rattle.pe_base.proofs.Steps.AroundInCell.{is_even, parents}
 use Rattle.pe_base.proofs.Steps.Levels.{kids, cells}
 use Rattle.pe_base.proofs.Lists.{In}
 use Rattle.pe_base.proofs.Tree.Ranks.{same_list}

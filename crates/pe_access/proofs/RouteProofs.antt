@@ -14,9 +14,9 @@ use Rattle.pe_base.specs.Steps.Routes.{way_turns, waiting_stack, stack_in, stack
 use Rattle.pe_base.proofs.Tree.PlaceLaws.{length-bits, bits-suc}
 use Rattle.pe_base.proofs.Steps.CornerPlaces.{length-moved}
 use Rattle.pe_base.proofs.Steps.RouteLaws.{Below, Below-front, length-front, padded-front, at-front}
-use Rattle.pe_base.proofs.Steps.Spans.{fits_all, parents}
+use Rattle.pe_base.proofs.Steps.AroundInCell.{fits_all, parents}
 use Rattle.pe_base.proofs.Steps.Levels.{entry}
-use Rattle.pe_base.proofs.Steps.Rounds.{spots}
+use Rattle.pe_base.proofs.Steps.AroundAsGrid.{spots}
 use Rattle.pe_base.proofs.Steps.StackLaws.{Touches, stack_in-entry, stack_out-entry, length-parents}
 use Rattle.pe_access.specs.declared.route.Route.TheVariants.{Stream, Temp}
 use Rattle.pe_access.specs.Extents.{Relation, Earlier, Later, Outside, Extent, bit_of, is_relation, root_extent, root_face, child_extent}

@@ -177,7 +177,7 @@ slice_get-axes_from axis (l ∷ extents) zero extent e =
 slice_get-axes_from axis (l ∷ extents) (suc i) extent e = slice_get-axes_from (axis + 1) extents i extent e ∙ ap (λ (n : ℕ). Some (axis_of n extent)) (omega arith)
 
 -- what a state is along an axis of the grid
-along_is : (axes : ℕ) (way : Way) (cell : Place) (state : CellState) (i : ℕ) → StandsFor axes way cell state → i < axes → slice_get state.along i ≡ Some (axis_of i (extent_of axes way cell i))
+pub along_is : (axes : ℕ) (way : Way) (cell : Place) (state : CellState) (i : ℕ) → StandsFor axes way cell state → i < axes → slice_get state.along i ≡ Some (axis_of i (extent_of axes way cell i))
 along_is axes way cell state i h within =
     ap (λ xs. slice_get xs i) h.numbers ∙ slice_get-axes_from 0 h.extents i (extent_of axes way cell i) (h.held.grid_axes i within) ∙ ap (λ (n : ℕ). Some (axis_of n (extent_of axes way cell i))) (omega arith)
 

@@ -1,9 +1,10 @@
 -- What a cell state is of a cell.
-use Rattle.std.specs.Prelude.{◌≡◌, ℕ, ◌+◌, ◌-◌, ◌<◌, ◌≤◌, false, List, take, sum, sum_by, Option, Some, None, IfSome, slice_get}
+use Rattle.std.specs.Prelude.{◌≡◌, ℕ, ◌+◌, ◌%◌, ◌<◌, ◌≤◌, Bool, false, ◌==◌, List, take, sum, sum_by, Option, Some, None, IfSome, slice_get}
 use Rattle.pe_base.specs.declared.place.Place.{Place}
 use Rattle.pe_base.specs.declared.place.Digits.{Digits}
 use Rattle.pe_base.specs.declared.way.Way.{Way}
 use Rattle.pe_base.specs.Tree.Dim.{IsDim}
+use Rattle.pe_base.specs.Tree.Curve.{flip}
 use Rattle.pe_base.specs.Steps.Routes.{way_turns}
 use Rattle.pe_access.specs.declared.numbers.Axis.{Axis}
 use Rattle.pe_access.specs.declared.state.CellState.{CellState}
@@ -45,9 +46,10 @@ pub record StandsFor (axes : ℕ) (way : Way) (cell : Place) (state : CellState)
 abbrev pub odd_count : List Axis → ℕ
 odd_count along = sum_by (λ axis. bit_of axis.odd) along
 
--- the turns of the last axis, but for its own position, for a child at these digits
-abbrev pub row_turns : CellState → Digits → ℕ
-row_turns state digits = way_turns state.way + odd_count state.along + sum (take (state.axes - 1) digits.k)
+-- whether an axis is walked upwards at the child of a cell at these digits: where the turns of the way, the cell's flip and the
+-- digits before the axis are even together
+abbrev pub is_upwards : Way → Place → Digits → ℕ → Bool
+is_upwards way cell digits axis = (way_turns way + flip cell.pos axis + sum (take axis digits.k)) % 2 == 0
 
 -- the route of a stack, if there is one
 abbrev pub route_of : Option ℕ → Route

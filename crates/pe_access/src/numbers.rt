@@ -1,4 +1,4 @@
-ghost use Rattle.std.specs.Prelude.{◌≡◌, ◌<◌, ◌≤◌, ◌==◌, if◌then◌else◌};
+ghost use Rattle.std.specs.Prelude.{◌≡◌, ℕ, ◌%◌, ◌<◌, ◌≤◌, ◌==◌, if◌then◌else◌};
 ghost use Rattle.pe_base.specs.Limits.{most_levels};
 ghost use Rattle.pe_access.specs.Extents.{Extent, bit_of, child_extent};
 ghost use Rattle.pe_access.specs.Numbers.{axis_of, root_axis};
@@ -51,13 +51,24 @@ impl Axis {
         requires digit { k < 3 }
         ensures { (extent : Extent) → self ≡ axis_of axis extent → result ≡ axis_of axis (child_extent level turns k extent) }
     {
+        self.walked(axis, level, turns % 2 == 0, k)
+    }
+
+    /// The child with digit `k` on this axis, which is walked upwards or downwards there.
+    #[inline(always)]
+    pub(crate) fn walked(self, axis: u8, level: u8, up: bool, k: u8) -> Axis
+        requires axis { axis < 4 }
+        requires level { 0 < level }
+        requires few { level ≤ most_levels }
+        requires digit { k < 3 }
+        ensures { (extent : Extent) (turns : ℕ) → self ≡ axis_of axis extent → up ≡ (turns % 2 == 0) → result ≡ axis_of axis (child_extent level turns k extent) }
+    {
         let odd = (bit(self.odd) + k) % 2 == 1;
         let plane = 8 * u32::from(level) + 2 * u32::from(axis);
-        let forward = turns % 2 == 0;
         Axis {
             odd,
-            near: inner_or(k == 0, self.near, plane + u32::from(bit(odd)), forward),
-            far: inner_or(k == 2, self.far, plane + u32::from(bit(!odd)), !forward),
+            near: inner_or(k == 0, self.near, plane + u32::from(bit(odd)), up),
+            far: inner_or(k == 2, self.far, plane + u32::from(bit(!odd)), !up),
         }
     }
 

@@ -1,4 +1,4 @@
-ghost use Rattle.std.specs.Prelude.{◌≡◌, ℕ, ◌+◌, ◌-◌, ◌/◌, ◌%◌, ◌<◌, ◌^◌, max, slice_get, slice_index, Some};
+ghost use Rattle.std.specs.Prelude.{◌≡◌, ℕ, ◌+◌, ◌-◌, ◌/◌, ◌%◌, ◌<◌, ◌≤◌, ◌^◌, false, max, slice_get, slice_index, slice_index_or, Some};
 ghost use Rattle.pe_base.specs.Limits.{most_levels};
 ghost use Rattle.pe_base.specs.declared.place.Place.{Place as APlace};
 ghost use Rattle.pe_base.specs.declared.place.Digits.{Digits as SomeDigits};
@@ -9,7 +9,7 @@ ghost use Rattle.pe_base.specs.Tree.Curve.{flips};
 ghost use Rattle.pe_base.specs.Steps.Routes.{stack_in, stack_out, way_turns};
 ghost use Rattle.pe_access.specs.Numbers.{stack_of};
 ghost use Rattle.pe_access.specs.Rows.{IsRow, end_at, side_of};
-ghost use Rattle.pe_access.specs.States.{StandsFor, axes_of, level_of, odd_count, row_turns, route_of};
+ghost use Rattle.pe_access.specs.States.{StandsFor, axes_of, level_of, odd_count, is_upwards, route_of};
 
 use crate::numbers::{Axis, Numbers, bit};
 use crate::route::Route;
@@ -92,18 +92,17 @@ impl CellState {
 
     /// Makes the state of a child that of the child at these digits, which differ from its own on the last axis alone.
     ///
-    /// That is what `descend` gives, with less to do along a row of children.
+    /// That is what `descend` gives, with less to do along a row of children. `up` says whether the last axis is walked upwards.
     #[inline(always)]
-    pub fn step(&self, axes: u8, child: &mut CellState, row: &mut Row, turns: u8, digits: Digits)
+    pub fn step(&self, axes: u8, child: &mut CellState, row: &mut Row, up: bool, digits: Digits)
         requires same { axes ≡ axes_of self.now }
         requires level { level_of self.now < most_levels }
         requires digits { IsDigits (axes_of self.now) digits }
         requires axes { IsDim (axes_of self.now) }
-        requires turns { turns ≡ row_turns self.now digits }
-        requires few { turns < 12 }
         ensures stands { (axes : ℕ) (way : AWay) (cell : APlace) (from : SomeDigits) → IsCellPlace axes cell → IsDigits axes from
             → StandsFor axes way cell self.now → StandsFor axes way (child_at cell from) child.old
-            → ((i : ℕ) → i < axes - 1 → slice_index from.k i ≡ slice_index digits.k i) → StandsFor axes way (child_at cell digits) child.new }
+            → ((i : ℕ) → i < axes - 1 → slice_index from.k i ≡ slice_index digits.k i) → up ≡ is_upwards way cell digits (axes - 1)
+            → StandsFor axes way (child_at cell digits) child.new }
         ensures axes { axes_of child.new ≡ axes_of child.old }
         ensures level { level_of child.new ≡ level_of child.old }
         ensures row { axes_of child.old ≡ axes_of self.now → IsRow child.old row.old → IsRow child.new row.new }
@@ -111,28 +110,35 @@ impl CellState {
         let axis = axes - 1;
         let last = axis as usize;
         let parent = self.along[last];
-        let turns = turns + bit(parent.odd);
-        let end = parent.child(axis, self.level + 1, turns, digits.k[last]);
+        let end = parent.walked(axis, self.level + 1, up, digits.k[last]);
         child.along[last] = end;
         set_ends(axes, &end, &mut row.ends);
     }
 
-    /// The turns of the last axis, but for its own position: the same for the three children of a row.
+    /// Makes the state of a child that of the child at these digits, which agree with its own before an axis.
+    ///
+    /// That is what `descend` gives, with less to do from one row of children to the next. `ups` says of each axis whether it is
+    /// walked upwards.
     #[inline(always)]
-    pub fn row_turns(&self, axes: u8, digits: Digits) -> u8
+    pub fn turn(&self, axes: u8, first: u8, child: &mut CellState, ups: [bool; 4], digits: Digits)
         requires same { axes ≡ axes_of self.now }
+        requires level { level_of self.now < most_levels }
         requires digits { IsDigits (axes_of self.now) digits }
         requires axes { IsDim (axes_of self.now) }
-        ensures value { result ≡ row_turns self.now digits }
-        ensures few { result < 12 }
+        requires first { first ≤ axes }
+        ensures stands { (axes : ℕ) (way : AWay) (cell : APlace) (from : SomeDigits) → IsCellPlace axes cell → IsDigits axes from
+            → StandsFor axes way cell self.now → StandsFor axes way (child_at cell from) child.old
+            → ((i : ℕ) → i < first → slice_index from.k i ≡ slice_index digits.k i)
+            → ((i : ℕ) → i < axes → slice_index_or ups i false ≡ is_upwards way cell digits i)
+            → StandsFor axes way (child_at cell digits) child.new }
+        ensures axes { axes_of child.new ≡ axes_of child.old }
+        ensures level { level_of child.new ≡ level_of child.old }
     {
-        let [i, j, k, _] = digits.k;
-        let before = match axes {
-            2 => i,
-            3 => i + j,
-            _ => i + j + k,
-        };
-        self.turns() + before
+        for axis in first..axes {
+            let place = axis as usize;
+            let parent = self.along[place];
+            child.along[place] = parent.walked(axis, self.level + 1, ups[place], digits.k[place]);
+        }
     }
 
     // The turns of every axis: one where the walk is inverted, and one for each odd position.
@@ -296,7 +302,10 @@ fn set_greatest(axes: u8, x: (u32, u32), y: (u32, u32), z: (u32, u32), numbers: 
         → slice_index numbers.new corner ≡ max (side_of x (corner % 2)) (max (side_of y (corner / 2 % 2)) (side_of z (corner / 4))) }
 {
     if axes == 2 {
-        *numbers = [x.0, x.1, x.0, x.1, 0, 0, 0, 0];
+        numbers[0] = x.0;
+        numbers[1] = x.1;
+        numbers[2] = x.0;
+        numbers[3] = x.1;
         return;
     }
     let a = x.0.max(y.0);
@@ -327,13 +336,17 @@ fn set_ends(axes: u8, last: &Axis, ends: &mut [Numbers; 8])
 {
     let near = last.near;
     let far = last.far;
-    let none = Numbers {
-        coming: 0,
-        going: 0,
-    };
     match axes {
-        2 => *ends = [near, far, none, none, none, none, none, none],
-        3 => *ends = [near, near, far, far, none, none, none, none],
+        2 => {
+            ends[0] = near;
+            ends[1] = far;
+        }
+        3 => {
+            ends[0] = near;
+            ends[1] = near;
+            ends[2] = far;
+            ends[3] = far;
+        }
         _ => *ends = [near, near, near, near, far, far, far, far],
     }
 }

@@ -18,7 +18,7 @@ use Rattle.pe_adapt.specs.Ages.{IsPlaced, IsQuiet}
 use Rattle.pe_adapt.specs.Spots.{IsSpot, source_of}
 use Rattle.pe_adapt.specs.Touches.{state_in_hand, stack_or}
 use Rattle.pe_adapt.specs.CountedTouches.{output, tally_may_rise}
-use Rattle.pe_adapt.specs.WalkedCells.{setting_in, ports_of}
+use Rattle.pe_adapt.specs.WalkedCells.{setting_in, stream_stacks_of}
 use Rattle.pe_adapt.specs.TouchCalls.{Hand, machine_of, MayGo}
 use Rattle.pe_adapt.proofs.CountedTouches.{loads, stores, load-fits, store-fits, placed-is}
 use Rattle.pe_adapt.proofs.Fitting.{load_as-fits, store_as-fits}
@@ -43,7 +43,7 @@ module _ {Plan V C : Type 0} (rules : Rules Plan) (numbers : Numbers V C) (setti
       let vertex = corner axes spot.cell spot.corner in
       let its = corner_records numbers.vertex old.parents in
       let set = setting_in rules old.held settings in
-      load-fits set (ports_of settings) spot.cell spot.corner (machine_of numbers cells old) (ap tally_may_rise begun)
+      load-fits set (stream_stacks_of settings) spot.cell spot.corner (machine_of numbers cells old) (ap tally_may_rise begun)
       (placed-is axes _ vertex (record { inside = kind-inside axes settings.traversal spot.cell spot.digits spot.corner its within is.cell is.deep is.digits is.child is.corner quiet }))
       (load_as-fits set (record_of numbers.vertex) old.vertices (family_in_hand numbers old.parents old.parent old.held.list) settings.input _ _ vertex
       (omega (arith, counts.fresh)) (λ s. omega (arith, counts.pops s))
@@ -55,10 +55,10 @@ module _ {Plan V C : Type 0} (rules : Rules Plan) (numbers : Numbers V C) (setti
   alone-may-store v is placed stacks counts some begun cells =
       let vertex = corner axes spot.cell spot.corner in
       let set = setting_in rules old.held settings in
-      let out = output (ports_of settings) in
+      let out = output (stream_stacks_of settings) in
       let way = way_of settings.traversal in
       let it = record_of numbers.vertex v in
       let small = stack_out-small set out vertex axes way spot.cell (omega (arith, settings.streams.low)) is.cell.pos.four in
-      store-fits set (ports_of settings) spot.cell spot.corner it (machine_of numbers cells old) (ap tally_may_rise begun) (placed-is axes v.kind vertex placed)
+      store-fits set (stream_stacks_of settings) spot.cell spot.corner it (machine_of numbers cells old) (ap tally_may_rise begun) (placed-is axes v.kind vertex placed)
       (store_as-fits set (record_of numbers.vertex) old.vertices (family_in_hand numbers old.parents old.parent old.held.list) out (stack_out axes way vertex spot.cell) vertex it
       (omega (arith, small, stacks)) (omega (arith, counts.pushes (stack_or set out (stack_out axes way vertex spot.cell)))) some)

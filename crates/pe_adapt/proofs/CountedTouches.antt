@@ -38,9 +38,9 @@ use Rattle.pe_adapt.specs.Ages.{IsPlaced}
 use Rattle.pe_adapt.proofs.Fitting.{allowed-fit, and_then-fit}
 use Rattle.pe_adapt.specs.declared.settings.Settings.{Settings}
 use Rattle.pe_adapt.specs.declared.walked.WalkedCell.{WalkedCell}
-use Rattle.pe_adapt.specs.CountedTouches.{Machine, Ports, output, desk_of, with_desk, tally_may_rise, is_placed, load_corner, store_corner}
+use Rattle.pe_adapt.specs.CountedTouches.{Machine, StreamStacks, output, desk_of, with_desk, tally_may_rise, is_placed, load_corner, store_corner}
 use Rattle.pe_adapt.specs.Streams.{AreStreams}
-use Rattle.pe_adapt.specs.WalkedCells.{IsWalked, setting_in, ports_of, failure_in}
+use Rattle.pe_adapt.specs.WalkedCells.{IsWalked, setting_in, stream_stacks_of, failure_in}
 use Rattle.pe_adapt.specs.TouchCalls.{Hand, machine_of, found_in, filled_in, MayGo, GoesAlong}
 
 -- a walked cell's position is far below the greatest number
@@ -89,7 +89,7 @@ module _ {X Y : Type 0} (f : X → Y) (back : Y → X) (undoes : (x : X) → bac
   }
   follows-before course after (Err unheard_of) old new is = is
 
-module _ {Plan : Type 0} (set : Setting Plan) (ports : Ports) (cell : Place) (k : ℕ) where
+module _ {Plan : Type 0} (set : Setting Plan) (streams : StreamStacks) (cell : Place) (k : ℕ) where
   abbrev pub here : Place
   here = corner set.axes cell k
 
@@ -97,97 +97,97 @@ module _ {Plan : Type 0} (set : Setting Plan) (ports : Ports) (cell : Place) (k 
   abbrev pub kind_here : Machine → Kind
   kind_here m = kind_in_hand set cell m.family.parents here
 
-  load-tests : (m : Machine) → Fits (load_corner set ports cell k m) → (tally_may_rise m.tally && is_placed set.axes (kind_here m) here) ≡ true
+  load-tests : (m : Machine) → Fits (load_corner set streams cell k m) → (tally_may_rise m.tally && is_placed set.axes (kind_here m) here) ≡ true
   load-tests m fits = allowed-fits (tally_may_rise m.tally && is_placed set.axes (kind_here m) here) _ fits
 
-  pub load-rises : (m : Machine) → Fits (load_corner set ports cell k m) → tally_may_rise m.tally ≡ true
+  pub load-rises : (m : Machine) → Fits (load_corner set streams cell k m) → tally_may_rise m.tally ≡ true
   load-rises m fits = (and_parts (tally_may_rise m.tally) (is_placed set.axes (kind_here m) here) (load-tests m fits)).0
 
-  pub load-placed : (m : Machine) → Fits (load_corner set ports cell k m) → is_placed set.axes (kind_here m) here ≡ true
+  pub load-placed : (m : Machine) → Fits (load_corner set streams cell k m) → is_placed set.axes (kind_here m) here ≡ true
   load-placed m fits = (and_parts (tally_may_rise m.tally) (is_placed set.axes (kind_here m) here) (load-tests m fits)).1
 
   abbrev first_here : Bool
   first_here = is_none (stack_in set.axes (way set) here cell)
 
   abbrev loading : Machine → Course (VertexRecord × Machine)
-  loading m = course_map (λ it. (it.0, with_desk it.1 (record m { tally = tally_load (kind_here m) first_here m.tally }))) (corners.load_corner set ports.input cell k (desk_of m))
+  loading m = course_map (λ it. (it.0, with_desk it.1 (record m { tally = tally_load (kind_here m) first_here m.tally }))) (corners.load_corner set streams.input cell k (desk_of m))
 
-  pub load-desk : (m : Machine) → Fits (load_corner set ports cell k m) → Fits (corners.load_corner set ports.input cell k (desk_of m))
+  pub load-desk : (m : Machine) → Fits (load_corner set streams cell k m) → Fits (corners.load_corner set streams.input cell k (desk_of m))
   load-desk m fits =
-      and_then-fits (corners.load_corner set ports.input cell k (desk_of m)) _
+      and_then-fits (corners.load_corner set streams.input cell k (desk_of m)) _
       (subst Fits (allowed-is (tally_may_rise m.tally && is_placed set.axes (kind_here m) here) (loading m) fits) fits)
 
   -- what the load of a corner does beside the tally is what it does
   pub load-follows : {A : Type 0} (m : Machine) (tally : Tally) (after : A → VertexRecord × Desk) (answer : Result A Failure) (old : BeforeCall) (new : Told)
-      → Fits (load_corner set ports cell k m) → tally ≡ tally_load (kind_here m) first_here m.tally
-      → Follows (corners.load_corner set ports.input cell k (desk_of m)) after answer old new
-      → Follows (load_corner set ports cell k m) (λ a. ((after a).0, with_desk (after a).1 (record m { tally = tally }))) answer old new
+      → Fits (load_corner set streams cell k m) → tally ≡ tally_load (kind_here m) first_here m.tally
+      → Follows (corners.load_corner set streams.input cell k (desk_of m)) after answer old new
+      → Follows (load_corner set streams cell k m) (λ a. ((after a).0, with_desk (after a).1 (record m { tally = tally }))) answer old new
   load-follows m tally after answer old new fits counted is =
       subst (λ course. Follows course (λ a. ((after a).0, with_desk (after a).1 (record m { tally = tally }))) answer old new)
       (sym (allowed-is (tally_may_rise m.tally && is_placed set.axes (kind_here m) here) (loading m) fits))
       (subst (λ t. Follows (loading m) (λ a. ((after a).0, with_desk (after a).1 (record m { tally = t }))) answer old new) (sym counted)
-      (follows-map (λ it. (it.0, with_desk it.1 (record m { tally = tally_load (kind_here m) first_here m.tally }))) (corners.load_corner set ports.input cell k (desk_of m)) after answer old new is))
+      (follows-map (λ it. (it.0, with_desk it.1 (record m { tally = tally_load (kind_here m) first_here m.tally }))) (corners.load_corner set streams.input cell k (desk_of m)) after answer old new is))
 
   -- and what it does with the tally, it does without
   pub load-touches : {A : Type 0} (m : Machine) (after : A → VertexRecord × Machine) (answer : Result A Failure) (old : BeforeCall) (new : Told)
-      → Fits (load_corner set ports cell k m) → Follows (load_corner set ports cell k m) after answer old new
-      → Follows (corners.load_corner set ports.input cell k (desk_of m)) (λ a. ((after a).0, desk_of (after a).1)) answer old new
+      → Fits (load_corner set streams cell k m) → Follows (load_corner set streams cell k m) after answer old new
+      → Follows (corners.load_corner set streams.input cell k (desk_of m)) (λ a. ((after a).0, desk_of (after a).1)) answer old new
   load-touches m after answer old new fits is =
       follows-before (λ it. (it.0, with_desk it.1 (record m { tally = tally_load (kind_here m) first_here m.tally }))) (λ it. (it.0, desk_of it.1)) (λ it. refl)
-      (corners.load_corner set ports.input cell k (desk_of m)) after answer old new
+      (corners.load_corner set streams.input cell k (desk_of m)) after answer old new
       (subst (λ course. Follows course after answer old new) (allowed-is (tally_may_rise m.tally && is_placed set.axes (kind_here m) here) (loading m) fits) is)
 
   -- it fits where the load does, if the tally may rise and what counts is inside
   pub load-fits : (m : Machine) → tally_may_rise m.tally ≡ true → is_placed set.axes (kind_here m) here ≡ true
-      → Fits (corners.load_corner set ports.input cell k (desk_of m)) → Fits (load_corner set ports cell k m)
+      → Fits (corners.load_corner set streams.input cell k (desk_of m)) → Fits (load_corner set streams cell k m)
   load-fits m rises placed fits =
       allowed-fit (tally_may_rise m.tally && is_placed set.axes (kind_here m) here) (loading m) (and_from _ _ rises placed)
-      (and_then-fit (corners.load_corner set ports.input cell k (desk_of m)) _ fits (λ it. refl))
+      (and_then-fit (corners.load_corner set streams.input cell k (desk_of m)) _ fits (λ it. refl))
 
   -- the store of a corner likewise
   abbrev last_here : Bool
   last_here = is_none (stack_out set.axes (way set) here cell)
 
   abbrev storing : VertexRecord → Machine → Course Machine
-  storing it m = course_map (λ desk. with_desk desk (record m { tally = tally_store it.kind last_here m.tally })) (corners.store_corner set (output ports) cell k it (desk_of m))
+  storing it m = course_map (λ desk. with_desk desk (record m { tally = tally_store it.kind last_here m.tally })) (corners.store_corner set (output streams) cell k it (desk_of m))
 
-  store-tests : (it : VertexRecord) (m : Machine) → Fits (store_corner set ports cell k it m) → (tally_may_rise m.tally && is_placed set.axes it.kind here) ≡ true
+  store-tests : (it : VertexRecord) (m : Machine) → Fits (store_corner set streams cell k it m) → (tally_may_rise m.tally && is_placed set.axes it.kind here) ≡ true
   store-tests it m fits = allowed-fits (tally_may_rise m.tally && is_placed set.axes it.kind here) (storing it m) fits
 
-  pub store-rises : (it : VertexRecord) (m : Machine) → Fits (store_corner set ports cell k it m) → tally_may_rise m.tally ≡ true
+  pub store-rises : (it : VertexRecord) (m : Machine) → Fits (store_corner set streams cell k it m) → tally_may_rise m.tally ≡ true
   store-rises it m fits = (and_parts (tally_may_rise m.tally) (is_placed set.axes it.kind here) (store-tests it m fits)).0
 
-  pub store-placed : (it : VertexRecord) (m : Machine) → Fits (store_corner set ports cell k it m) → is_placed set.axes it.kind here ≡ true
+  pub store-placed : (it : VertexRecord) (m : Machine) → Fits (store_corner set streams cell k it m) → is_placed set.axes it.kind here ≡ true
   store-placed it m fits = (and_parts (tally_may_rise m.tally) (is_placed set.axes it.kind here) (store-tests it m fits)).1
 
-  pub store-desk : (it : VertexRecord) (m : Machine) → Fits (store_corner set ports cell k it m) → Fits (corners.store_corner set (output ports) cell k it (desk_of m))
+  pub store-desk : (it : VertexRecord) (m : Machine) → Fits (store_corner set streams cell k it m) → Fits (corners.store_corner set (output streams) cell k it (desk_of m))
   store-desk it m fits =
-      and_then-fits (corners.store_corner set (output ports) cell k it (desk_of m)) _
+      and_then-fits (corners.store_corner set (output streams) cell k it (desk_of m)) _
       (subst Fits (allowed-is (tally_may_rise m.tally && is_placed set.axes it.kind here) (storing it m) fits) fits)
 
   pub store-follows : {A : Type 0} (it : VertexRecord) (m : Machine) (tally : Tally) (after : A → Desk) (answer : Result A Failure) (old : BeforeCall) (new : Told)
-      → Fits (store_corner set ports cell k it m) → tally ≡ tally_store it.kind last_here m.tally
-      → Follows (corners.store_corner set (output ports) cell k it (desk_of m)) after answer old new
-      → Follows (store_corner set ports cell k it m) (λ a. with_desk (after a) (record m { tally = tally })) answer old new
+      → Fits (store_corner set streams cell k it m) → tally ≡ tally_store it.kind last_here m.tally
+      → Follows (corners.store_corner set (output streams) cell k it (desk_of m)) after answer old new
+      → Follows (store_corner set streams cell k it m) (λ a. with_desk (after a) (record m { tally = tally })) answer old new
   store-follows it m tally after answer old new fits counted is =
       subst (λ course. Follows course (λ a. with_desk (after a) (record m { tally = tally })) answer old new)
       (sym (allowed-is (tally_may_rise m.tally && is_placed set.axes it.kind here) (storing it m) fits))
       (subst (λ t. Follows (storing it m) (λ a. with_desk (after a) (record m { tally = t })) answer old new) (sym counted)
-      (follows-map (λ desk. with_desk desk (record m { tally = tally_store it.kind last_here m.tally })) (corners.store_corner set (output ports) cell k it (desk_of m)) after answer old new is))
+      (follows-map (λ desk. with_desk desk (record m { tally = tally_store it.kind last_here m.tally })) (corners.store_corner set (output streams) cell k it (desk_of m)) after answer old new is))
 
   pub store-touches : {A : Type 0} (it : VertexRecord) (m : Machine) (after : A → Machine) (answer : Result A Failure) (old : BeforeCall) (new : Told)
-      → Fits (store_corner set ports cell k it m) → Follows (store_corner set ports cell k it m) after answer old new
-      → Follows (corners.store_corner set (output ports) cell k it (desk_of m)) (λ a. desk_of (after a)) answer old new
+      → Fits (store_corner set streams cell k it m) → Follows (store_corner set streams cell k it m) after answer old new
+      → Follows (corners.store_corner set (output streams) cell k it (desk_of m)) (λ a. desk_of (after a)) answer old new
   store-touches it m after answer old new fits is =
       follows-before (λ desk. with_desk desk (record m { tally = tally_store it.kind last_here m.tally })) desk_of (λ desk. refl)
-      (corners.store_corner set (output ports) cell k it (desk_of m)) after answer old new
+      (corners.store_corner set (output streams) cell k it (desk_of m)) after answer old new
       (subst (λ course. Follows course after answer old new) (allowed-is (tally_may_rise m.tally && is_placed set.axes it.kind here) (storing it m) fits) is)
 
   pub store-fits : (it : VertexRecord) (m : Machine) → tally_may_rise m.tally ≡ true → is_placed set.axes it.kind here ≡ true
-      → Fits (corners.store_corner set (output ports) cell k it (desk_of m)) → Fits (store_corner set ports cell k it m)
+      → Fits (corners.store_corner set (output streams) cell k it (desk_of m)) → Fits (store_corner set streams cell k it m)
   store-fits it m rises placed fits =
       allowed-fit (tally_may_rise m.tally && is_placed set.axes it.kind here) (storing it m) (and_from _ _ rises placed)
-      (and_then-fit (corners.store_corner set (output ports) cell k it (desk_of m)) _ fits (λ desk. refl))
+      (and_then-fit (corners.store_corner set (output streams) cell k it (desk_of m)) _ fits (λ desk. refl))
 
 -- what counts is placed where it is inside
 pub placed-is : (axes : ℕ) (kind : Kind) (vertex : Place) → IsPlaced axes kind vertex → is_placed axes kind vertex ≡ true
@@ -239,10 +239,10 @@ module _ {Plan V C : Type 0} (rules : Rules Plan) (numbers : Numbers V C) (setti
   desk_behind = desk_in_hand numbers new.vertices new.parents new.parent new.held.list
 
   abbrev pub loads : Setting Plan → Machine → Course (VertexRecord × Machine)
-  loads set machine = load_corner set (ports_of settings) place k machine
+  loads set machine = load_corner set (stream_stacks_of settings) place k machine
 
   abbrev pub stores : VertexRecord → Setting Plan → Machine → Course Machine
-  stores it set machine = store_corner set (ports_of settings) place k it machine
+  stores it set machine = store_corner set (stream_stacks_of settings) place k it machine
 
   no_cells : Holdings (List ℤ)
   no_cells = record { stacks = []; fresh = 0; spent = 0; out = 0; most = 0 }
@@ -257,7 +257,7 @@ module _ {Plan V C : Type 0} (rules : Rules Plan) (numbers : Numbers V C) (setti
       → OnOk result (IsSome slot) → OnErr result (slot ≡ None)
       → GoesAlong rules numbers settings loads (λ machine. (seen_slot numbers.vertex slot, machine)) 0 (filled_in slot) result old new
   goes-load slot may counted touched left stays loaded emptied = record {
-    follows = λ cells room. load-follows set_here (ports_of settings) place k (machine_of numbers cells old) new.progress.tally (λ (done : Unit {0}). (seen_slot numbers.vertex slot, desk_behind))
+    follows = λ cells room. load-follows set_here (stream_stacks_of settings) place k (machine_of numbers cells old) new.progress.tally (λ (done : Unit {0}). (seen_slot numbers.vertex slot, desk_behind))
         (read_by (failure_in new.progress) result) (found_in old room) new.held.told (may cells) counted (touched room);
     left = left-loaded slot result old.vertices new.vertices old.room new.room left loaded emptied;
     stays = stays;
@@ -268,12 +268,12 @@ module _ {Plan V C : Type 0} (rules : Rules Plan) (numbers : Numbers V C) (setti
   pub goes-store : (it : VertexRecord)
       → MayGo rules numbers settings (stores it) old
       → new.progress.tally ≡ tally_store it.kind (is_none (stack_out old.held.dim (way set_here) (corner old.held.dim place k) place)) old.progress.tally
-      → ((room : ℕ → ℕ) → Follows (corners.store_corner set_here (output (ports_of settings)) place k it desk_before) (λ (done : Unit {0}). desk_behind)
+      → ((room : ℕ → ℕ) → Follows (corners.store_corner set_here (output (stream_stacks_of settings)) place k it desk_before) (λ (done : Unit {0}). desk_behind)
       (read_by (failure_in new.progress) result) (found_in old room) new.held.told)
       → RecordsOut 1 0 old.vertices old.room new.vertices new.room (is_err result) → Stays numbers.vertex old.held new.held old.parents new.parents
       → GoesAlong rules numbers settings (stores it) (λ machine. machine) 1 0 result old new
   goes-store it may counted touched left stays = record {
-    follows = λ cells room. store-follows set_here (ports_of settings) place k it (machine_of numbers cells old) new.progress.tally (λ (done : Unit {0}). desk_behind)
+    follows = λ cells room. store-follows set_here (stream_stacks_of settings) place k it (machine_of numbers cells old) new.progress.tally (λ (done : Unit {0}). desk_behind)
         (read_by (failure_in new.progress) result) (found_in old room) new.held.told (may cells) counted (touched room);
     left = left-stored result old.vertices new.vertices old.room new.room left;
     stays = stays;
@@ -286,36 +286,36 @@ module _ {Plan V C : Type 0} (rules : Rules Plan) (numbers : Numbers V C) (setti
       → (room : ℕ → ℕ) → Follows (corners.load_corner set_here settings.input place k desk_before) (λ (done : Unit {0}). (seen_slot numbers.vertex slot, desk_behind))
       (read_by (failure_in new.progress) result) (found_in old room) new.held.told
   load-touched slot may goes room =
-      load-touches set_here (ports_of settings) place k (machine_of numbers no_cells old) (λ (done : Unit {0}). (seen_slot numbers.vertex slot, machine_of numbers no_cells new))
+      load-touches set_here (stream_stacks_of settings) place k (machine_of numbers no_cells old) (λ (done : Unit {0}). (seen_slot numbers.vertex slot, machine_of numbers no_cells new))
       (read_by (failure_in new.progress) result) (found_in old room) new.held.told (may no_cells) (goes.follows no_cells room)
 
   pub store-touched : (it : VertexRecord) → MayGo rules numbers settings (stores it) old
       → GoesAlong rules numbers settings (stores it) (λ machine. machine) 1 0 result old new
-      → (room : ℕ → ℕ) → Follows (corners.store_corner set_here (output (ports_of settings)) place k it desk_before) (λ (done : Unit {0}). desk_behind)
+      → (room : ℕ → ℕ) → Follows (corners.store_corner set_here (output (stream_stacks_of settings)) place k it desk_before) (λ (done : Unit {0}). desk_behind)
       (read_by (failure_in new.progress) result) (found_in old room) new.held.told
   store-touched it may goes room =
-      store-touches set_here (ports_of settings) place k it (machine_of numbers no_cells old) (λ (done : Unit {0}). machine_of numbers no_cells new)
+      store-touches set_here (stream_stacks_of settings) place k it (machine_of numbers no_cells old) (λ (done : Unit {0}). machine_of numbers no_cells new)
       (read_by (failure_in new.progress) result) (found_in old room) new.held.told (may no_cells) (goes.follows no_cells room)
 
   -- what a load that may go tells: the tally may rise, and what counts is inside
   pub may-load-rises : MayGo rules numbers settings loads old → tally_may_rise old.progress.tally ≡ true
-  may-load-rises may = load-rises set_here (ports_of settings) place k (machine_of numbers no_cells old) (may no_cells)
+  may-load-rises may = load-rises set_here (stream_stacks_of settings) place k (machine_of numbers no_cells old) (may no_cells)
 
   pub may-load-desk : MayGo rules numbers settings loads old → Fits (corners.load_corner set_here settings.input place k desk_before)
-  may-load-desk may = load-desk set_here (ports_of settings) place k (machine_of numbers no_cells old) (may no_cells)
+  may-load-desk may = load-desk set_here (stream_stacks_of settings) place k (machine_of numbers no_cells old) (may no_cells)
 
   pub may-load-placed : MayGo rules numbers settings loads old
       → is_placed old.held.dim (kind_in_hand set_here place (corner_records numbers.vertex old.parents) (corner old.held.dim place k)) (corner old.held.dim place k) ≡ true
-  may-load-placed may = load-placed set_here (ports_of settings) place k (machine_of numbers no_cells old) (may no_cells)
+  may-load-placed may = load-placed set_here (stream_stacks_of settings) place k (machine_of numbers no_cells old) (may no_cells)
 
   pub may-store-rises : (it : VertexRecord) → MayGo rules numbers settings (stores it) old → tally_may_rise old.progress.tally ≡ true
-  may-store-rises it may = store-rises set_here (ports_of settings) place k it (machine_of numbers no_cells old) (may no_cells)
+  may-store-rises it may = store-rises set_here (stream_stacks_of settings) place k it (machine_of numbers no_cells old) (may no_cells)
 
-  pub may-store-desk : (it : VertexRecord) → MayGo rules numbers settings (stores it) old → Fits (corners.store_corner set_here (output (ports_of settings)) place k it desk_before)
-  may-store-desk it may = store-desk set_here (ports_of settings) place k it (machine_of numbers no_cells old) (may no_cells)
+  pub may-store-desk : (it : VertexRecord) → MayGo rules numbers settings (stores it) old → Fits (corners.store_corner set_here (output (stream_stacks_of settings)) place k it desk_before)
+  may-store-desk it may = store-desk set_here (stream_stacks_of settings) place k it (machine_of numbers no_cells old) (may no_cells)
 
   pub may-store-placed : (it : VertexRecord) → MayGo rules numbers settings (stores it) old → is_placed old.held.dim it.kind (corner old.held.dim place k) ≡ true
-  may-store-placed it may = store-placed set_here (ports_of settings) place k it (machine_of numbers no_cells old) (may no_cells)
+  may-store-placed it may = store-placed set_here (stream_stacks_of settings) place k it (machine_of numbers no_cells old) (may no_cells)
 
 -- what counts is inside
 counts-inside : (kind : Kind) (inside : Bool) → (kind ≡ Hanging → ⊥) → (is_hanging kind || inside) ≡ true → inside ≡ true

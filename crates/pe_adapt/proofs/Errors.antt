@@ -1,14 +1,8 @@
--- Errors that are passed on.
-use Rattle.std.proofs.Common.{◌≡◌, Result, Ok, Err, ap}
-use Rattle.std.specs.Result.{IsErrAnd}
+-- Failures that are passed on.
+use Rattle.std.proofs.Common.{Err}
 use Rattle.pe_base.specs.Walk.Course.{Course}
 use Rattle.pe_base.specs.Calls.Told.{Told}
 use Rattle.pe_base.specs.Calls.Follows.{Follows, BeforeCall, Failure, halted, unwritten, wanting, unheard_of}
-
--- by a `?`
-pub err-is : {A E : Type 0} (r : Result A E) (e : E) → IsErrAnd r (λ x. x ≡ e) → r ≡ Err e
-err-is (Ok a) e is = absurd is
-err-is (Err x) e is = ap Err is
 
 -- a call that fails follows its course, whatever it leaves
 pub err-after : {X A B : Type 0} (course : Course X) (after : A → X) (after' : B → X) (failure : Failure) (old : BeforeCall) (new : Told)

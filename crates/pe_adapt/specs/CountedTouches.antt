@@ -22,15 +22,15 @@ pub record Machine : Type 0 where
   pub tally : Tally
 
 -- the stacks of the streams: the inputs, and the outputs beside them
-pub record Ports : Type 0 where
+pub record StreamStacks : Type 0 where
   pub input : ℕ
   pub cell_input : ℕ
 
-abbrev pub output : Ports → ℕ
-output ports = 17 - ports.input
+abbrev pub output : StreamStacks → ℕ
+output streams = 17 - streams.input
 
-abbrev pub cell_output : Ports → ℕ
-cell_output ports = 1 - ports.cell_input
+abbrev pub cell_output : StreamStacks → ℕ
+cell_output streams = 1 - streams.cell_input
 
 -- every number of a tally may rise
 abbrev pub tally_may_rise : Tally → Bool
@@ -48,7 +48,7 @@ desk_of m = record { vertices = m.vertices; family = m.family }
 abbrev pub with_desk : Desk → Machine → Machine
 with_desk desk m = record m { vertices = desk.vertices; family = desk.family }
 
-module _ {Plan : Type 0} (set : Setting Plan) (ports : Ports) where
+module _ {Plan : Type 0} (set : Setting Plan) (streams : StreamStacks) where
   -- a corner is loaded, and stored
   abbrev pub load_corner : Place → ℕ → Machine → Course (VertexRecord × Machine)
   load_corner cell k m =
@@ -57,7 +57,7 @@ module _ {Plan : Type 0} (set : Setting Plan) (ports : Ports) where
       let first = is_none (stack_in set.axes (way set) vertex cell) in
       allowed (tally_may_rise m.tally && is_placed set.axes kind vertex)
       (course_map (λ it. (it.0, with_desk it.1 (record m { tally = tally_load kind first m.tally })))
-      (corners.load_corner set ports.input cell k (desk_of m)))
+      (corners.load_corner set streams.input cell k (desk_of m)))
 
   abbrev pub store_corner : Place → ℕ → VertexRecord → Machine → Course Machine
   store_corner cell k it m =
@@ -65,4 +65,4 @@ module _ {Plan : Type 0} (set : Setting Plan) (ports : Ports) where
       let last = is_none (stack_out set.axes (way set) vertex cell) in
       allowed (tally_may_rise m.tally && is_placed set.axes it.kind vertex)
       (course_map (λ desk. with_desk desk (record m { tally = tally_store it.kind last m.tally }))
-      (corners.store_corner set (output ports) cell k it (desk_of m)))
+      (corners.store_corner set (output streams) cell k it (desk_of m)))

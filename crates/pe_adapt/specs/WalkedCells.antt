@@ -19,14 +19,14 @@ use Rattle.pe_adapt.specs.declared.settings.Settings.{Settings}
 use Rattle.pe_adapt.specs.declared.progress.Progress.{Progress}
 use Rattle.pe_adapt.specs.declared.walked.WalkedCell.{WalkedCell}
 use Rattle.pe_adapt.specs.Stops.{failure_of_halt}
-use Rattle.pe_adapt.specs.CountedTouches.{Machine, Ports}
+use Rattle.pe_adapt.specs.CountedTouches.{Machine, StreamStacks}
 
 -- what is set for a traversal, by what the mapping holds
 abbrev pub setting_in : {Plan : Type 0} → Rules Plan → Held Plan → Settings → Setting Plan
 setting_in rules held settings = setting_of rules held settings.setup.start_level settings.setup.max_cells settings.traversal
 
-abbrev pub ports_of : Settings → Ports
-ports_of settings = record { input = settings.input; cell_input = settings.cell_input }
+abbrev pub stream_stacks_of : Settings → StreamStacks
+stream_stacks_of settings = record { input = settings.input; cell_input = settings.cell_input }
 
 -- vertices and cells on stacks, the parent's corners, the parent, the mapping's list, and what was counted
 abbrev pub machine_in_hand : {V C : Type 0} → Numbers V C → Holdings (Vertex V) → Holdings (List ℤ) → CornerList (Vertex V) → CellRec C → List ℤ → Tally → Machine

@@ -9,7 +9,7 @@ ghost use Rattle.pe_stacks.specs.Sights.{corner_records};
 ghost use Rattle.pe_adapt.specs.Slots.{seen_slot};
 ghost use Rattle.pe_adapt.specs.Touches.{kind_in_hand};
 ghost use Rattle.pe_adapt.specs.CountedTouches.{load_corner, store_corner};
-ghost use Rattle.pe_adapt.specs.WalkedCells.{IsWalked, setting_in, ports_of};
+ghost use Rattle.pe_adapt.specs.WalkedCells.{IsWalked, setting_in, stream_stacks_of};
 ghost use Rattle.pe_adapt.specs.TouchCalls.{MayGo, GoesAlong, hand_of, filled_in};
 
 use crate::progress::Progress;
@@ -40,9 +40,9 @@ pub(crate) fn load_hanging<M: Mapping, DV: Depot<Vertex<M::V>>>(
         (corner (M.held m.old).dim cell.now.place k) ≡ Hanging }
     requires full { IsFull (M.held m.old).dim parents.old }
     requires empty { slot.old ≡ None }
-    requires fits { MayGo M.rules M.numbers settings.now (λ set. load_corner set (ports_of settings.now) cell.now.place k)
+    requires fits { MayGo M.rules M.numbers settings.now (λ set. load_corner set (stream_stacks_of settings.now) cell.now.place k)
         (hand_of (M.held m.old) (DV.holds dv.old) (DV.room dv.old) parents.old parent.old progress.old) }
-    ensures goes { GoesAlong M.rules M.numbers settings.now (λ set. load_corner set (ports_of settings.now) cell.now.place k)
+    ensures goes { GoesAlong M.rules M.numbers settings.now (λ set. load_corner set (stream_stacks_of settings.now) cell.now.place k)
         (λ machine. (seen_slot M.numbers.vertex slot.new, machine)) 0 (filled_in slot.new) result
         (hand_of (M.held m.old) (DV.holds dv.old) (DV.room dv.old) parents.old parent.old progress.old)
         (hand_of (M.held m.new) (DV.holds dv.new) (DV.room dv.new) parents.new parent.new progress.new) }
@@ -82,9 +82,9 @@ pub(crate) fn load_first<M: Mapping, DV: Depot<Vertex<M::V>>>(
     requires first { stack_in (M.held m.old).dim (way_of settings.now.traversal) (corner (M.held m.old).dim cell.now.place k) cell.now.place ≡ None }
     requires full { IsFull (M.held m.old).dim parents.old }
     requires empty { slot.old ≡ None }
-    requires fits { MayGo M.rules M.numbers settings.now (λ set. load_corner set (ports_of settings.now) cell.now.place k)
+    requires fits { MayGo M.rules M.numbers settings.now (λ set. load_corner set (stream_stacks_of settings.now) cell.now.place k)
         (hand_of (M.held m.old) (DV.holds dv.old) (DV.room dv.old) parents.old parent.old progress.old) }
-    ensures goes { GoesAlong M.rules M.numbers settings.now (λ set. load_corner set (ports_of settings.now) cell.now.place k)
+    ensures goes { GoesAlong M.rules M.numbers settings.now (λ set. load_corner set (stream_stacks_of settings.now) cell.now.place k)
         (λ machine. (seen_slot M.numbers.vertex slot.new, machine)) 0 (filled_in slot.new) result
         (hand_of (M.held m.old) (DV.holds dv.old) (DV.room dv.old) parents.old parent.old progress.old)
         (hand_of (M.held m.new) (DV.holds dv.new) (DV.room dv.new) parents.new parent.new progress.new) }
@@ -131,9 +131,9 @@ pub(crate) fn store_hanging<M: Mapping, DV: Depot<Vertex<M::V>>>(
     requires hangs { IsSomeAnd slot.old (λ v. v.kind ≡ Hanging) }
     requires full { IsFull (M.held m.old).dim parents.old }
     requires out { 0 < (DV.holds dv.old).out }
-    requires fits { MayGo M.rules M.numbers settings.now (λ set. store_corner set (ports_of settings.now) cell.now.place k (seen_slot M.numbers.vertex slot.old))
+    requires fits { MayGo M.rules M.numbers settings.now (λ set. store_corner set (stream_stacks_of settings.now) cell.now.place k (seen_slot M.numbers.vertex slot.old))
         (hand_of (M.held m.old) (DV.holds dv.old) (DV.room dv.old) parents.old parent.old progress.old) }
-    ensures goes { GoesAlong M.rules M.numbers settings.now (λ set. store_corner set (ports_of settings.now) cell.now.place k (seen_slot M.numbers.vertex slot.old))
+    ensures goes { GoesAlong M.rules M.numbers settings.now (λ set. store_corner set (stream_stacks_of settings.now) cell.now.place k (seen_slot M.numbers.vertex slot.old))
         (λ machine. machine) 1 0 result
         (hand_of (M.held m.old) (DV.holds dv.old) (DV.room dv.old) parents.old parent.old progress.old)
         (hand_of (M.held m.new) (DV.holds dv.new) (DV.room dv.new) parents.new parent.new progress.new) }
@@ -170,9 +170,9 @@ pub(crate) fn store_last<M: Mapping, DV: Depot<Vertex<M::V>>>(
     requires last { stack_out (M.held m.old).dim (way_of settings.now.traversal) (corner (M.held m.old).dim cell.now.place k) cell.now.place ≡ None }
     requires full { IsFull (M.held m.old).dim parents.old }
     requires out { 0 < (DV.holds dv.old).out }
-    requires fits { MayGo M.rules M.numbers settings.now (λ set. store_corner set (ports_of settings.now) cell.now.place k (seen_slot M.numbers.vertex slot.old))
+    requires fits { MayGo M.rules M.numbers settings.now (λ set. store_corner set (stream_stacks_of settings.now) cell.now.place k (seen_slot M.numbers.vertex slot.old))
         (hand_of (M.held m.old) (DV.holds dv.old) (DV.room dv.old) parents.old parent.old progress.old) }
-    ensures goes { GoesAlong M.rules M.numbers settings.now (λ set. store_corner set (ports_of settings.now) cell.now.place k (seen_slot M.numbers.vertex slot.old))
+    ensures goes { GoesAlong M.rules M.numbers settings.now (λ set. store_corner set (stream_stacks_of settings.now) cell.now.place k (seen_slot M.numbers.vertex slot.old))
         (λ machine. machine) 1 0 result
         (hand_of (M.held m.old) (DV.holds dv.old) (DV.room dv.old) parents.old parent.old progress.old)
         (hand_of (M.held m.new) (DV.holds dv.new) (DV.room dv.new) parents.new parent.new progress.new) }

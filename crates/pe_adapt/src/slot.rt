@@ -5,7 +5,7 @@ ghost use Rattle.pe_stacks.specs.Sights.{corner_records};
 ghost use Rattle.pe_adapt.specs.Ages.{GiveKinds};
 ghost use Rattle.pe_adapt.specs.Slots.{seen_slot};
 ghost use Rattle.pe_adapt.specs.CountedTouches.{load_corner, store_corner};
-ghost use Rattle.pe_adapt.specs.WalkedCells.{IsWalked, ports_of};
+ghost use Rattle.pe_adapt.specs.WalkedCells.{IsWalked, stream_stacks_of};
 ghost use Rattle.pe_adapt.specs.TouchCalls.{MayGo, GoesAlong, hand_of, filled_in};
 
 use crate::counted::{load_first, load_hanging, store_hanging, store_last};
@@ -37,9 +37,9 @@ pub fn load_in_slot<M: Mapping, DV: Depot<Vertex<M::V>>>(
     requires kinds { GiveKinds (M.held m.old).dim settings.now.traversal cell.now.place (corner_records M.numbers.vertex parents.old) cell.now.ages }
     requires full { IsFull (M.held m.old).dim parents.old }
     requires empty { slot.old ≡ None }
-    requires fits { MayGo M.rules M.numbers settings.now (λ set. load_corner set (ports_of settings.now) cell.now.place k)
+    requires fits { MayGo M.rules M.numbers settings.now (λ set. load_corner set (stream_stacks_of settings.now) cell.now.place k)
         (hand_of (M.held m.old) (DV.holds dv.old) (DV.room dv.old) parents.old parent.old progress.old) }
-    ensures goes { GoesAlong M.rules M.numbers settings.now (λ set. load_corner set (ports_of settings.now) cell.now.place k)
+    ensures goes { GoesAlong M.rules M.numbers settings.now (λ set. load_corner set (stream_stacks_of settings.now) cell.now.place k)
         (λ machine. (seen_slot M.numbers.vertex slot.new, machine)) 0 (filled_in slot.new) result
         (hand_of (M.held m.old) (DV.holds dv.old) (DV.room dv.old) parents.old parent.old progress.old)
         (hand_of (M.held m.new) (DV.holds dv.new) (DV.room dv.new) parents.new parent.new progress.new) }
@@ -80,9 +80,9 @@ pub fn store_in_slot<M: Mapping, DV: Depot<Vertex<M::V>>>(
     requires filled { IsSome slot.old }
     requires full { IsFull (M.held m.old).dim parents.old }
     requires out { 0 < (DV.holds dv.old).out }
-    requires fits { MayGo M.rules M.numbers settings.now (λ set. store_corner set (ports_of settings.now) cell.now.place k (seen_slot M.numbers.vertex slot.old))
+    requires fits { MayGo M.rules M.numbers settings.now (λ set. store_corner set (stream_stacks_of settings.now) cell.now.place k (seen_slot M.numbers.vertex slot.old))
         (hand_of (M.held m.old) (DV.holds dv.old) (DV.room dv.old) parents.old parent.old progress.old) }
-    ensures goes { GoesAlong M.rules M.numbers settings.now (λ set. store_corner set (ports_of settings.now) cell.now.place k (seen_slot M.numbers.vertex slot.old))
+    ensures goes { GoesAlong M.rules M.numbers settings.now (λ set. store_corner set (stream_stacks_of settings.now) cell.now.place k (seen_slot M.numbers.vertex slot.old))
         (λ machine. machine) 1 0 result
         (hand_of (M.held m.old) (DV.holds dv.old) (DV.room dv.old) parents.old parent.old progress.old)
         (hand_of (M.held m.new) (DV.holds dv.new) (DV.room dv.new) parents.new parent.new progress.new) }

@@ -6,3 +6,5 @@ pub mod Texts
 pub mod Outcomes
 -- within a body: from the start of a course to its end
 pub mod Leading
+-- errors that are passed on
+pub mod Errors

@@ -3,11 +3,11 @@
 -- lists in which each member is entered and left across an axis
 pub mod Walks
 -- the children of a cell around a point
-pub mod Spans
+pub mod AroundInCell
 -- the cells of a level around a point
 pub mod Levels
 -- the cells around a vertex as positions on the grid's axes
-pub mod Rounds
+pub mod AroundAsGrid
 -- each step crosses one face
 pub mod RouteLaws
 -- the stacks of a vertex by how its cells are entered and left

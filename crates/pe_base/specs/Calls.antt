@@ -8,3 +8,5 @@ pub mod Told
 pub mod Outcomes
 -- how the answer of a call follows a course of moves
 pub mod Follows
+-- kinds of courses, and what calls owe that do them
+pub mod Courses

@@ -1,5 +1,7 @@
 -- The walk by address, at every depth and with every kind of vertex.
 
+-- the order of a walk, once for all walks
+pub mod Steps
 -- moves one after another, and how they end
 pub mod Course
 -- finite maps from places

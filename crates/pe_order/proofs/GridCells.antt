@@ -23,7 +23,7 @@ use Rattle.pe_order.specs.Tallies.{KindsForeseen, foreseen_tally, TrafficOfGrids
 use Rattle.pe_order.specs.FewCells.{FewCellsOfTraversals, FewCellsOfGrids, most_cells}
 use Rattle.pe_order.proofs.Outlooks.{Carried}
 use Rattle.pe_order.proofs.Forecasts.{formed, fresh, any_weaker, forecast_carried, forecast_fits, stored_carried, stored_fits}
-use Rattle.pe_order.proofs.Tokens.Dues.{root_walks}
+use Rattle.pe_order.proofs.Tokens.LoadOrder.{root_walks}
 use Rattle.pe_order.proofs.Tokens.FewCells.{few_cells}
 use Rattle.pe_order.proofs.Tokens.ExactTraffic.{traffic_by_tally}
 

@@ -9,11 +9,11 @@ pub mod Loads
 -- what is written is read in the other way
 pub mod Turning
 -- what the walk of a cell does on one stack
-pub mod Passages
+pub mod OneStack
 -- the walk of a cell
 pub mod Walks
 -- each load is due
-pub mod Dues
+pub mod LoadOrder
 -- traversals
 pub mod Traversals
 -- what each move keeps

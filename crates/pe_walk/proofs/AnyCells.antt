@@ -13,10 +13,10 @@ use Rattle.pe_stacks.specs.Holdings.{Holdings}
 use Rattle.pe_base.specs.Calls.Follows.{Fits, is_fit}
 use Rattle.pe_adapt.specs.Touches.{Desk, kind_in_hand}
 use Rattle.pe_adapt.specs.Touches as corners
-use Rattle.pe_adapt.specs.CountedTouches.{Machine, Ports, output, tally_may_rise, is_placed, desk_of, with_desk, load_corner, store_corner}
+use Rattle.pe_adapt.specs.CountedTouches.{Machine, StreamStacks, output, tally_may_rise, is_placed, desk_of, with_desk, load_corner, store_corner}
 use Rattle.pe_walk.specs.Machine.{load_all, store_all}
 
-module _ {Plan : Type 0} (set : Setting Plan) (ports : Ports) (cell : Place) (cells : Holdings (List ℤ)) where
+module _ {Plan : Type 0} (set : Setting Plan) (streams : StreamStacks) (cell : Place) (cells : Holdings (List ℤ)) where
   abbrev with_cells : Machine → Machine
   with_cells m = record m { cells = cells }
 
@@ -54,11 +54,11 @@ module _ {Plan : Type 0} (set : Setting Plan) (ports : Ports) (cell : Place) (ce
   load-one true course m tally = load-ends course.ending m tally
   load-one false course m tally = refl
 
-  load-corner : (k : ℕ) (m : Machine) → (load_corner set ports cell k (with_cells m)).ending ≡ end_with (load_corner set ports cell k m).ending
+  load-corner : (k : ℕ) (m : Machine) → (load_corner set streams cell k (with_cells m)).ending ≡ end_with (load_corner set streams cell k m).ending
   load-corner k m =
       let vertex = corner set.axes cell k in
       let kind = kind_in_hand set cell m.family.parents vertex in
-      load-one (tally_may_rise m.tally && is_placed set.axes kind vertex) (corners.load_corner set ports.input cell k (desk_of m)) m
+      load-one (tally_may_rise m.tally && is_placed set.axes kind vertex) (corners.load_corner set streams.input cell k (desk_of m)) m
       (tally_load kind (is_none (stack_in set.axes (way set) vertex cell)) m.tally)
 
   store-ends : (e : Ending Desk) (m : Machine) (tally : Tally)
@@ -74,41 +74,41 @@ module _ {Plan : Type 0} (set : Setting Plan) (ports : Ports) (cell : Place) (ce
   store-one true course m tally = store-ends course.ending m tally
   store-one false course m tally = refl
 
-  store-corner : (k : ℕ) (it : VertexRecord) (m : Machine) → (store_corner set ports cell k it (with_cells m)).ending ≡ end_at (store_corner set ports cell k it m).ending
+  store-corner : (k : ℕ) (it : VertexRecord) (m : Machine) → (store_corner set streams cell k it (with_cells m)).ending ≡ end_at (store_corner set streams cell k it m).ending
   store-corner k it m =
       let vertex = corner set.axes cell k in
-      store-one (tally_may_rise m.tally && is_placed set.axes it.kind vertex) (corners.store_corner set (output ports) cell k it (desk_of m)) m
+      store-one (tally_may_rise m.tally && is_placed set.axes it.kind vertex) (corners.store_corner set (output streams) cell k it (desk_of m)) m
       (tally_store it.kind (is_none (stack_out set.axes (way set) vertex cell)) m.tally)
 
   -- all corners
   load-then : (k : ℕ) (its : List VertexRecord) (e : Ending (VertexRecord × Machine))
-      → ((its : List VertexRecord) (m : Machine) → (load_all set ports cell k its (with_cells m)).ending ≡ end_with (load_all set ports cell k its m).ending)
-      → (from (end_with e) (λ it. load_all set ports cell k (it.0 ∷ its) it.1)).ending ≡ end_with (from e (λ it. load_all set ports cell k (it.0 ∷ its) it.1)).ending
+      → ((its : List VertexRecord) (m : Machine) → (load_all set streams cell k its (with_cells m)).ending ≡ end_with (load_all set streams cell k its m).ending)
+      → (from (end_with e) (λ it. load_all set streams cell k (it.0 ∷ its) it.1)).ending ≡ end_with (from e (λ it. load_all set streams cell k (it.0 ∷ its) it.1)).ending
   load-then k its (done it) rest = rest (it.0 ∷ its) it.1
   load-then k its (halts cause) rest = refl
   load-then k its stuck rest = refl
 
-  load-all : (k : ℕ) (its : List VertexRecord) (m : Machine) → (load_all set ports cell k its (with_cells m)).ending ≡ end_with (load_all set ports cell k its m).ending
+  load-all : (k : ℕ) (its : List VertexRecord) (m : Machine) → (load_all set streams cell k its (with_cells m)).ending ≡ end_with (load_all set streams cell k its m).ending
   load-all zero its m = refl
   load-all (suc k) its m =
-      ap (λ e. (from e (λ it. load_all set ports cell k (it.0 ∷ its) it.1)).ending) (load-corner k m)
-      ∙ load-then k its (load_corner set ports cell k m).ending (λ its m. load-all k its m)
+      ap (λ e. (from e (λ it. load_all set streams cell k (it.0 ∷ its) it.1)).ending) (load-corner k m)
+      ∙ load-then k its (load_corner set streams cell k m).ending (λ its m. load-all k its m)
 
   store-then : (k : ℕ) (its : List VertexRecord) (e : Ending Machine)
-      → ((m : Machine) → (store_all set ports cell (k + 1) its (with_cells m)).ending ≡ end_at (store_all set ports cell (k + 1) its m).ending)
-      → (from (end_at e) (store_all set ports cell (k + 1) its)).ending ≡ end_at (from e (store_all set ports cell (k + 1) its)).ending
+      → ((m : Machine) → (store_all set streams cell (k + 1) its (with_cells m)).ending ≡ end_at (store_all set streams cell (k + 1) its m).ending)
+      → (from (end_at e) (store_all set streams cell (k + 1) its)).ending ≡ end_at (from e (store_all set streams cell (k + 1) its)).ending
   store-then k its (done m) rest = rest m
   store-then k its (halts cause) rest = refl
   store-then k its stuck rest = refl
 
-  store-all : (k : ℕ) (its : List VertexRecord) (m : Machine) → (store_all set ports cell k its (with_cells m)).ending ≡ end_at (store_all set ports cell k its m).ending
+  store-all : (k : ℕ) (its : List VertexRecord) (m : Machine) → (store_all set streams cell k its (with_cells m)).ending ≡ end_at (store_all set streams cell k its m).ending
   store-all k [] m = refl
   store-all k (it ∷ its) m =
-      ap (λ e. (from e (store_all set ports cell (k + 1) its)).ending) (store-corner k it m)
-      ∙ store-then k its (store_corner set ports cell k it m).ending (λ m. store-all (k + 1) its m)
+      ap (λ e. (from e (store_all set streams cell (k + 1) its)).ending) (store-corner k it m)
+      ∙ store-then k its (store_corner set streams cell k it m).ending (λ m. store-all (k + 1) its m)
 
-  pub load_all-any_cells : (k : ℕ) (its : List VertexRecord) (m : Machine) → Fits (load_all set ports cell k its m) → Fits (load_all set ports cell k its (record m { cells = cells }))
-  load_all-any_cells k its m fits = ap is_fit (load-all k its m) ∙ fit-with (load_all set ports cell k its m).ending ∙ fits
+  pub load_all-any_cells : (k : ℕ) (its : List VertexRecord) (m : Machine) → Fits (load_all set streams cell k its m) → Fits (load_all set streams cell k its (record m { cells = cells }))
+  load_all-any_cells k its m fits = ap is_fit (load-all k its m) ∙ fit-with (load_all set streams cell k its m).ending ∙ fits
 
-  pub store_all-any_cells : (k : ℕ) (its : List VertexRecord) (m : Machine) → Fits (store_all set ports cell k its m) → Fits (store_all set ports cell k its (record m { cells = cells }))
-  store_all-any_cells k its m fits = ap is_fit (store-all k its m) ∙ fit-at (store_all set ports cell k its m).ending ∙ fits
+  pub store_all-any_cells : (k : ℕ) (its : List VertexRecord) (m : Machine) → Fits (store_all set streams cell k its m) → Fits (store_all set streams cell k its (record m { cells = cells }))
+  store_all-any_cells k its m fits = ap is_fit (store-all k its m) ∙ fit-at (store_all set streams cell k its m).ending ∙ fits

@@ -1,25 +1,30 @@
--- The children of a cell along rows.
-use Rattle.std.proofs.Common.{◌≡◌, ℕ, zero, suc, ◌+◌, ◌-◌, ◌*◌, ◌/◌, ◌^◌, ◌<◌, ◌≤◌, ◌≢◌, List, [], ◌∷◌, length, map, set, take, refl, sym, ap, subst, ◌∙◌, inl, inr, arith}
-use Rattle.std.specs.Prelude.{slice_index, sum}
+-- The children of a cell, each from the one before it.
+use Rattle.std.proofs.Common.{◌≡◌, ℕ, zero, suc, ◌+◌, ◌-◌, ◌*◌, ◌/◌, ◌%◌, ◌^◌, ◌<◌, ◌≤◌, ◌≢◌, List, [], ◌∷◌, length, map, set, take, refl, sym, ap, subst, ◌∙◌, inl, inr, arith}
+use Rattle.std.specs.Prelude.{◌==◌, slice_index, sum}
+use Rattle.std.specs.List.{range_with_len}
 use Rattle.std.proofs.lemmas.Bool.{cases_lt}
+use Rattle.std.proofs.lemmas.List.{get_or-map, get_or-set_other}
+use Rattle.std.proofs.lemmas.List.FromFn.{get_or-range_with_len, length-range_with_len, length-map-range_with_len}
 use Rattle.pe_base.specs.declared.place.Place.{Place}
 use Rattle.pe_base.specs.declared.place.Digits.{Digits}
 use Rattle.pe_base.specs.Tree.Places.{IsCellPlace, IsDigits, finer, child_at, parent_of}
 use Rattle.pe_base.proofs.Tree.PlaceLaws.{IsCellPlace-child_at, digit_below}
+use Rattle.pe_base.specs.Tree.Curve.{flip, flips}
 use Rattle.pe_base.specs.Tree.Dim.{IsDim}
 use Rattle.pe_base.specs.Acts.Effects.{VertexRecord}
 use Rattle.pe_states.specs.Ages.{is_old_at, is_new_at, is_first_old, is_first_new, some_carrier}
 use Rattle.pe_states.specs.Sides.{AreSpread, IsRow as IsRowOfAges}
 use Rattle.pe_adapt.specs.Ages.{AreAgesOf, GiveKinds}
 use Rattle.pe_adapt.proofs.KindLaws.{kind-carried, kind-first}
-use Rattle.pe_access.specs.declared.state.CellState.{CellState}
-use Rattle.pe_access.specs.States.{StandsFor, odd_count, row_turns}
+use Rattle.pe_access.specs.States.{StandsFor, is_upwards}
 use Rattle.pe_base.specs.Steps.Routes.{way_turns}
 use Rattle.pe_adapt.specs.declared.settings.Settings.{Settings}
 use Rattle.pe_walk.specs.declared.child.Above.{Above}
 use Rattle.pe_walk.specs.declared.child.Child.{Child}
 use Rattle.pe_adapt.specs.WalkedCells.{IsWalked}
-use Rattle.pe_walk.specs.Children.{IsAbove, IsChild, AreInOneRow}
+use Rattle.pe_curve.specs.declared.step.Step.{Step}
+use Rattle.pe_curve.specs.Steps.{IsAdvanced, goes_up, moved_digit}
+use Rattle.pe_walk.specs.Children.{IsAbove, IsChild, IsStepOf, AgreeBefore}
 
 -- a cell is its child's parent
 thirds : (xs ks : List ℕ) → length xs ≡ length ks → ((i : ℕ) → slice_index ks i < 3) → map (λ x. x / 3) (finer xs ks) ≡ xs
@@ -71,16 +76,10 @@ front-same (suc n) (x ∷ xs) [] same each = absurd (omega arith)
 front-same (suc n) (x ∷ xs) (y ∷ ys) same each =
     ap (λ z. z ∷ take n xs) (each 0 (omega arith)) ∙ ap (λ zs. y ∷ zs) (front-same n xs ys (omega arith) (λ i below. each (suc i) (omega arith)))
 
-pub row-same : (axes ages row : ℕ) (digits digits' : Digits) → IsDigits axes digits → IsDigits axes digits' → AreInOneRow axes digits digits'
+pub row-same : (axes ages row : ℕ) (digits digits' : Digits) → IsDigits axes digits → IsDigits axes digits' → AgreeBefore (axes - 1) digits digits'
     → IsRowOfAges axes digits ages row → IsRowOfAges axes digits' ages row
 row-same axes ages row digits digits' fit fit' one is =
     subst (λ ks. AreSpread 1 ks ages row) (front-same (axes - 1) digits.k digits'.k (fit.four ∙ sym fit'.four) one) is
-
-pub turns-same : (axes : ℕ) (state : CellState) (digits digits' : Digits) → state.axes ≡ axes → IsDigits axes digits → IsDigits axes digits' → AreInOneRow axes digits digits' → row_turns state digits ≡ row_turns state digits'
-turns-same axes state digits digits' same fit fit' one =
-    let turns : List ℕ → ℕ = λ ks. way_turns state.way + odd_count state.along + sum ks in
-    ap (λ (n : ℕ). turns (take (n - 1) digits.k)) same ∙ ap turns (front-same (axes - 1) digits.k digits'.k (fit.four ∙ sym fit'.four) one)
-    ∙ ap (λ (n : ℕ). turns (take (n - 1) digits'.k)) (sym same)
 
 all-same : (xs ys : List ℕ) → length xs ≡ length ys → ((i : ℕ) → slice_index xs i ≡ slice_index ys i) → xs ≡ ys
 all-same [] [] same each = refl
@@ -100,7 +99,7 @@ finer-step (p ∷ ps) (x ∷ xs) (y ∷ ys) (suc i) long same within each =
     ∙ ap (λ zs. (3 * p + y) ∷ zs) (finer-step ps xs ys i (omega arith) (omega arith) (omega arith) (λ j other. each (suc j) (λ e. other (omega arith))))
 
 -- a step along a row changes the position on the last axis alone
-pub child_at-step : (axes : ℕ) (parent : Place) (from digits : Digits) → 2 ≤ axes → axes ≤ 4 → IsCellPlace axes parent → IsDigits axes from → IsDigits axes digits → AreInOneRow axes from digits
+pub child_at-step : (axes : ℕ) (parent : Place) (from digits : Digits) → 2 ≤ axes → axes ≤ 4 → IsCellPlace axes parent → IsDigits axes from → IsDigits axes digits → AgreeBefore (axes - 1) from digits
     → set (finer parent.pos from.k) (axes - 1) (3 * slice_index parent.pos (axes - 1) + slice_index digits.k (axes - 1)) ≡ finer parent.pos digits.k
 child_at-step axes parent from digits low high at fit fit' one =
     finer-step parent.pos from.k digits.k (axes - 1) (at.pos.four ∙ sym fit.four) (fit.four ∙ sym fit'.four) (omega (arith, at.pos.four))
@@ -109,10 +108,31 @@ child_at-step axes parent from digits low high at fit fit' one =
     past : (j : ℕ) → axes - 1 ≤ j → j ≢ axes - 1 → axes ≤ j
     past j more other = elim (cases_lt j axes) [ inl less ↦ absurd (other (omega arith)) | inr far ↦ far ]
 
+-- # From child to child
+
+flips-at : (axes : ℕ) (pos : List ℕ) (axis : ℕ) → axis < axes → slice_index (flips axes pos) axis ≡ flip pos axis
+flips-at axes pos axis within =
+    get_or-map (flip pos) (range_with_len 0 axes) axis 0 0 (omega (arith, length-range_with_len 0 axes))
+    ∙ ap (flip pos) (get_or-range_with_len 0 axes axis 0 within ∙ omega arith)
+
+-- the state is told by the step which axes are walked upwards
+pub upwards : (axes : ℕ) (settings : Settings) (above : Above) (n axis : ℕ) (step : Step) → IsStepOf axes settings above n step → axis < axes → goes_up step axis ≡ is_upwards settings.way above.place step.digits axis
+upwards axes settings above n axis step is within =
+    is.ups axis within
+    ∙ ap (λ (e : ℕ). (way_turns settings.way + e + sum (take axis step.digits.k)) % 2 == 0) (flips-at axes above.place.pos axis within)
+
+pub length-flips : (axes : ℕ) (pos : List ℕ) → length (flips axes pos) ≡ axes
+length-flips axes pos = length-map-range_with_len (flip pos) 0 axes
+
+-- digits agree before the axis that has moved
+pub agree-moved : (axes axis : ℕ) (old new : Step) → IsAdvanced axes old axis new → AgreeBefore axis old.digits new.digits
+agree-moved axes axis old new to = λ i low.
+    sym (ap (λ ks. slice_index ks i) to.digits ∙ get_or-set_other old.digits.k axis i (moved_digit (goes_up old axis) (slice_index old.digits.k axis)) 0 (λ e. omega arith))
+
 -- what is known of a child as it is walked
-pub child-walked : (axes : ℕ) (settings : Settings) (above : Above) (child : Child) → IsAbove axes settings above → IsChild axes settings above child → IsWalked axes settings child.cell
-child-walked axes settings above child over is = record {
-  place = subst (IsCellPlace axes) (sym is.place) (IsCellPlace-child_at axes above.place child.digits over.place over.level is.digits);
+pub child-walked : (axes : ℕ) (settings : Settings) (above : Above) (n : ℕ) (child : Child) → IsAbove axes settings above → IsChild axes settings above n child → IsWalked axes settings child.cell
+child-walked axes settings above n child over is = record {
+  place = subst (IsCellPlace axes) (sym is.place) (IsCellPlace-child_at axes above.place child.step.digits over.place over.level is.step.digits);
   deep = (let level = ap (λ (p : Place). p.level) is.place in omega (arith, level));
   state = subst (λ p. StandsFor axes settings.way p child.cell.state) (sym is.place) is.state;
   row = is.row;

@@ -22,7 +22,7 @@ use Rattle.pe_adapt.specs.declared.settings.Settings.{Settings}
 use Rattle.pe_adapt.specs.declared.walked.WalkedCell.{WalkedCell}
 use Rattle.pe_adapt.specs.CountedTouches.{Machine, load_corner, store_corner}
 use Rattle.pe_walk.specs.Machine.{load_all, store_all}
-use Rattle.pe_adapt.specs.WalkedCells.{IsWalked, setting_in, ports_of}
+use Rattle.pe_adapt.specs.WalkedCells.{IsWalked, setting_in, stream_stacks_of}
 use Rattle.pe_adapt.specs.TouchCalls.{Hand, machine_of, MayGo, GoesAlong, filled_in}
 use Rattle.pe_walk.specs.Corners.{TouchesOn, HasLast, MayLoad, MayStore, AreOf, left_of, loads_left, stores_left, filled_in_corners, seen_slots}
 use Rattle.pe_walk.proofs.Going.{on-ok, on-always, may-first, may-next, first-goes, goes-same, goes-all}
@@ -72,10 +72,10 @@ module _ {Plan V C : Type 0} {rules : Rules Plan} {numbers : Numbers V C} {setti
     loaded_its = corner_records numbers.vertex corners
 
     abbrev load_first : Setting Plan → Machine → Course (VertexRecord × Machine)
-    load_first set machine = load_corner set (ports_of settings) cell.place k machine
+    load_first set machine = load_corner set (stream_stacks_of settings) cell.place k machine
 
     abbrev load_rest : Setting Plan → VertexRecord × Machine → Course (List VertexRecord × Machine)
-    load_rest set it = load_all set (ports_of settings) cell.place k (it.0 ∷ loaded_its) it.1
+    load_rest set it = load_all set (stream_stacks_of settings) cell.place k (it.0 ∷ loaded_its) it.1
 
     last_loaded : FullFrom settings.setup.dim (k + 1) corners
     last_loaded = last-from (k + 1) corners old ready.here behind (omega arith)
@@ -84,7 +84,7 @@ module _ {Plan V C : Type 0} {rules : Rules Plan} {numbers : Numbers V C} {setti
         ≡ and_then (load_first (setting_in rules old.held settings) machine) (load_rest (setting_in rules old.held settings))
     load-whole machine =
         let same : 2 ^ old.held.dim - length loaded_its ≡ suc k = omega (arith, seen-last numbers.vertex settings.setup.dim (k + 1) corners last_loaded, ap (λ d. 2 ^ d) ready.here.dim) in
-        ap (λ n. load_all (setting_in rules old.held settings) (ports_of settings) cell.place n loaded_its machine) same
+        ap (λ n. load_all (setting_in rules old.held settings) (stream_stacks_of settings) cell.place n loaded_its machine) same
 
     pub load-fits : MayGo rules numbers settings load_first old
     load-fits = may-first rules numbers settings load_first load_rest old (λ cells. subst Fits (load-whole (machine_of numbers cells old)) (ready.fits cells))
@@ -106,8 +106,8 @@ module _ {Plan V C : Type 0} {rules : Rules Plan} {numbers : Numbers V C} {setti
         let put = full_put settings.setup.dim k v corners after refl last_loaded in
         let seen : corner_records numbers.vertex after ≡ record_of numbers.vertex v ∷ loaded_its = ap (λ vs. map (record_of numbers.vertex) vs) (seen_put settings.setup.dim k v corners after refl last_loaded) in
         let same : k ≡ 2 ^ old.held.dim - length (corner_records numbers.vertex after) = omega (arith, seen-last numbers.vertex settings.setup.dim k after put, ap (λ d. 2 ^ d) ready.here.dim) in
-        ap (λ its. load_all (setting_in rules old.held settings) (ports_of settings) cell.place k its machine) (sym seen)
-        ∙ ap (λ n. load_all (setting_in rules old.held settings) (ports_of settings) cell.place n (corner_records numbers.vertex after) machine) same
+        ap (λ its. load_all (setting_in rules old.held settings) (stream_stacks_of settings) cell.place k its machine) (sym seen)
+        ∙ ap (λ n. load_all (setting_in rules old.held settings) (stream_stacks_of settings) cell.place n (corner_records numbers.vertex after) machine) same
 
     module _ (slot : Option (Vertex V)) {result : Result (Unit {0}) Inner} {new : Hand Plan V C} (loaded : OnOk result (IsSome slot)) where
       pub load-goes : GoesAlong rules numbers settings load_first (λ machine. (seen_slot numbers.vertex slot, machine)) 0 (filled_in slot) result old new
@@ -134,10 +134,10 @@ module _ {Plan V C : Type 0} {rules : Rules Plan} {numbers : Numbers V C} {setti
     after_store = with_vertex corners k after
 
     abbrev store_first : Setting Plan → Machine → Course Machine
-    store_first set machine = store_corner set (ports_of settings) cell.place k (seen_slot numbers.vertex slot) machine
+    store_first set machine = store_corner set (stream_stacks_of settings) cell.place k (seen_slot numbers.vertex slot) machine
 
     abbrev store_rest : Setting Plan → Machine → Course Machine
-    store_rest set machine = store_all set (ports_of settings) cell.place (k + 1) (corner_records numbers.vertex after_store) machine
+    store_rest set machine = store_all set (stream_stacks_of settings) cell.place (k + 1) (corner_records numbers.vertex after_store) machine
 
     last_to_store : FullFrom settings.setup.dim k corners
     last_to_store = last-from k corners old ready.here behind (omega arith)
@@ -161,13 +161,13 @@ module _ {Plan V C : Type 0} {rules : Rules Plan} {numbers : Numbers V C} {setti
         ≡ and_then (store_first (setting_in rules old.held settings) machine) (store_rest (setting_in rules old.held settings))
     store-whole machine =
         let same : 2 ^ old.held.dim - length (corner_records numbers.vertex corners) ≡ k = omega (arith, seen-last numbers.vertex settings.setup.dim k corners last_to_store, ap (λ d. 2 ^ d) ready.here.dim) in
-        ap (λ n. store_all (setting_in rules old.held settings) (ports_of settings) cell.place n (corner_records numbers.vertex corners) machine) same
-        ∙ ap (λ its. store_all (setting_in rules old.held settings) (ports_of settings) cell.place k its machine) seen-store
+        ap (λ n. store_all (setting_in rules old.held settings) (stream_stacks_of settings) cell.place n (corner_records numbers.vertex corners) machine) same
+        ∙ ap (λ its. store_all (setting_in rules old.held settings) (stream_stacks_of settings) cell.place k its machine) seen-store
 
     store-rest : (machine : Machine) → store_rest (setting_in rules old.held settings) machine ≡ left_of stores_left numbers settings cell.place after_store (setting_in rules old.held settings) machine
     store-rest machine =
         let same : k + 1 ≡ 2 ^ old.held.dim - length (corner_records numbers.vertex after_store) = omega (arith, seen-last numbers.vertex settings.setup.dim (k + 1) after_store last_stored, ap (λ d. 2 ^ d) ready.here.dim) in
-        ap (λ n. store_all (setting_in rules old.held settings) (ports_of settings) cell.place n (corner_records numbers.vertex after_store) machine) same
+        ap (λ n. store_all (setting_in rules old.held settings) (stream_stacks_of settings) cell.place n (corner_records numbers.vertex after_store) machine) same
 
     pub store-fits : MayGo rules numbers settings store_first old
     store-fits = may-first rules numbers settings store_first store_rest old (λ cells. subst Fits (store-whole (machine_of numbers cells old)) (ready.fits cells))
@@ -203,13 +203,13 @@ module _ {Plan V C : Type 0} (rules : Rules Plan) (numbers : Numbers V C) (setti
         omega (arith, filled-last settings.setup.dim (2 ^ settings.setup.dim) corners start, start.count)
 
     loads-all : (machine : Machine) → left_of loads_left numbers settings cell.place corners (setting_in rules old.held settings) machine
-        ≡ load_all (setting_in rules old.held settings) (ports_of settings) cell.place (2 ^ old.held.dim) [] machine
+        ≡ load_all (setting_in rules old.held settings) (stream_stacks_of settings) cell.place (2 ^ old.held.dim) [] machine
     loads-all machine =
-        ap (λ vs. loads_left (setting_in rules old.held settings) (ports_of settings) cell.place (map (record_of numbers.vertex) vs) machine) (seen_none settings.setup.dim corners none-loaded)
-        ∙ ap (λ n. load_all (setting_in rules old.held settings) (ports_of settings) cell.place n [] machine) (omega arith)
+        ap (λ vs. loads_left (setting_in rules old.held settings) (stream_stacks_of settings) cell.place (map (record_of numbers.vertex) vs) machine) (seen_none settings.setup.dim corners none-loaded)
+        ∙ ap (λ n. load_all (setting_in rules old.held settings) (stream_stacks_of settings) cell.place n [] machine) (omega arith)
 
     pub loads-start : IsWalked old.held.dim settings cell → GiveKinds old.held.dim settings.traversal cell.place (corner_records numbers.vertex old.parents) cell.ages → IsFull old.held.dim old.parents
-        → MayGo rules numbers settings (λ set. load_all set (ports_of settings) cell.place (2 ^ old.held.dim) []) old
+        → MayGo rules numbers settings (λ set. load_all set (stream_stacks_of settings) cell.place (2 ^ old.held.dim) []) old
         → MayLoad rules numbers settings cell corners old
     loads-start walked kinds full fits =
         let same : 2 ^ settings.setup.dim ≡ 2 ^ settings.setup.dim - filled_in_corners corners = omega (arith, none-filled) in
@@ -221,27 +221,27 @@ module _ {Plan V C : Type 0} (rules : Rules Plan) (numbers : Numbers V C) (setti
 
     pub loads-end : {corners' : CornerList (Vertex V)} {result : Result (Unit {0}) Inner} {new : Hand Plan V C} → AreOf settings.setup.dim corners' → OnOk result (filled_in_corners corners' ≡ 2 ^ settings.setup.dim - 0)
         → TouchesOn rules numbers settings (λ set. loads_left set) cell.place corners corners' result old new
-        → GoesAlong rules numbers settings (λ set. load_all set (ports_of settings) cell.place (2 ^ old.held.dim) []) (λ machine. (seen_slots numbers.vertex corners', machine)) 0 (filled_in_corners corners') result old new
+        → GoesAlong rules numbers settings (λ set. load_all set (stream_stacks_of settings) cell.place (2 ^ old.held.dim) []) (λ machine. (seen_slots numbers.vertex corners', machine)) 0 (filled_in_corners corners') result old new
     loads-end {corners'} {result} are filled goes =
         goes-all _ _ 0 (filled_in_corners corners') goes loads-all (on-ok result filled none-left) (omega (arith, none-filled))
       where
         none-left : filled_in_corners corners' ≡ 2 ^ settings.setup.dim - 0 → (machine : Machine) → left_of loads_left numbers settings cell.place corners' (setting_in rules old.held settings) machine ≡ at_once (seen_slots numbers.vertex corners', machine)
         none-left all machine =
             let none : 2 ^ old.held.dim - length (seen_slots numbers.vertex corners') ≡ 0 = omega (arith, length-map corners'.slots (seen_slot numbers.vertex), are.count, ap (λ d. 2 ^ d) dim) in
-            ap (λ its. loads_left (setting_in rules old.held settings) (ports_of settings) cell.place its machine) (seen_corners-full numbers.vertex settings.setup.dim corners' are (omega arith))
-            ∙ ap (λ n. load_all (setting_in rules old.held settings) (ports_of settings) cell.place n (seen_slots numbers.vertex corners') machine) none
+            ap (λ its. loads_left (setting_in rules old.held settings) (stream_stacks_of settings) cell.place its machine) (seen_corners-full numbers.vertex settings.setup.dim corners' are (omega arith))
+            ∙ ap (λ n. load_all (setting_in rules old.held settings) (stream_stacks_of settings) cell.place n (seen_slots numbers.vertex corners') machine) none
 
   -- all are there before the first is stored
   module _ (corners : CornerList (Vertex V)) (old : Hand Plan V C) (dim : old.held.dim ≡ settings.setup.dim) (are : AreOf old.held.dim corners) (all : filled_in_corners corners ≡ 2 ^ old.held.dim) where
     stores-all : (machine : Machine) → left_of stores_left numbers settings cell.place corners (setting_in rules old.held settings) machine
-        ≡ store_all (setting_in rules old.held settings) (ports_of settings) cell.place 0 (seen_slots numbers.vertex corners) machine
+        ≡ store_all (setting_in rules old.held settings) (stream_stacks_of settings) cell.place 0 (seen_slots numbers.vertex corners) machine
     stores-all machine =
         let none : 2 ^ old.held.dim - length (seen_slots numbers.vertex corners) ≡ 0 = omega (arith, length-map corners.slots (seen_slot numbers.vertex), are.count) in
-        ap (λ its. stores_left (setting_in rules old.held settings) (ports_of settings) cell.place its machine) (seen_corners-full numbers.vertex old.held.dim corners are all)
-        ∙ ap (λ n. store_all (setting_in rules old.held settings) (ports_of settings) cell.place n (seen_slots numbers.vertex corners) machine) none
+        ap (λ its. stores_left (setting_in rules old.held settings) (stream_stacks_of settings) cell.place its machine) (seen_corners-full numbers.vertex old.held.dim corners are all)
+        ∙ ap (λ n. store_all (setting_in rules old.held settings) (stream_stacks_of settings) cell.place n (seen_slots numbers.vertex corners) machine) none
 
     pub stores-start : IsWalked old.held.dim settings cell → IsFull old.held.dim old.parents → 2 ^ old.held.dim ≤ old.vertices.out
-        → MayGo rules numbers settings (λ set. store_all set (ports_of settings) cell.place 0 (seen_slots numbers.vertex corners)) old
+        → MayGo rules numbers settings (λ set. store_all set (stream_stacks_of settings) cell.place 0 (seen_slots numbers.vertex corners)) old
         → MayStore rules numbers settings cell corners old
     stores-start walked full out fits =
         let there : FullFrom settings.setup.dim 0 corners = subst (λ d. FullFrom d 0 corners) dim (full_from old.held.dim corners (full-of old.held.dim corners are all)) in
@@ -254,9 +254,9 @@ module _ {Plan V C : Type 0} (rules : Rules Plan) (numbers : Numbers V C) (setti
 
     pub stores-end : {corners' : CornerList (Vertex V)} {result : Result (Unit {0}) Inner} {new : Hand Plan V C} → AreOf settings.setup.dim corners' → OnOk result (filled_in_corners corners' ≡ 0)
         → TouchesOn rules numbers settings (λ set. stores_left set) cell.place corners corners' result old new
-        → GoesAlong rules numbers settings (λ set. store_all set (ports_of settings) cell.place 0 (seen_slots numbers.vertex corners)) (λ machine. machine) (2 ^ old.held.dim) (filled_in_corners corners') result old new
+        → GoesAlong rules numbers settings (λ set. store_all set (stream_stacks_of settings) cell.place 0 (seen_slots numbers.vertex corners)) (λ machine. machine) (2 ^ old.held.dim) (filled_in_corners corners') result old new
     stores-end {corners'} {result} are' filled goes =
         goes-all _ _ (2 ^ old.held.dim) (filled_in_corners corners') goes stores-all (on-ok result filled none-left) (omega (arith, all))
       where
         none-left : filled_in_corners corners' ≡ 0 → (machine : Machine) → left_of stores_left numbers settings cell.place corners' (setting_in rules old.held settings) machine ≡ at_once machine
-        none-left none machine = ap (λ vs. stores_left (setting_in rules old.held settings) (ports_of settings) cell.place (map (record_of numbers.vertex) vs) machine) (seen_none settings.setup.dim corners' (empty-of settings.setup.dim corners' are' none))
+        none-left none machine = ap (λ vs. stores_left (setting_in rules old.held settings) (stream_stacks_of settings) cell.place (map (record_of numbers.vertex) vs) machine) (seen_none settings.setup.dim corners' (empty-of settings.setup.dim corners' are' none))

@@ -14,21 +14,21 @@ use Rattle.pe_hang.specs.Moves.{lend}
 use Rattle.pe_base.specs.Calls.Follows.{Follows, Fits, BeforeCall, Leads, IsRoomier}
 use Rattle.pe_base.proofs.Calls.Leading.{and_then-fits, leads_step, leads_end}
 use Rattle.pe_hang.proofs.Moving.{lend-is}
-use Rattle.pe_adapt.specs.CountedTouches.{Machine, Ports}
+use Rattle.pe_adapt.specs.CountedTouches.{Machine, StreamStacks}
 use Rattle.pe_walk.specs.Machine.{root_corners}
 use Rattle.pe_walk.specs.Visits.{with_vertices}
 
-module _ {Plan V : Type 0} (numbers : V → List ℤ) (set : Setting Plan) (ports : Ports) (rest : Machine) where
+module _ {Plan V : Type 0} (numbers : V → List ℤ) (set : Setting Plan) (streams : StreamStacks) (rest : Machine) where
   abbrev pub at_root : Holdings (Vertex V) → List ℤ → Machine
   at_root held list = with_vertices (map_holdings (record_of numbers) held) list rest
 
   abbrev pub roots : ℕ → List VertexRecord → Holdings (Vertex V) → List ℤ → Course (List VertexRecord × Machine)
-  roots n its held list = root_corners set ports n its (at_root held list)
+  roots n its held list = root_corners set streams n its (at_root held list)
 
   abbrev after_lend : ℕ → List VertexRecord → Machine → Holdings VertexRecord → Course (List VertexRecord × Machine)
   after_lend k its m vertices =
       let made = fresh_vertex set Hanging root m.family in
-      root_corners set ports k (made.0 ∷ its) (record m { vertices = vertices; family = made.1 })
+      root_corners set streams k (made.0 ∷ its) (record m { vertices = vertices; family = made.1 })
 
   -- a record may be lent for one more
   pub roots-may : (n k : ℕ) (its : List VertexRecord) (held : Holdings (Vertex V)) (list : List ℤ) → n ≡ suc k → Fits (roots n its held list) → Fits (lend (map_holdings (record_of numbers) held))

@@ -17,7 +17,7 @@ pub mod Below
 -- what has a carrier inside is inside
 pub mod Carried
 -- what is foreseen of a grid is a foresight
-pub mod Outsets
+pub mod ForeseenStarts
 -- a cell is entered, and left
 pub mod Visits
 -- the core logs nothing
@@ -56,9 +56,15 @@ pub mod Beneath
 pub mod CornerLaw
 -- the law of a face
 pub mod FaceLaw
--- a cell is walked without what lies beneath
+-- stacks without what lies beneath
+pub mod Cuts
+-- a cell is walked without the vertices that lie beneath
 pub mod CutOff
+-- and without the cells
+pub mod CutCells
 -- the children of the root may be walked one after another
 pub mod FirstCells
 -- and those of each cell that is entered
 pub mod InnerCells
+-- and with the last child the cell's own walk ends
+pub mod LastCells

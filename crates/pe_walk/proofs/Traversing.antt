@@ -20,7 +20,7 @@ use Rattle.pe_hang.specs.InHand.{setting_of, map_holdings}
 use Rattle.pe_base.specs.Calls.Follows.{is_fit, Fits, BeforeCall, HasOverfull, Failure, halted, unwritten, wanting, unheard_of, Follows, Does, read_by}
 use Rattle.pe_adapt.specs.CountedTouches.{Machine}
 use Rattle.pe_walk.specs.Machine as machine
-use Rattle.pe_walk.specs.Gridded.{HoldsGrid, MachineMayTraverse, MachineHasTraversed, EndAlike, IsShort, IsWalked, ports_of}
+use Rattle.pe_walk.specs.Gridded.{HoldsGrid, MachineMayTraverse, MachineHasTraversed, EndAlike, IsShort, IsWalked, stream_stacks_of}
 use Rattle.pe_walk.specs.InHand.{machine_between}
 use Rattle.pe_order.specs.Outlooks.{outlook}
 use Rattle.pe_walk.proofs.Simulation.Answers.{stacks_are_addresses}
@@ -99,7 +99,7 @@ module _ {Plan V C : Type 0} (numbers : Numbers V C) (set : Setting Plan) (grid 
   begins = machine_between numbers before.vertices before.cells handle.root list (no_tally set.traversal)
 
   abbrev course : Course Machine
-  course = machine.traverse set (ports_of handle.swapped) grid.greatest begins
+  course = machine.traverse set (stream_stacks_of handle.swapped) grid.greatest begins
 
   is : IsWalked set grid handle.swapped course
   is = stacks_are_addresses set grid handle.swapped begins may

@@ -22,39 +22,39 @@ use Rattle.pe_stacks.specs.RecordsOut.{held_by}
 use Rattle.pe_base.proofs.Calls.Leading.{and_then-fits, follows-map, follows-behind, leads_start, leads_next, leads_rest, leads_err, leads_last}
 use Rattle.pe_hang.proofs.Moving.{allowed-fits, allowed-is, lend-is, pop-is, give_up-is, push-is}
 use Rattle.pe_base.specs.Walk.Touches.{tally_cell}
-use Rattle.pe_adapt.specs.CountedTouches.{Machine, Ports, tally_may_rise, cell_output}
+use Rattle.pe_adapt.specs.CountedTouches.{Machine, StreamStacks, tally_may_rise, cell_output}
 use Rattle.pe_walk.specs.Machine.{within_limit, count_cell, kind_of_cell, cell_comes, cell_goes, enter_cell, leave_cell}
 
-module _ {Plan X : Type 0} (f : X → List ℤ) (set : Setting Plan) (ports : Ports) (cell : Place) (vertices : Holdings VertexRecord) (tally : Tally) where
+module _ {Plan X : Type 0} (f : X → List ℤ) (set : Setting Plan) (streams : StreamStacks) (cell : Place) (vertices : Holdings VertexRecord) (tally : Tally) where
   -- what is in hand and on stacks, with cells of some type on theirs
   abbrev pub on_cells : Holdings X → Family → Machine
   on_cells held family = record { vertices = vertices; cells = map_holdings f held; family = family; tally = tally }
 
-  module _ (held : Holdings X) (family : Family) (kind : Kind) (is_kind : kind_of_cell set ports cell (on_cells held family) ≡ kind) where
+  module _ (held : Holdings X) (family : Family) (kind : Kind) (is_kind : kind_of_cell set streams cell (on_cells held family) ≡ kind) where
     module _ (corners : List VertexRecord) where
       abbrev enters : Course (Own × Machine)
-      enters = enter_cell set ports cell corners (on_cells held family)
+      enters = enter_cell set streams cell corners (on_cells held family)
 
       abbrev entering : List ℤ × Machine → Course (Own × Machine)
       entering come = course_map (λ it. (it.0, record come.1 { family = it.1 })) (enter_touch set kind come.0 cell corners come.1.family)
 
-      enters-is : enters ≡ and_then (cell_comes set ports kind (on_cells held family)) entering
+      enters-is : enters ≡ and_then (cell_comes set streams kind (on_cells held family)) entering
       enters-is =
-          ap (λ k. and_then (cell_comes set ports k (on_cells held family)) (λ come.
+          ap (λ k. and_then (cell_comes set streams k (on_cells held family)) (λ come.
           course_map (λ it. (it.0, record come.1 { family = it.1 })) (enter_touch set k come.0 cell corners come.1.family))) is_kind
 
-      pub comes-fits : Fits enters → Fits (cell_comes set ports kind (on_cells held family))
-      comes-fits fits = and_then-fits (cell_comes set ports kind (on_cells held family)) entering (subst Fits enters-is fits)
+      pub comes-fits : Fits enters → Fits (cell_comes set streams kind (on_cells held family))
+      comes-fits fits = and_then-fits (cell_comes set streams kind (on_cells held family)) entering (subst Fits enters-is fits)
 
       -- what comes is entered
       pub entered : {A E : Type 0} (held' held'' : Holdings X) (x : List ℤ) (after : A → Own × Family) (means : E → Failure) (result : Result A E) (found : BeforeCall) (new : Told)
-          → cell_comes set ports kind (on_cells held family) ≡ at_once (x, on_cells held'' family) → OnOk result (held' ≡ held'')
+          → cell_comes set streams kind (on_cells held family) ≡ at_once (x, on_cells held'' family) → OnOk result (held' ≡ held'')
           → Follows (enter_touch set kind x cell corners family) after (read_by means result) found new
           → Follows enters (λ a. ((after a).0, on_cells held' (after a).1)) (read_by means result) found new
       entered {A = A} {E = E} held' held'' x after means result found new come same is =
           with_held result same
           (subst (λ course. Follows course (λ a. ((after a).0, on_cells held'' (after a).1)) (read_by means result) found new) (sym enters-is)
-          (follows-behind (cell_comes set ports kind (on_cells held family)) entering
+          (follows-behind (cell_comes set streams kind (on_cells held family)) entering
           (x, on_cells held'' family) (λ a. ((after a).0, on_cells held'' (after a).1)) (read_by means result) found new
           (ap (λ course. course.ending) come) (ap (λ course. course.text) come)
           (follows-map (λ it. (it.0, on_cells held'' it.1)) (enter_touch set kind x cell corners family) after (read_by means result) found new is)))
@@ -66,30 +66,30 @@ module _ {Plan X : Type 0} (f : X → List ℤ) (set : Setting Plan) (ports : Po
           with_held (Err e) same is = is
 
     -- a record that is made
-    pub made-fits : kind ≡ Born → Fits (cell_comes set ports kind (on_cells held family)) → Fits (lend (map_holdings f held))
-    made-fits born fits = and_then-fits (lend (map_holdings f held)) _ (subst (λ k. Fits (cell_comes set ports k (on_cells held family))) born fits)
+    pub made-fits : kind ≡ Born → Fits (cell_comes set streams kind (on_cells held family)) → Fits (lend (map_holdings f held))
+    made-fits born fits = and_then-fits (lend (map_holdings f held)) _ (subst (λ k. Fits (cell_comes set streams k (on_cells held family))) born fits)
 
-    pub made-is : kind ≡ Born → Fits (lend (map_holdings f held)) → cell_comes set ports kind (on_cells held family) ≡ at_once ([], on_cells (lent held) family)
+    pub made-is : kind ≡ Born → Fits (lend (map_holdings f held)) → cell_comes set streams kind (on_cells held family) ≡ at_once ([], on_cells (lent held) family)
     made-is born fits =
-        ap (λ k. cell_comes set ports k (on_cells held family)) born
+        ap (λ k. cell_comes set streams k (on_cells held family)) born
         ∙ ap (λ course. course_map (λ cells. ([], record (on_cells held family) { cells = cells })) course) (lend-is f held fits)
 
     -- a record that was stored
     stored-comes : (k : Kind) → (k ≡ Born → ⊥)
-        → cell_comes set ports k (on_cells held family) ≡ course_map (λ it. (it.0, record (on_cells held family) { cells = it.1 })) (pop ports.cell_input (map_holdings f held))
+        → cell_comes set streams k (on_cells held family) ≡ course_map (λ it. (it.0, record (on_cells held family) { cells = it.1 })) (pop streams.cell_input (map_holdings f held))
     stored-comes Kept born = refl
     stored-comes Born born = absurd (born refl)
     stored-comes Dying born = refl
     stored-comes Hanging born = refl
 
-    pub stored-fits : (kind ≡ Born → ⊥) → Fits (cell_comes set ports kind (on_cells held family)) → Fits (pop ports.cell_input (map_holdings f held))
-    stored-fits born fits = and_then-fits (pop ports.cell_input (map_holdings f held)) _ (subst Fits (stored-comes kind born) fits)
+    pub stored-fits : (kind ≡ Born → ⊥) → Fits (cell_comes set streams kind (on_cells held family)) → Fits (pop streams.cell_input (map_holdings f held))
+    stored-fits born fits = and_then-fits (pop streams.cell_input (map_holdings f held)) _ (subst Fits (stored-comes kind born) fits)
 
-    pub stored-is : (x : X) → (kind ≡ Born → ⊥) → Fits (pop ports.cell_input (map_holdings f held)) → slice_get (items_at held ports.cell_input) 0 ≡ Some x
-        → cell_comes set ports kind (on_cells held family) ≡ at_once (f x, on_cells (popped held ports.cell_input) family)
+    pub stored-is : (x : X) → (kind ≡ Born → ⊥) → Fits (pop streams.cell_input (map_holdings f held)) → slice_get (items_at held streams.cell_input) 0 ≡ Some x
+        → cell_comes set streams kind (on_cells held family) ≡ at_once (f x, on_cells (popped held streams.cell_input) family)
     stored-is x born fits top =
         stored-comes kind born
-        ∙ ap (λ course. course_map (λ it. (it.0, record (on_cells held family) { cells = it.1 })) course) (pop-is f held ports.cell_input x fits top)
+        ∙ ap (λ course. course_map (λ it. (it.0, record (on_cells held family) { cells = it.1 })) course) (pop-is f held streams.cell_input x fits top)
 
     enters-stored : (k : Kind) (x : List ℤ) (corners : List VertexRecord) → (k ≡ Born → ⊥)
         → enter_touch set k x cell corners family ≡ cell_event set EnterCell cell (record { cell = x; corners = corners }, family)
@@ -114,15 +114,15 @@ module _ {Plan X : Type 0} (f : X → List ℤ) (set : Setting Plan) (ports : Po
 
     module _ (own : Own) where
       abbrev leaves : Course (List VertexRecord × Machine)
-      leaves = leave_cell set ports cell (own, on_cells held family)
+      leaves = leave_cell set streams cell (own, on_cells held family)
 
       abbrev going : Own × Family → Course (List VertexRecord × Machine)
-      going after = course_map (λ m. (after.0.corners, m)) (cell_goes set ports kind after.0.cell (on_cells held after.1))
+      going after = course_map (λ m. (after.0.corners, m)) (cell_goes set streams kind after.0.cell (on_cells held after.1))
 
       leaves-is : leaves ≡ and_then (leave_touch set kind cell own family) going
       leaves-is =
           ap (λ k. and_then (leave_touch set k cell own family) (λ after.
-          course_map (λ m. (after.0.corners, m)) (cell_goes set ports k after.0.cell (on_cells held after.1)))) is_kind
+          course_map (λ m. (after.0.corners, m)) (cell_goes set streams k after.0.cell (on_cells held after.1)))) is_kind
 
       -- the core of leaving was left
       module _ {A : Type 0} (after : A → Own × Family) (found : BeforeCall) (new : Told) where
@@ -153,7 +153,7 @@ module _ {Plan X : Type 0} (f : X → List ℤ) (set : Setting Plan) (ports : Po
 
         -- a cell that dies is given up
         gives_up : (a : A) → kind ≡ Dying → going (after a) ≡ course_map (λ m. ((after a).0.corners, m)) (course_map (λ cells. record (on_cells held (after a).1) { cells = cells }) (give_up (map_holdings f held)))
-        gives_up a dies = ap (λ k. course_map (λ m. ((after a).0.corners, m)) (cell_goes set ports k (after a).0.cell (on_cells held (after a).1))) dies
+        gives_up a dies = ap (λ k. course_map (λ m. ((after a).0.corners, m)) (cell_goes set streams k (after a).0.cell (on_cells held (after a).1))) dies
 
         pub ended-fits : (a : A) → kind ≡ Dying → Follows (leave_touch set kind cell own family) after (Ok a) found new → Fits leaves → Fits (give_up (map_holdings f held))
         ended-fits a dies is fits =
@@ -175,46 +175,46 @@ module _ {Plan X : Type 0} (f : X → List ℤ) (set : Setting Plan) (ports : Po
 
         -- a cell that stays is put on the output
         puts : (k : Kind) → (k ≡ Dying → ⊥) → (a : A)
-            → course_map {Y = List VertexRecord × Machine} (λ m. ((after a).0.corners, m)) (cell_goes set ports k (after a).0.cell (on_cells held (after a).1))
-            ≡ course_map {Y = List VertexRecord × Machine} (λ m. ((after a).0.corners, m)) (course_map (λ cells. record (on_cells held (after a).1) { cells = cells }) (push true (cell_output ports) (after a).0.cell (map_holdings f held)))
+            → course_map {Y = List VertexRecord × Machine} (λ m. ((after a).0.corners, m)) (cell_goes set streams k (after a).0.cell (on_cells held (after a).1))
+            ≡ course_map {Y = List VertexRecord × Machine} (λ m. ((after a).0.corners, m)) (course_map (λ cells. record (on_cells held (after a).1) { cells = cells }) (push true (cell_output streams) (after a).0.cell (map_holdings f held)))
         puts Kept stays a = refl
         puts Born stays a = refl
         puts Dying stays a = absurd (stays refl)
         puts Hanging stays a = refl
 
         pub put-fits : (a : A) → (kind ≡ Dying → ⊥) → Follows (leave_touch set kind cell own family) after (Ok a) found new → Fits leaves
-            → Fits (push true (cell_output ports) (after a).0.cell (map_holdings f held))
+            → Fits (push true (cell_output streams) (after a).0.cell (map_holdings f held))
         put-fits a stays is fits =
-            and_then-fits (push true (cell_output ports) (after a).0.cell (map_holdings f held)) _
-            (and_then-fits (course_map (λ cells. record (on_cells held (after a).1) { cells = cells }) (push true (cell_output ports) (after a).0.cell (map_holdings f held))) _
+            and_then-fits (push true (cell_output streams) (after a).0.cell (map_holdings f held)) _
+            (and_then-fits (course_map (λ cells. record (on_cells held (after a).1) { cells = cells }) (push true (cell_output streams) (after a).0.cell (map_holdings f held))) _
             (subst Fits (puts kind stays a) (lead-going a is fits)))
 
         pub put : {E : Type 0} (a : A) (x : X) (held' : Holdings X) (room vertices' : ℕ → ℕ) (means : E → Failure) (result : Result (Unit {0}) E)
             → found ≡ (record { told = found.told; sure = found.sure; vertices = vertices'; cells = held_by held room })
-            → (kind ≡ Dying → ⊥) → (after a).0.cell ≡ f x → Fits (push true (cell_output ports) (f x) (map_holdings f held))
-            → OnOk result (held' ≡ pushed held (cell_output ports) x) → IfErr result (λ e. means e ≡ wanting) → OnErr result (room (cell_output ports) ≡ 0)
+            → (kind ≡ Dying → ⊥) → (after a).0.cell ≡ f x → Fits (push true (cell_output streams) (f x) (map_holdings f held))
+            → OnOk result (held' ≡ pushed held (cell_output streams) x) → IfErr result (λ e. means e ≡ wanting) → OnErr result (room (cell_output streams) ≡ 0)
             → Follows (leave_touch set kind cell own family) after (Ok a) found new
             → Follows leaves (λ (u : Unit {0}). ((after a).0.corners, on_cells held' (after a).1)) (read_by means result) found new
         put {E = E} a x held' room vertices' means result known stays same fits moved memory full is =
             left-then a (λ (u : Unit {0}). ((after a).0.corners, on_cells held' (after a).1)) (read_by means result) new is
             (subst (λ course. Follows course (λ (u : Unit {0}). ((after a).0.corners, on_cells held' (after a).1)) (read_by means result) now new)
-            (sym (puts kind stays a ∙ ap (λ y. course_map (λ m. ((after a).0.corners, m)) (course_map (λ cells. record (on_cells held (after a).1) { cells = cells }) (push true (cell_output ports) y (map_holdings f held)))) same))
-            (follows-map (λ m. ((after a).0.corners, m)) (course_map (λ cells. record (on_cells held (after a).1) { cells = cells }) (push true (cell_output ports) (f x) (map_holdings f held)))
+            (sym (puts kind stays a ∙ ap (λ y. course_map (λ m. ((after a).0.corners, m)) (course_map (λ cells. record (on_cells held (after a).1) { cells = cells }) (push true (cell_output streams) y (map_holdings f held)))) same))
+            (follows-map (λ m. ((after a).0.corners, m)) (course_map (λ cells. record (on_cells held (after a).1) { cells = cells }) (push true (cell_output streams) (f x) (map_holdings f held)))
             (λ (u : Unit {0}). on_cells held' (after a).1) (read_by means result) now new
-            (follows-map (λ cells. record (on_cells held (after a).1) { cells = cells }) (push true (cell_output ports) (f x) (map_holdings f held))
+            (follows-map (λ cells. record (on_cells held (after a).1) { cells = cells }) (push true (cell_output streams) (f x) (map_holdings f held))
             (λ (u : Unit {0}). map_holdings f held') (read_by means result) now new
             (put-follows result moved memory full))))
           where
-            put-follows : (r : Result (Unit {0}) E) → OnOk r (held' ≡ pushed held (cell_output ports) x) → IfErr r (λ e. means e ≡ wanting) → OnErr r (room (cell_output ports) ≡ 0)
-                → Follows (push true (cell_output ports) (f x) (map_holdings f held)) (λ (u : Unit {0}). map_holdings f held') (read_by means r) now new
+            put-follows : (r : Result (Unit {0}) E) → OnOk r (held' ≡ pushed held (cell_output streams) x) → IfErr r (λ e. means e ≡ wanting) → OnErr r (room (cell_output streams) ≡ 0)
+                → Follows (push true (cell_output streams) (f x) (map_holdings f held)) (λ (u : Unit {0}). map_holdings f held') (read_by means r) now new
             put-follows (Ok u) moved memory full =
-                let push_is = push-is f true (cell_output ports) x held fits in
+                let push_is = push-is f true (cell_output streams) x held fits in
                 record {
                   ends = ap (λ course. course.ending) push_is ∙ ap (λ h. done (map_holdings f h)) (sym moved);
                   told = subst (λ text. Adds new text new) (sym (ap (λ course. course.text) push_is)) (adds-nothing new);
                 }
             put-follows (Err e) moved memory full =
-                let s = cell_output ports in
+                let s = cell_output streams in
                 let push_is = push-is f true s x held fits in
                 let pushing : Push = record { of_cell = true; stack = s; length = len_at held s + 1 } in
                 subst (λ failure. Follows (push true s (f x) (map_holdings f held)) (λ (u : Unit {0}). map_holdings f held') (Err failure) now new) (sym memory)
@@ -273,12 +273,12 @@ fresh-is f corners parents parent list fresh payload made handed numbers after i
     ∙ ap (λ l. (let it : Own × Family = (record { cell = f handed.payload; corners = corners }, record { parents = parents; parent = parent; list = l }) in it)) (sym after)
 
 -- a cell is counted
-module _ {Plan : Type 0} (set : Setting Plan) (ports : Ports) (cell : Place) (m : Machine) where
+module _ {Plan : Type 0} (set : Setting Plan) (streams : StreamStacks) (cell : Place) (m : Machine) where
   abbrev counted : Machine
   counted = record m { tally = tally_cell cell m.tally }
 
   abbrev counts : Course Machine
-  counts = count_cell set ports cell m
+  counts = count_cell set streams cell m
 
   first-of : (a b c d e h : Bool) → (a && b && c && d && e && h) ≡ true → a ≡ true
   first-of true b c d e h is = refl
@@ -288,12 +288,12 @@ module _ {Plan : Type 0} (set : Setting Plan) (ports : Ports) (cell : Place) (m 
   count-may fits =
       ltb-true m.tally.cells (2 ^ 63)
       (first-of (may_rise m.tally.cells) (may_rise m.tally.read) (may_rise m.tally.written) (may_rise m.tally.created) (may_rise m.tally.destroyed) (may_rise m.tally.hanging)
-      (allowed-fits (tally_may_rise m.tally) (within_limit set ports cell counted (nat_lt set.max_cells counted.tally.cells)) fits))
+      (allowed-fits (tally_may_rise m.tally) (within_limit set streams cell counted (nat_lt set.max_cells counted.tally.cells)) fits))
 
-  counts-is : Fits counts → (t : Bool) → nat_lt set.max_cells counted.tally.cells ≡ t → counts ≡ within_limit set ports cell counted t
+  counts-is : Fits counts → (t : Bool) → nat_lt set.max_cells counted.tally.cells ≡ t → counts ≡ within_limit set streams cell counted t
   counts-is fits t is =
-      allowed-is (tally_may_rise m.tally) (within_limit set ports cell counted (nat_lt set.max_cells counted.tally.cells)) fits
-      ∙ ap (within_limit set ports cell counted) is
+      allowed-is (tally_may_rise m.tally) (within_limit set streams cell counted (nat_lt set.max_cells counted.tally.cells)) fits
+      ∙ ap (within_limit set streams cell counted) is
 
   not-above : (a b : ℕ) → a ≤ b → nat_lt b a ≡ false
   not-above a b few = grind (arith, nat_tests)

@@ -12,10 +12,10 @@ use Rattle.pe_base.specs.Calls.Told.{Told, Adds, AddsPart}
 use Rattle.pe_hang.specs.InHand.{setting_of}
 use Rattle.pe_base.specs.Calls.Follows.{is_fit, Fits, BeforeCall, Failure, halted, unwritten, wanting, unheard_of, Follows, Does, read_by}
 use Rattle.pe_adapt.specs.declared.settings.Settings.{Settings}
-use Rattle.pe_adapt.specs.CountedTouches.{Machine, Ports}
+use Rattle.pe_adapt.specs.CountedTouches.{Machine, StreamStacks}
 use Rattle.pe_walk.specs.Machine as machine
-use Rattle.pe_walk.specs.Gridded.{ports_of}
-use Rattle.pe_adapt.specs.WalkedCells.{setting_in, ports_of as ports_in}
+use Rattle.pe_walk.specs.Gridded.{stream_stacks_of}
+use Rattle.pe_adapt.specs.WalkedCells.{setting_in, stream_stacks_of as stream_stacks_in}
 use Rattle.pe_order.specs.CellTraffic.{CountsAreFew}
 use Rattle.pe_walk.specs.Traversing.{Stores}
 use Rattle.pe_walk.specs.FaceLaw.{Moment, MayWalk, IsAt, HasWalked, CellEndsAlike, IsBrief, IsCellWalked, WalksCell, CellAnswers, by_address}
@@ -28,24 +28,24 @@ use Rattle.pe_walk.proofs.Simulation.Tallied.Cells.{cells_are_exact}
 -- the machine's walk of the cell, by what a call is given
 pub same-course : {Plan : Type 0} (rules : Rules Plan) (held : Held Plan) (setup : Setup) (settings : Settings) (traversal stream cell_stream : ℕ) (cell place : Place) (m : Machine) (at : Moment)
     → settings.setup ≡ setup → settings.traversal ≡ traversal → settings.input ≡ stream → settings.cell_input ≡ cell_stream → cell ≡ place → IsAt setup.max_level place stream cell_stream at
-    → machine.walk_cell (setting_in rules held settings) (ports_in settings) (suc (setup.max_level - place.level)) cell m
-    ≡ machine.walk_cell (setting_of rules held setup.start_level setup.max_cells traversal) (ports_of at.outset.outlook.swapped) (suc at.levels) at.stage.cell m
+    → machine.walk_cell (setting_in rules held settings) (stream_stacks_in settings) (suc (setup.max_level - place.level)) cell m
+    ≡ machine.walk_cell (setting_of rules held setup.start_level setup.max_cells traversal) (stream_stacks_of at.foreseen_start.outlook.swapped) (suc at.levels) at.stage.cell m
 same-course rules held setup settings traversal stream cell_stream cell place m at same number input cell_input is here =
     let left : setup.max_level - place.level ≡ at.levels = omega (arith, here.levels) in
-    ap (λ set. machine.walk_cell set (ports_in settings) (suc (setup.max_level - place.level)) cell m) (ap₂ (λ (s : Setup) n. setting_of rules held s.start_level s.max_cells n) same number)
-    ∙ ap (λ ports. machine.walk_cell (setting_of rules held setup.start_level setup.max_cells traversal) ports (suc (setup.max_level - place.level)) cell m)
-    (ap₂ (λ a b. (let ports : Ports = record { input = a; cell_input = b } in ports)) (input ∙ here.input) (cell_input ∙ here.cell_input))
-    ∙ ap₂ (λ levels c. machine.walk_cell (setting_of rules held setup.start_level setup.max_cells traversal) (ports_of at.outset.outlook.swapped) (suc levels) c m) left (is ∙ sym here.cell)
+    ap (λ set. machine.walk_cell set (stream_stacks_in settings) (suc (setup.max_level - place.level)) cell m) (ap₂ (λ (s : Setup) n. setting_of rules held s.start_level s.max_cells n) same number)
+    ∙ ap (λ streams. machine.walk_cell (setting_of rules held setup.start_level setup.max_cells traversal) streams (suc (setup.max_level - place.level)) cell m)
+    (ap₂ (λ a b. (let streams : StreamStacks = record { input = a; cell_input = b } in streams)) (input ∙ here.input) (cell_input ∙ here.cell_input))
+    ∙ ap₂ (λ levels c. machine.walk_cell (setting_of rules held setup.start_level setup.max_cells traversal) (stream_stacks_of at.foreseen_start.outlook.swapped) (suc levels) c m) left (is ∙ sym here.cell)
 
 module _ {Plan : Type 0} (set : Setting Plan) (at : Moment) (begins : Machine) (may : MayWalk set at begins) where
   abbrev pub course : Course Machine
-  course = machine.walk_cell set (ports_of at.outset.outlook.swapped) (suc at.levels) at.stage.cell begins
+  course = machine.walk_cell set (stream_stacks_of at.foreseen_start.outlook.swapped) (suc at.levels) at.stage.cell begins
 
-  is : IsCellWalked set at (machine.walk_cell set (ports_of at.outset.outlook.swapped) (suc at.levels) at.stage.cell begins)
+  is : IsCellWalked set at (machine.walk_cell set (stream_stacks_of at.foreseen_start.outlook.swapped) (suc at.levels) at.stage.cell begins)
   is = law_of_a_face set at begins may
 
   -- the walk is never stuck
-  pub cell-fits : Fits (machine.walk_cell set (ports_of at.outset.outlook.swapped) (suc at.levels) at.stage.cell begins)
+  pub cell-fits : Fits (machine.walk_cell set (stream_stacks_of at.foreseen_start.outlook.swapped) (suc at.levels) at.stage.cell begins)
   cell-fits = by (by_address set at).ending course.ending is.ending
     where
       by : (a : Ending Working) (b : Ending Machine) → CellEndsAlike set at a b → is_fit b ≡ true
@@ -73,20 +73,20 @@ module _ {Plan : Type 0} (set : Setting Plan) (at : Moment) (begins : Machine) (
     walks : Does course (done m) old.told new → WalksCell set at (by_address set at) old.told new before begins.tally after m
     walks does =
         let found = done_of m (by_address set at).ending (subst (CellEndsAlike set at (by_address set at).ending) does.ends is.ending) in
-        let traffic = cell-alike at.outset.outlook at.levels at.stage.cell begins.vertices m.vertices begins.cells m.cells before.vertices after.vertices before.cells after.cells begins.tally m.tally
+        let traffic = cell-alike at.foreseen_start.outlook at.levels at.stage.cell begins.vertices m.vertices begins.cells m.cells before.vertices after.vertices before.cells after.cells begins.tally m.tally
         vertices vertices' cells cells' (cells_are_exact set at begins m may does.ends) in
-        let dim : IsDim at.outset.outlook.axes = subst IsDim (sym may.outset.foresees.axes) may.outset.foresees.dim in
+        let dim : IsDim at.foreseen_start.outlook.axes = subst IsDim (sym may.foreseen_start.foresees.axes) may.foreseen_start.foresees.dim in
         let within : m.tally.cells ≤ set.max_cells = subst (λ (x : Machine). x.tally.cells ≤ set.max_cells) found.2.image found.2.holds.owes.cells in
         record {
           working = found.0;
           does = record { ends = found.1; told = subst (λ text. Adds old.told text new) is.text does.told };
           walked = found.2;
           traffic = traffic;
-          few = still_few at.outset.outlook at.levels set.max_cells at.stage.cell before.vertices after.vertices before.cells after.cells begins.tally m.tally dim within traffic few;
+          few = still_few at.foreseen_start.outlook at.levels set.max_cells at.stage.cell before.vertices after.vertices before.cells after.cells begins.tally m.tally dim within traffic few;
         }
 
     pub cell_answers : {E : Type 0} (means : E → Failure) (result : Result (Unit {0}) E)
-        → Follows (machine.walk_cell set (ports_of at.outset.outlook.swapped) (suc at.levels) at.stage.cell begins) (λ done. m) (read_by means result) old new
+        → Follows (machine.walk_cell set (stream_stacks_of at.foreseen_start.outlook.swapped) (suc at.levels) at.stage.cell begins) (λ done. m) (read_by means result) old new
         → CellAnswers set at (by_address set at) (read_by means result) old before begins.tally new after m
     cell_answers means (Ok it) does = walks does
     cell_answers means (Err e) follows = failed (means e) follows

@@ -1,9 +1,12 @@
--- The children of a cell, one after another along rows: along a row only the digit on the last axis changes.
-use Rattle.std.specs.Prelude.{◌≡◌, ℕ, ◌-◌, ◌<◌, List, slice_index}
+-- The children of a cell, each made from the one before it: along a row only the digit on the last axis changes.
+use Rattle.std.specs.Prelude.{◌≡◌, ℕ, ◌<◌, List, slice_index}
 use Rattle.pe_base.specs.declared.place.Digits.{Digits}
-use Rattle.pe_base.specs.Tree.Places.{IsCellPlace, IsDigits, child_at}
+use Rattle.pe_base.specs.Tree.Places.{IsCellPlace, child_at}
+use Rattle.pe_base.specs.Tree.Curve.{flips}
 use Rattle.pe_base.specs.Acts.Effects.{VertexRecord}
-use Rattle.pe_access.specs.States.{StandsFor, row_turns}
+use Rattle.pe_curve.specs.declared.step.Step.{Step}
+use Rattle.pe_curve.specs.Steps.{IsStep}
+use Rattle.pe_access.specs.States.{StandsFor}
 use Rattle.pe_access.specs.Rows.{IsRow}
 use Rattle.pe_states.specs.Sides.{IsRow as IsRowOfAges}
 use Rattle.pe_adapt.specs.Ages.{AreAgesOf, GiveKinds}
@@ -17,17 +20,27 @@ pub record IsAbove (axes : ℕ) (settings : Settings) (above : Above) : Type 0 w
   pub level : above.place.level < 20
   pub state : StandsFor axes settings.way above.place above.state
 
--- digits that differ on the last axis alone
-abbrev pub AreInOneRow : ℕ → Digits → Digits → Type 0
-AreInOneRow axes digits digits' = (i : ℕ) → i < axes - 1 → slice_index digits.k i ≡ slice_index digits'.k i
+-- digits that agree on the axes before one
+abbrev pub AgreeBefore : ℕ → Digits → Digits → Type 0
+AgreeBefore first digits digits' = (i : ℕ) → i < first → slice_index digits.k i ≡ slice_index digits'.k i
 
--- what is known of a child holds of it; its ages give its corners' kinds wherever those of the cell above are its parents'
-pub record IsChild (axes : ℕ) (settings : Settings) (above : Above) (child : Child) : Type 0 where
-  pub digits : IsDigits axes child.digits
-  pub place : child.cell.place ≡ child_at above.place child.digits
-  pub state : StandsFor axes settings.way (child_at above.place child.digits) child.cell.state
+-- the step is that of the n-th child in the order of the traversal
+abbrev pub IsStepOf : ℕ → Settings → Above → ℕ → Step → Type 0
+IsStepOf axes settings above n step = IsStep axes settings.way (flips axes above.place.pos) n step
+
+-- what is known of the n-th child holds of it; its ages give its corners' kinds wherever those of the cell above are its parents'
+pub record IsChild (axes : ℕ) (settings : Settings) (above : Above) (n : ℕ) (child : Child) : Type 0 where
+  pub step : IsStepOf axes settings above n child.step
+  pub place : child.cell.place ≡ child_at above.place child.step.digits
+  pub state : StandsFor axes settings.way (child_at above.place child.step.digits) child.cell.state
   pub row : IsRow child.cell.state child.cell.row
-  pub row_ages : IsRowOfAges axes child.digits above.ages child.row_ages
-  pub turns : child.turns ≡ row_turns above.state child.digits
-  pub few : child.turns < 12
+  pub row_ages : IsRowOfAges axes child.step.digits above.ages child.row_ages
   pub kinds : (its : List VertexRecord) → AreAgesOf axes its above.ages → GiveKinds axes settings.traversal child.cell.place its child.cell.ages
+
+-- the step has gone on to the n-th child, and the rest is that of a child whose digits agree before an axis
+pub record IsAhead (axes : ℕ) (settings : Settings) (above : Above) (first n : ℕ) (child : Child) : Type 0 where
+  pub from : Step
+  pub number : ℕ
+  pub was : IsChild axes settings above number (record child { step = from })
+  pub step : IsStepOf axes settings above n child.step
+  pub agree : AgreeBefore first from.digits child.step.digits

@@ -13,9 +13,9 @@ use Rattle.pe_stacks.specs.Holdings.{items_at, len_at}
 use Rattle.pe_adapt.specs.CountedTouches.{Machine, load_corner, store_corner}
 use Rattle.pe_order.specs.Tokens.{Outlook, Tokens, is_top, source, target, touch_of, cells_before}
 use Rattle.pe_order.specs.Tokens as tokens
-use Rattle.pe_walk.specs.Standing.{Outset, Stage, Holds, IsOutset, IsStage}
+use Rattle.pe_walk.specs.Standing.{ForeseenStart, Stage, Holds, IsForeseenStart, IsStage}
 use Rattle.pe_walk.specs.Images.{image_of}
-use Rattle.pe_walk.specs.Gridded.{ports_of}
+use Rattle.pe_walk.specs.Gridded.{stream_stacks_of}
 
 -- a course ends as another one does, and what is done is alike
 abbrev pub EndsAs : {W M : Type 0} → (W → M → Type 0) → Ending W → Ending M → Type 0
@@ -40,15 +40,15 @@ pub record IsOnTop (o : Outlook) (touch : Touch) (t : Tokens) : Type 0 where
   pub top : (s : ℕ) → source o touch ≡ Some s → is_top touch.vertex (items_at t.vertices s) ≡ true
 
 -- A corner of the cell of a stage may be touched: what holds then, of the working state by address and of the places on stacks.
-pub record MayTouch {Plan : Type 0} (set : Setting Plan) (e : Outset) (walked : Place → Bool) (st : Stage) (k : ℕ) (w : Working) (t : Tokens) : Type 0 where
-  pub outset : IsOutset set e walked
+pub record MayTouch {Plan : Type 0} (set : Setting Plan) (e : ForeseenStart) (walked : Place → Bool) (st : Stage) (k : ℕ) (w : Working) (t : Tokens) : Type 0 where
+  pub foreseen_start : IsForeseenStart set e walked
   pub stage : IsStage set.axes e.outlook st
   pub corner : k < 2 ^ set.axes
   pub owed : 1 ≤ st.owed
   pub holds : Holds set e st w t
 
 -- The corner was loaded: its record came to hand, all others are as they are by address, and its place is no longer on a stack.
-pub record IsLoaded {Plan : Type 0} (set : Setting Plan) (e : Outset) (st : Stage) (k : ℕ) (t : Tokens) (w : Working) (it : VertexRecord × Machine) : Type 0 where
+pub record IsLoaded {Plan : Type 0} (set : Setting Plan) (e : ForeseenStart) (st : Stage) (k : ℕ) (t : Tokens) (w : Working) (it : VertexRecord × Machine) : Type 0 where
   pub places : Tokens
   pub took : tokens.load e.outlook st.cell k t ≡ Some places
   pub holds : Holds set e (record st { from = k; owed = st.owed - 1 }) w places
@@ -56,7 +56,7 @@ pub record IsLoaded {Plan : Type 0} (set : Setting Plan) (e : Outset) (st : Stag
   pub image : it.1 ≡ image_of set e st.parent w places
 
 -- it was stored: its record left the hand, and its place is on the stack that is named, if any is
-pub record IsStored {Plan : Type 0} (set : Setting Plan) (e : Outset) (st : Stage) (k : ℕ) (t : Tokens) (w : Working) (m : Machine) : Type 0 where
+pub record IsStored {Plan : Type 0} (set : Setting Plan) (e : ForeseenStart) (st : Stage) (k : ℕ) (t : Tokens) (w : Working) (m : Machine) : Type 0 where
   pub places : Tokens
   pub gave : tokens.store e.outlook st.cell k t ≡ Some places
   pub holds : Holds set e (record st { from = k + 1; owed = st.owed - 1; unstored = st.unstored - 1 }) w places
@@ -64,10 +64,10 @@ pub record IsStored {Plan : Type 0} (set : Setting Plan) (e : Outset) (st : Stag
 
 -- the corners after this one are in hand, and it is loaded next
 abbrev pub LoadOfACorner : Type 0 → Type 0
-LoadOfACorner Plan = (set : Setting Plan) (e : Outset) (walked : Place → Bool) (st : Stage) (k : ℕ) (w : Working) (t : Tokens)
+LoadOfACorner Plan = (set : Setting Plan) (e : ForeseenStart) (walked : Place → Bool) (st : Stage) (k : ℕ) (w : Working) (t : Tokens)
     → MayTouch set e walked st k w t → st.from ≡ suc k
     → (e.outlook.counts (touch_of e.outlook st.cell k).vertex ≡ true → IsOnTop e.outlook (touch_of e.outlook st.cell k) t)
-    → IsTouched (IsLoaded set e st k t) (λ push. ⊥) (model.load_corner set st.parent st.cell k w) (load_corner set (ports_of e.outlook.swapped) st.cell k (image_of set e st.parent w t))
+    → IsTouched (IsLoaded set e st k t) (λ push. ⊥) (model.load_corner set st.parent st.cell k w) (load_corner set (stream_stacks_of e.outlook.swapped) st.cell k (image_of set e st.parent w t))
 
 -- a push is on the stack that is named, and leaves it longer by one
 pub record GoesThere (o : Outlook) (touch : Touch) (t : Tokens) (push : Push) : Type 0 where
@@ -77,7 +77,7 @@ pub record GoesThere (o : Outlook) (touch : Touch) (t : Tokens) (push : Push) : 
 
 -- the corners before this one were stored, and it is stored next: the record is the one that is in hand
 abbrev pub StoreOfACorner : Type 0 → Type 0
-StoreOfACorner Plan = (set : Setting Plan) (e : Outset) (walked : Place → Bool) (st : Stage) (k : ℕ) (w : Working) (t : Tokens)
+StoreOfACorner Plan = (set : Setting Plan) (e : ForeseenStart) (walked : Place → Bool) (st : Stage) (k : ℕ) (w : Working) (t : Tokens)
     → MayTouch set e walked st k w t → st.from ≡ k → 1 ≤ st.unstored
     → IsTouched (IsStored set e st k t) (GoesThere e.outlook (touch_of e.outlook st.cell k) t) (model.store_corner set st.parent st.cell k w)
-    (store_corner set (ports_of e.outlook.swapped) st.cell k (record_at set.axes w st.cell k) (image_of set e st.parent w t))
+    (store_corner set (stream_stacks_of e.outlook.swapped) st.cell k (record_at set.axes w st.cell k) (image_of set e st.parent w t))

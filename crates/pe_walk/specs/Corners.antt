@@ -17,10 +17,10 @@ use Rattle.pe_adapt.specs.Slots.{seen_slot}
 use Rattle.pe_adapt.specs.Ages.{GiveKinds}
 use Rattle.pe_adapt.specs.declared.settings.Settings.{Settings}
 use Rattle.pe_adapt.specs.declared.walked.WalkedCell.{WalkedCell}
-use Rattle.pe_adapt.specs.CountedTouches.{Machine, Ports}
+use Rattle.pe_adapt.specs.CountedTouches.{Machine, StreamStacks}
 use Rattle.pe_adapt.specs.TouchCalls.{Hand, machine_of, found_in, filled_in, MayGo}
 use Rattle.pe_walk.specs.Machine.{load_all, store_all}
-use Rattle.pe_adapt.specs.WalkedCells.{IsWalked, setting_in, ports_of, failure_in}
+use Rattle.pe_adapt.specs.WalkedCells.{IsWalked, setting_in, stream_stacks_of, failure_in}
 
 -- how many vertices are in slots
 abbrev pub filled_in_corners : {X : Type 0} → CornerList X → ℕ
@@ -36,11 +36,11 @@ abbrev pub seen_slots : {V : Type 0} → (V → List ℤ) → CornerList (Vertex
 seen_slots numbers corners = map (seen_slot numbers) corners.slots
 
 -- the loads that are left where these corners are loaded, and the stores that are left where these are not stored yet
-abbrev pub loads_left : {Plan : Type 0} → Setting Plan → Ports → Place → List VertexRecord → Machine → Course (List VertexRecord × Machine)
-loads_left set ports cell its m = load_all set ports cell (2 ^ set.axes - length its) its m
+abbrev pub loads_left : {Plan : Type 0} → Setting Plan → StreamStacks → Place → List VertexRecord → Machine → Course (List VertexRecord × Machine)
+loads_left set streams cell its m = load_all set streams cell (2 ^ set.axes - length its) its m
 
-abbrev pub stores_left : {Plan : Type 0} → Setting Plan → Ports → Place → List VertexRecord → Machine → Course Machine
-stores_left set ports cell its m = store_all set ports cell (2 ^ set.axes - length its) its m
+abbrev pub stores_left : {Plan : Type 0} → Setting Plan → StreamStacks → Place → List VertexRecord → Machine → Course Machine
+stores_left set streams cell its m = store_all set streams cell (2 ^ set.axes - length its) its m
 
 -- A course is left, and then another one. Where a call comes through, the first leads to the second; where it fails, the first
 -- fails, whatever would have come of it.
@@ -59,11 +59,11 @@ pub record GoesOn {Plan V C X : Type 0} (rules : Rules Plan) (numbers : Numbers 
   pub counted : new.progress.tally.cells ≡ old.progress.tally.cells
 
 -- what is left to do for a cell, by the corners in their slots
-abbrev pub left_of : {Plan V C X : Type 0} → (Setting Plan → Ports → Place → List VertexRecord → Machine → Course X) → Numbers V C → Settings → Place → CornerList (Vertex V) → Setting Plan → Machine → Course X
-left_of course numbers settings cell corners set m = course set (ports_of settings) cell (corner_records numbers.vertex corners) m
+abbrev pub left_of : {Plan V C X : Type 0} → (Setting Plan → StreamStacks → Place → List VertexRecord → Machine → Course X) → Numbers V C → Settings → Place → CornerList (Vertex V) → Setting Plan → Machine → Course X
+left_of course numbers settings cell corners set m = course set (stream_stacks_of settings) cell (corner_records numbers.vertex corners) m
 
 -- some of it is done
-abbrev pub TouchesOn : {Plan V C X : Type 0} → Rules Plan → Numbers V C → Settings → (Setting Plan → Ports → Place → List VertexRecord → Machine → Course X) → Place → CornerList (Vertex V) → CornerList (Vertex V) → Result (Unit {0}) Inner → Hand Plan V C → Hand Plan V C → Type 0
+abbrev pub TouchesOn : {Plan V C X : Type 0} → Rules Plan → Numbers V C → Settings → (Setting Plan → StreamStacks → Place → List VertexRecord → Machine → Course X) → Place → CornerList (Vertex V) → CornerList (Vertex V) → Result (Unit {0}) Inner → Hand Plan V C → Hand Plan V C → Type 0
 TouchesOn rules numbers settings course cell before after result old new =
     GoesOn rules numbers settings (left_of course numbers settings cell before) (left_of course numbers settings cell after) (filled_in_corners before) (filled_in_corners after) result old new
 

@@ -17,7 +17,7 @@ use Rattle.pe_base.specs.Walk.Walk as model
 use Rattle.pe_stacks.specs.Holdings.{CountsWithin}
 use Rattle.pe_stacks.specs.Grid.{input_stack, cell_input_stack}
 use Rattle.pe_stacks.specs.StreamsHeld.{Streams, DepotsHold}
-use Rattle.pe_adapt.specs.CountedTouches.{Machine, Ports}
+use Rattle.pe_adapt.specs.CountedTouches.{Machine, StreamStacks}
 use Rattle.pe_walk.specs.Machine as machine
 use Rattle.pe_order.specs.Outlooks.{IsNew}
 
@@ -81,9 +81,9 @@ pub record IsWalked {Plan : Type 0} (set : Setting Plan) (grid : Grid) (swapped 
   pub ending : EndAlike swapped (model.traverse set grid).ending course.ending
   pub log : AllByRecursion (IsShort set grid swapped) course.log
 
-abbrev pub ports_of : Bool → Ports
-ports_of swapped = record { input = input_stack swapped; cell_input = cell_input_stack swapped }
+abbrev pub stream_stacks_of : Bool → StreamStacks
+stream_stacks_of swapped = record { input = input_stack swapped; cell_input = cell_input_stack swapped }
 
 abbrev pub StacksAreAddresses : Type 0 → Type 0
 StacksAreAddresses Plan = (set : Setting Plan) (grid : Grid) (swapped : Bool) (m : Machine) → MachineMayTraverse set grid swapped m
-    → IsWalked set grid swapped (machine.traverse set (ports_of swapped) grid.greatest m)
+    → IsWalked set grid swapped (machine.traverse set (stream_stacks_of swapped) grid.greatest m)

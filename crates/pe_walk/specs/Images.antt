@@ -9,9 +9,9 @@ use Rattle.pe_base.specs.Walk.Working.{Working, vertex_at, cell_at, family_of}
 use Rattle.pe_hang.specs.InHand.{map_holdings}
 use Rattle.pe_adapt.specs.CountedTouches.{Machine}
 use Rattle.pe_order.specs.Tokens.{Tokens}
-use Rattle.pe_walk.specs.Standing.{Outset}
+use Rattle.pe_walk.specs.Standing.{ForeseenStart}
 
-module _ {Plan : Type 0} (set : Setting Plan) (e : Outset) where
+module _ {Plan : Type 0} (set : Setting Plan) (e : ForeseenStart) where
   -- the record of a place on a stack
   abbrev pub record_of : Working → Tokens → Place → VertexRecord
   record_of w t vertex = if t.met vertex == 0 then (record (vertex_at w vertex) { kind = e.stale vertex }) else vertex_at w vertex

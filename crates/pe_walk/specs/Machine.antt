@@ -13,7 +13,7 @@ use Rattle.pe_base.specs.Walk.Course.{Course, ends, stuck, halts, limit_at, at_o
 use Rattle.pe_base.specs.Walk.Core.{Setting, way, Own, fresh_vertex, plain_event, enter_touch, leave_touch}
 use Rattle.pe_base.specs.Walk.Touches.{tally_cell, kind_below}
 use Rattle.pe_hang.specs.Moves.{lend, give_up, pop, push}
-use Rattle.pe_adapt.specs.CountedTouches.{Machine, Ports, cell_output, tally_may_rise, load_corner, store_corner}
+use Rattle.pe_adapt.specs.CountedTouches.{Machine, StreamStacks, cell_output, tally_may_rise, load_corner, store_corner}
 
 -- corners become the parents, or there are none
 abbrev pub with_parents : List VertexRecord → Machine → Machine
@@ -23,7 +23,7 @@ with_parents its m = record m { family = record m.family { parents = its } }
 abbrev pub kind_among : ℕ → Place → List VertexRecord → Kind
 kind_among traversal cell parents = if cell.level == 1 then (if traversal == 1 then Born else Kept) else kind_below parents
 
-module _ {Plan : Type 0} (set : Setting Plan) (ports : Ports) where
+module _ {Plan : Type 0} (set : Setting Plan) (streams : StreamStacks) where
   -- a cell is counted
   abbrev pub within_limit : Place → Machine → Bool → Course Machine
   within_limit cell m true = ends (halts (limit_at cell))
@@ -37,12 +37,12 @@ module _ {Plan : Type 0} (set : Setting Plan) (ports : Ports) where
   -- the corners of a cell, in descending number; they are kept in ascending number
   abbrev pub load_all : Place → ℕ → List VertexRecord → Machine → Course (List VertexRecord × Machine)
   load_all cell zero its m = at_once (its, m)
-  load_all cell (suc k) its m = and_then (load_corner set ports cell k m) (λ it. load_all cell k (it.0 ∷ its) it.1)
+  load_all cell (suc k) its m = and_then (load_corner set streams cell k m) (λ it. load_all cell k (it.0 ∷ its) it.1)
 
   -- and in ascending number
   abbrev pub store_all : Place → ℕ → List VertexRecord → Machine → Course Machine
   store_all cell k [] m = at_once m
-  store_all cell k (it ∷ its) m = and_then (store_corner set ports cell k it m) (store_all cell (k + 1) its)
+  store_all cell k (it ∷ its) m = and_then (store_corner set streams cell k it m) (store_all cell (k + 1) its)
 
   -- the kind of a cell, by the corners of its parent in hand
   abbrev pub kind_of_cell : Place → Machine → Kind
@@ -51,12 +51,12 @@ module _ {Plan : Type 0} (set : Setting Plan) (ports : Ports) where
   -- a cell's numbers come to hand: fresh, or from the input
   abbrev pub cell_comes : Kind → Machine → Course (List ℤ × Machine)
   cell_comes Born m = course_map (λ cells. ([], record m { cells = cells })) (lend m.cells)
-  cell_comes kind m = course_map (λ it. (it.0, record m { cells = it.1 })) (pop ports.cell_input m.cells)
+  cell_comes kind m = course_map (λ it. (it.0, record m { cells = it.1 })) (pop streams.cell_input m.cells)
 
   -- and leave it: given up, or to the output
   abbrev pub cell_goes : Kind → List ℤ → Machine → Course Machine
   cell_goes Dying cell m = course_map (λ cells. record m { cells = cells }) (give_up m.cells)
-  cell_goes kind cell m = course_map (λ cells. record m { cells = cells }) (push true (cell_output ports) cell m.cells)
+  cell_goes kind cell m = course_map (λ cells. record m { cells = cells }) (push true (cell_output streams) cell m.cells)
 
   abbrev pub enter_cell : Place → List VertexRecord → Machine → Course (Own × Machine)
   enter_cell cell corners m =

@@ -81,7 +81,7 @@ pub record Foresees {Plan : Type 0} (set : Setting Plan) (o : Outlook) (f : Fore
 
 -- What is fixed for a traversal: what is foreseen, the kinds that records have before they are touched, which mean
 -- nothing, how many cells it walks, what no count was greater than when it began, and how long the stacks were then.
-pub record Outset : Type 0 where
+pub record ForeseenStart : Type 0 where
   pub outlook : Outlook
   pub foresight : Foresight
   pub stale : Place → Kind
@@ -183,7 +183,7 @@ pub record Fair (axes greatest : ℕ) (o : Outlook) (f : Foresight) (st : Stage)
 
 -- Counts stay small: what the counted cells may still add is left below a bound; no more cells are counted than may be,
 -- and with those ahead they are as many as the traversal walks. So stacks stay short.
-pub record Owes (axes max_cells : ℕ) (e : Outset) (st : Stage) (tally : Tally) (t : Tokens) : Type 0 where
+pub record Owes (axes max_cells : ℕ) (e : ForeseenStart) (st : Stage) (tally : Tally) (t : Tokens) : Type 0 where
   pub cells : tally.cells ≤ max_cells
   pub total : tally.cells + length st.ahead ≡ e.total + st.counted
   pub fresh : t.vertices.fresh + st.owed ≤ e.base + per_cell * tally.cells
@@ -201,19 +201,19 @@ pub record Owes (axes max_cells : ℕ) (e : Outset) (st : Stage) (tally : Tally)
   pub cell_lens : (s : ℕ) → len_at t.cells s + length st.entered + st.counted ≤ e.cell_lens s + tally.cells + 1
 
 -- what holds at a stage
-pub record Holds {Plan : Type 0} (set : Setting Plan) (e : Outset) (st : Stage) (w : Working) (t : Tokens) : Type 0 where
+pub record Holds {Plan : Type 0} (set : Setting Plan) (e : ForeseenStart) (st : Stage) (w : Working) (t : Tokens) : Type 0 where
   pub stands : Stands set.axes e.outlook st t
   pub fair : Fair set.axes (set.rules.greatest set.plan) e.outlook e.foresight st w t
   pub owes : Owes set.axes set.max_cells e st w.tally t
 
 -- What a traversal may rest on: its foresight, the shape of its walk, and counts that do not run out.
-pub record IsOutset {Plan : Type 0} (set : Setting Plan) (e : Outset) (walked : Place → Bool) : Type 0 where
+pub record IsForeseenStart {Plan : Type 0} (set : Setting Plan) (e : ForeseenStart) (walked : Place → Bool) : Type 0 where
   pub foresees : Foresees set e.outlook e.foresight
   pub grown : Grown e.outlook walked (set.rules.greatest set.plan)
   pub bound : e.base + per_cell * set.max_cells < 2 ^ 63
 
 -- a push on a stack that is no input has room wherever its stack, as long as it is then, may stand at a stage
-pub record HasRoom {Plan : Type 0} (set : Setting Plan) (e : Outset) (room : Push → Type 0) : Type 0 where
+pub record HasRoom {Plan : Type 0} (set : Setting Plan) (e : ForeseenStart) (room : Push → Type 0) : Type 0 where
   pub vertices : (st : Stage) (w : Working) (t : Tokens) → Holds set e st w t → (s : ℕ) → s < 10 → s ≢ input_stack e.outlook.swapped → room (record { of_cell = false; stack = s; length = len_at t.vertices s })
   pub cells : (st : Stage) (w : Working) (t : Tokens) → Holds set e st w t → (s : ℕ) → s < 2 → s ≢ cell_input_stack e.outlook.swapped → room (record { of_cell = true; stack = s; length = len_at t.cells s })
 
@@ -231,6 +231,6 @@ pub record IsStage (axes : ℕ) (o : Outlook) (st : Stage) : Type 0 where
   pub walked : o.walks st.parent ≡ true
 
 abbrev pub KindsAreFound : Type 0 → Type 0
-KindsAreFound Plan = (set : Setting Plan) (e : Outset) (walked : Place → Bool) (st : Stage) (w : Working) (t : Tokens)
-    → IsOutset set e walked → IsStage set.axes e.outlook st → Holds set e st w t
+KindsAreFound Plan = (set : Setting Plan) (e : ForeseenStart) (walked : Place → Bool) (st : Stage) (w : Working) (t : Tokens)
+    → IsForeseenStart set e walked → IsStage set.axes e.outlook st → Holds set e st w t
     → (k : ℕ) → k < 2 ^ set.axes → FindsKind set e.foresight st.parent st.cell w k

@@ -11,7 +11,7 @@ use Rattle.pe_walk.specs.Machine as machine
 use Rattle.pe_order.specs.Outlooks.{outlook}
 use Rattle.pe_order.specs.FewCells.{most_cells}
 use Rattle.pe_order.specs.Tallies.{foreseen_tally, ExactTraffic}
-use Rattle.pe_walk.specs.Gridded.{MachineMayTraverse, ports_of}
+use Rattle.pe_walk.specs.Gridded.{MachineMayTraverse, stream_stacks_of}
 
 -- The walk by address counts what is foreseen.
 abbrev pub TallyIsForeseen : Type 0 → Type 0
@@ -28,5 +28,5 @@ pub record TurnsExactly {Plan : Type 0} (set : Setting Plan) (grid : Grid) (swap
   pub cells_rise : RaisesCounts m.cells after.cells (64 * (after.tally.cells + 1))
 
 abbrev pub TraversalsAreExact : Type 0 → Type 0
-TraversalsAreExact Plan = (set : Setting Plan) (grid : Grid) (swapped : Bool) (m after : Machine) → MachineMayTraverse set grid swapped m → (machine.traverse set (ports_of swapped) grid.greatest m).ending ≡ done after
+TraversalsAreExact Plan = (set : Setting Plan) (grid : Grid) (swapped : Bool) (m after : Machine) → MachineMayTraverse set grid swapped m → (machine.traverse set (stream_stacks_of swapped) grid.greatest m).ending ≡ done after
     → TurnsExactly set grid swapped m after

@@ -21,28 +21,28 @@ use Rattle.pe_adapt.specs.declared.stop.Inner.{Inner}
 use Rattle.pe_adapt.specs.declared.settings.Settings.{Settings}
 use Rattle.pe_adapt.specs.declared.progress.Progress.{Progress}
 use Rattle.pe_adapt.specs.WalkedCells.{setting_in, machine_in_hand, failure_in}
-use Rattle.pe_adapt.specs.CountedTouches.{Machine, Ports}
+use Rattle.pe_adapt.specs.CountedTouches.{Machine, StreamStacks}
 use Rattle.pe_walk.specs.Machine.{enter_cell, leave_cell, inside, outside, if_walked, walk_cell, plain}
 
-module _ {Plan : Type 0} (set : Setting Plan) (ports : Ports) where
+module _ {Plan : Type 0} (set : Setting Plan) (streams : StreamStacks) where
   -- the walks of the children of a cell
   abbrev pub walk_children : ℕ → Place → Machine → Course Machine
-  walk_children levels cell = each (walk_cell set ports levels) (children set.axes (way set) cell)
+  walk_children levels cell = each (walk_cell set streams levels) (children set.axes (way set) cell)
 
   -- and whether there are any, by the cell's corners in hand
   abbrev pub walk_below : ℕ → Place → Own × Machine → Course (Own × Machine)
   walk_below levels cell it =
-      if_walked set ports (kind_below it.0.corners) (λ it. course_map (outside set ports it.1) (walk_children levels cell (inside set ports it.0 it.1))) it
+      if_walked set streams (kind_below it.0.corners) (λ it. course_map (outside set streams it.1) (walk_children levels cell (inside set streams it.0 it.1))) it
 
   -- a cell is entered, and left when its children are walked
   abbrev pub visit_cell : ℕ → Place → List VertexRecord → Machine → Course (List VertexRecord × Machine)
   visit_cell levels cell corners m =
-      and_then (enter_cell set ports cell corners m) (λ it. and_then (walk_below levels cell it) (leave_cell set ports cell))
+      and_then (enter_cell set streams cell corners m) (λ it. and_then (walk_below levels cell it) (leave_cell set streams cell))
 
   -- between a traversal's first event and its last
   abbrev pub walk_root : ℕ → Machine → Course Machine
   walk_root greatest m =
-      and_then (plain set ports BeginIteration m) (λ m. and_then (walk_children greatest root m) (plain set ports EndIteration))
+      and_then (plain set streams BeginIteration m) (λ m. and_then (walk_children greatest root m) (plain set streams EndIteration))
 
 -- with these vertices on stacks, and this list of the mapping
 abbrev pub with_vertices : Holdings VertexRecord → List ℤ → Machine → Machine

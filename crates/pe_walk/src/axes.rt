@@ -5,7 +5,7 @@ ghost use Rattle.pe_stacks.specs.Corners.{no_vertices};
 ghost use Rattle.pe_stacks.specs.Sights.{corner_records};
 ghost use Rattle.pe_adapt.specs.Ages.{AreAgesOf, GiveKinds};
 ghost use Rattle.pe_walk.specs.Machine.{kind_among, walk_cell};
-ghost use Rattle.pe_adapt.specs.WalkedCells.{ports_of, IsWalked};
+ghost use Rattle.pe_adapt.specs.WalkedCells.{stream_stacks_of, IsWalked};
 ghost use Rattle.pe_walk.specs.Children.{IsAbove};
 ghost use Rattle.pe_walk.specs.Visits.{walk_children, MayWalkCells, Walks, WalkLeft, hands_of};
 
@@ -31,14 +31,14 @@ pub(crate) fn walk_cell<M: Mapping, DV: Depot<Vertex<M::V>>, DC: Depot<CellRec<M
     parent: &mut CellRec<M::C>,
 ) -> Result<(), Inner>
     requires may { MayWalkCells M.rules M.numbers settings.now cell.now.place.level levels
-        (λ set. walk_cell set (ports_of settings.now) (suc levels) cell.now.place)
+        (λ set. walk_cell set (stream_stacks_of settings.now) (suc levels) cell.now.place)
         (hands_of (M.held m.old) (DV.holds dv.old) (DV.room dv.old) (DC.holds dc.old) (DC.room dc.old) parents.old parent.old progress.old) }
     requires walked { IsWalked (M.held m.old).dim settings.now cell.now }
     requires kinds { GiveKinds (M.held m.old).dim settings.now.traversal cell.now.place (corner_records M.numbers.vertex parents.old) cell.now.ages }
     requires kind { kind_among settings.now.traversal cell.now.place (corner_records M.numbers.vertex parents.old) ≡ kind }
     requires empty { corners.old ≡ no_vertices (M.held m.old).dim }
     ensures follows { Walks M.rules M.numbers settings.now
-        (λ set. walk_cell set (ports_of settings.now) (suc levels) cell.now.place)
+        (λ set. walk_cell set (stream_stacks_of settings.now) (suc levels) cell.now.place)
         (λ machine. machine) result
         (hands_of (M.held m.old) (DV.holds dv.old) (DV.room dv.old) (DC.holds dc.old) (DC.room dc.old) parents.old parent.old progress.old)
         (hands_of (M.held m.new) (DV.holds dv.new) (DV.room dv.new) (DC.holds dc.new) (DC.room dc.new) parents.new parent.new progress.new) }
@@ -74,14 +74,14 @@ pub(crate) fn walk_children<M: Mapping, DV: Depot<Vertex<M::V>>, DC: Depot<CellR
     parent: &mut CellRec<M::C>,
 ) -> Result<(), Inner>
     requires may { MayWalkCells M.rules M.numbers settings.now above.now.place.level levels
-        (λ set. walk_children set (ports_of settings.now) levels above.now.place)
+        (λ set. walk_children set (stream_stacks_of settings.now) levels above.now.place)
         (hands_of (M.held m.old) (DV.holds dv.old) (DV.room dv.old) (DC.holds dc.old) (DC.room dc.old) parents.old parent.old progress.old) }
     requires above { IsAbove (M.held m.old).dim settings.now above.now }
     requires some { 0 < levels }
     requires aged { AreAgesOf (M.held m.old).dim (corner_records M.numbers.vertex parents.old) above.now.ages }
     requires kind { (cell : APlace) → cell.level ≡ above.now.place.level + 1 → kind_among settings.now.traversal cell (corner_records M.numbers.vertex parents.old) ≡ kind }
     ensures follows { Walks M.rules M.numbers settings.now
-        (λ set. walk_children set (ports_of settings.now) levels above.now.place)
+        (λ set. walk_children set (stream_stacks_of settings.now) levels above.now.place)
         (λ machine. machine) result
         (hands_of (M.held m.old) (DV.holds dv.old) (DV.room dv.old) (DC.holds dc.old) (DC.room dc.old) parents.old parent.old progress.old)
         (hands_of (M.held m.new) (DV.holds dv.new) (DV.room dv.new) (DC.holds dc.new) (DC.room dc.new) parents.new parent.new progress.new) }

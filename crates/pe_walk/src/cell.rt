@@ -7,18 +7,17 @@ ghost use Rattle.pe_stacks.specs.Sights.{corner_records};
 ghost use Rattle.pe_hang.specs.InHand.{own_in_hand, CornersStay};
 ghost use Rattle.pe_adapt.specs.Ages.{AreAgesOf, GiveKinds};
 ghost use Rattle.pe_walk.specs.Machine.{kind_among, walk_cell};
-ghost use Rattle.pe_adapt.specs.WalkedCells.{ports_of, IsWalked};
+ghost use Rattle.pe_adapt.specs.WalkedCells.{stream_stacks_of, IsWalked};
 ghost use Rattle.pe_walk.specs.Children.{IsAbove};
 ghost use Rattle.pe_walk.specs.Visits.{walk_children, walk_below, visit_cell, with_family, MayWalkCells, Walks, WalkLeft, hands_of};
 
-use crate::child::{Above, child_of, move_to};
+use crate::child::{Above, advance, first_child};
 use crate::corners::{load_corners, store_corners};
 use crate::count::count_cell;
 use crate::hand::give_up_from;
-use crate::order::cursor_in;
 use crate::visit::{enter_cell, leave_cell};
-use pe_adapt::{Inner, Progress, Settings, WalkedCell, ages_of};
-use pe_base::{Digits, Kind};
+use pe_adapt::{Inner, Progress, Settings, WalkedCell, ages_of, dim_in};
+use pe_base::Kind;
 use pe_mapping::Mapping;
 use pe_stacks::{CellRec, Corners, Depot, Vertex};
 use pe_states::kind_of;
@@ -45,14 +44,14 @@ pub(crate) fn walk_cell<
 ) -> Result<(), Inner>
     requires axes { settings.now.setup.dim ≡ AXES }
     requires may { MayWalkCells M.rules M.numbers settings.now cell.now.place.level levels
-        (λ set. walk_cell set (ports_of settings.now) (suc levels) cell.now.place)
+        (λ set. walk_cell set (stream_stacks_of settings.now) (suc levels) cell.now.place)
         (hands_of (M.held m.old) (DV.holds dv.old) (DV.room dv.old) (DC.holds dc.old) (DC.room dc.old) parents.old parent.old progress.old) }
     requires walked { IsWalked (M.held m.old).dim settings.now cell.now }
     requires kinds { GiveKinds (M.held m.old).dim settings.now.traversal cell.now.place (corner_records M.numbers.vertex parents.old) cell.now.ages }
     requires kind { kind_among settings.now.traversal cell.now.place (corner_records M.numbers.vertex parents.old) ≡ kind }
     requires empty { corners.old ≡ no_vertices (M.held m.old).dim }
     ensures follows { Walks M.rules M.numbers settings.now
-        (λ set. walk_cell set (ports_of settings.now) (suc levels) cell.now.place)
+        (λ set. walk_cell set (stream_stacks_of settings.now) (suc levels) cell.now.place)
         (λ machine. machine) result
         (hands_of (M.held m.old) (DV.holds dv.old) (DV.room dv.old) (DC.holds dc.old) (DC.room dc.old) parents.old parent.old progress.old)
         (hands_of (M.held m.new) (DV.holds dv.new) (DV.room dv.new) (DC.holds dc.new) (DC.room dc.new) parents.new parent.new progress.new) }
@@ -100,13 +99,13 @@ fn visit_cell<const AXES: u8, M: Mapping, DV: Depot<Vertex<M::V>>, DC: Depot<Cel
 ) -> Result<(), Inner>
     requires axes { settings.now.setup.dim ≡ AXES }
     requires may { MayWalkCells M.rules M.numbers settings.now cell.now.place.level levels
-        (λ set. visit_cell set (ports_of settings.now) levels cell.now.place (corner_records M.numbers.vertex corners.old))
+        (λ set. visit_cell set (stream_stacks_of settings.now) levels cell.now.place (corner_records M.numbers.vertex corners.old))
         (hands_of (M.held m.old) (DV.holds dv.old) (DV.room dv.old) (DC.holds dc.old) (DC.room dc.old) parents.old parent.old progress.old) }
     requires walked { IsWalked (M.held m.old).dim settings.now cell.now }
     requires kind { kind_among settings.now.traversal cell.now.place (corner_records M.numbers.vertex parents.old) ≡ kind }
     requires own_full { IsFull (M.held m.old).dim corners.old }
     ensures follows { Walks M.rules M.numbers settings.now
-        (λ set. visit_cell set (ports_of settings.now) levels cell.now.place (corner_records M.numbers.vertex corners.old))
+        (λ set. visit_cell set (stream_stacks_of settings.now) levels cell.now.place (corner_records M.numbers.vertex corners.old))
         (λ machine. (corner_records M.numbers.vertex corners.new, machine)) result
         (hands_of (M.held m.old) (DV.holds dv.old) (DV.room dv.old) (DC.holds dc.old) (DC.room dc.old) parents.old parent.old progress.old)
         (hands_of (M.held m.new) (DV.holds dv.new) (DV.room dv.new) (DC.holds dc.new) (DC.room dc.new) parents.new parent.new progress.new) }
@@ -152,11 +151,11 @@ fn walk_below<const AXES: u8, M: Mapping, DV: Depot<Vertex<M::V>>, DC: Depot<Cel
 ) -> Result<(), Inner>
     requires axes { settings.now.setup.dim ≡ AXES }
     requires may { (outer : Family) × MayWalkCells M.rules M.numbers settings.now cell.now.place.level levels
-        (λ set machine. walk_below set (ports_of settings.now) levels cell.now.place (own_in_hand M.numbers own.old corners.old, with_family outer machine))
+        (λ set machine. walk_below set (stream_stacks_of settings.now) levels cell.now.place (own_in_hand M.numbers own.old corners.old, with_family outer machine))
         (hands_of (M.held m.old) (DV.holds dv.old) (DV.room dv.old) (DC.holds dc.old) (DC.room dc.old) corners.old own.old progress.old) }
     requires walked { IsWalked (M.held m.old).dim settings.now cell.now }
     ensures follows { (outer : Family) → Walks M.rules M.numbers settings.now
-        (λ set machine. walk_below set (ports_of settings.now) levels cell.now.place (own_in_hand M.numbers own.old corners.old, with_family outer machine))
+        (λ set machine. walk_below set (stream_stacks_of settings.now) levels cell.now.place (own_in_hand M.numbers own.old corners.old, with_family outer machine))
         (λ machine. (own_in_hand M.numbers own.new corners.new, with_family outer machine)) result
         (hands_of (M.held m.old) (DV.holds dv.old) (DV.room dv.old) (DC.holds dc.old) (DC.room dc.old) corners.old own.old progress.old)
         (hands_of (M.held m.new) (DV.holds dv.new) (DV.room dv.new) (DC.holds dc.new) (DC.room dc.new) corners.new own.new progress.new) }
@@ -206,14 +205,14 @@ pub(crate) fn walk_children<
 ) -> Result<(), Inner>
     requires axes { settings.now.setup.dim ≡ AXES }
     requires may { MayWalkCells M.rules M.numbers settings.now above.now.place.level levels
-        (λ set. walk_children set (ports_of settings.now) levels above.now.place)
+        (λ set. walk_children set (stream_stacks_of settings.now) levels above.now.place)
         (hands_of (M.held m.old) (DV.holds dv.old) (DV.room dv.old) (DC.holds dc.old) (DC.room dc.old) parents.old parent.old progress.old) }
     requires above { IsAbove (M.held m.old).dim settings.now above.now }
     requires some { 0 < levels }
     requires aged { AreAgesOf (M.held m.old).dim (corner_records M.numbers.vertex parents.old) above.now.ages }
     requires kind { (cell : APlace) → cell.level ≡ above.now.place.level + 1 → kind_among settings.now.traversal cell (corner_records M.numbers.vertex parents.old) ≡ kind }
     ensures follows { Walks M.rules M.numbers settings.now
-        (λ set. walk_children set (ports_of settings.now) levels above.now.place)
+        (λ set. walk_children set (stream_stacks_of settings.now) levels above.now.place)
         (λ machine. machine) result
         (hands_of (M.held m.old) (DV.holds dv.old) (DV.room dv.old) (DC.holds dc.old) (DC.room dc.old) parents.old parent.old progress.old)
         (hands_of (M.held m.new) (DV.holds dv.new) (DV.room dv.new) (DC.holds dc.new) (DC.room dc.new) parents.new parent.new progress.new) }
@@ -222,9 +221,9 @@ pub(crate) fn walk_children<
         (hands_of (M.held m.new) (DV.holds dv.new) (DV.room dv.new) (DC.holds dc.new) (DC.room dc.new) parents.new parent.new progress.new) }
 {
     let mut corners = Corners::empty(settings.setup.dim);
-    let mut child = child_of::<AXES>(settings, above, Digits { k: [0; 4] });
-    for digits in cursor_in::<AXES>(settings, above.state.flips()) {
-        move_to::<AXES>(settings, above, &mut child, digits);
+    let mut child = first_child::<AXES>(settings, above);
+    let parts = dim_in::<AXES>(settings).parts();
+    for n in 0..parts {
         let cell = &child.cell;
         match walk_cell::<AXES, M, DV, DC>(
             settings,
@@ -244,6 +243,9 @@ pub(crate) fn walk_children<
                 corners.close();
                 return Err(halt);
             }
+        }
+        if n + 1 < parts {
+            advance::<AXES>(settings, above, &mut child);
         }
     }
     corners.close();

@@ -1,17 +1,17 @@
-// The children of a cell, one after another along rows: along a row only the digit on the last axis changes.
-ghost use Rattle.std.specs.Prelude.{◌≡◌, ℕ, ◌-◌, ◌<◌, List, slice_index, IsTrue};
+// The children of a cell, each made from the one before it: along a row only the digit on the last axis changes.
+ghost use Rattle.std.specs.Prelude.{◌≡◌, ℕ, ◌+◌, ◌-◌, ◌<◌, ◌≤◌, ◌^◌, List};
 ghost use Rattle.pe_base.specs.Tree.Dim.{IsDim};
 ghost use Rattle.pe_base.specs.Tree.Places.{IsCellPlace, IsDigits, child_at};
 ghost use Rattle.pe_base.specs.declared.place.Digits.{Digits as SomeDigits};
 ghost use Rattle.pe_base.specs.Acts.Effects.{VertexRecord};
 ghost use Rattle.pe_states.specs.Sides.{IsRow as IsRowOfAges};
 ghost use Rattle.pe_adapt.specs.Ages.{AreAgesOf, GiveKinds};
-ghost use Rattle.pe_walk.specs.Children.{IsAbove, IsChild, AreInOneRow};
+ghost use Rattle.pe_walk.specs.Children.{IsAbove, IsChild, IsAhead, AgreeBefore};
 
 use pe_access::{CellState, Row};
 use pe_adapt::{Settings, WalkedCell, dim_in};
 use pe_base::{Digits, Place};
-use pe_curve::child_at;
+use pe_curve::{Step, child_at};
 use pe_states::Ages;
 
 /// What is known of a cell whose children are walked.
@@ -30,12 +30,10 @@ pub(crate) struct Above {
 pub(crate) struct Child {
     /// What is known of it.
     pub cell: WalkedCell,
-    /// Its digits.
-    pub digits: Digits,
+    /// Where it stands on the way along the curve.
+    pub step: Step,
     /// The part of its ages that is the same along the row.
     pub row_ages: Ages,
-    /// The turns of the last axis, which are the same along the row.
-    pub turns: u8,
 }
 
 // The ages of a child's corners.
@@ -61,116 +59,103 @@ fn child_ages<const AXES: u8>(
     }
 }
 
-// Makes a child the one at these digits, of whatever row.
-fn turn_to<const AXES: u8>(settings: &Settings, above: &Above, child: &mut Child, digits: Digits)
+/// The first child.
+pub(crate) fn first_child<const AXES: u8>(settings: &Settings, above: &Above) -> Child
     requires axes { settings.now.setup.dim ≡ AXES }
     requires above { IsAbove settings.now.setup.dim settings.now above.now }
-    requires digits { IsDigits settings.now.setup.dim digits }
-    ensures child { IsChild settings.now.setup.dim settings.now above.now child.new }
-    ensures digits { child.new.digits ≡ digits }
+    ensures { IsChild settings.now.setup.dim settings.now above.now 0 result }
 {
     let dim = dim_in::<AXES>(settings);
+    let step = Step::first(dim, settings.way, above.state.flips());
+    let digits = step.digits;
     let place = child_at(&above.place, digits);
-    child.cell.place = place;
-    child.cell.state = above.state.child(AXES, digits);
-    child.cell.state.set_row(AXES, &mut child.cell.row);
-    child.turns = above.state.row_turns(AXES, digits);
+    let state = above.state.child(AXES, digits);
+    let mut row = Row::empty();
+    state.set_row(AXES, &mut row);
     let row_ages = above.ages.row(dim, digits);
-    child.row_ages = row_ages;
     let ages = child_ages::<AXES>(settings, above, row_ages, digits);
-    child.cell.ages = ages;
-    child.digits = digits;
-}
-
-/// The child at these digits.
-pub(crate) fn child_of<const AXES: u8>(settings: &Settings, above: &Above, digits: Digits) -> Child
-    requires axes { settings.now.setup.dim ≡ AXES }
-    requires above { IsAbove settings.now.setup.dim settings.now above.now }
-    requires digits { IsDigits settings.now.setup.dim digits }
-    ensures child { IsChild settings.now.setup.dim settings.now above.now result }
-    ensures digits { result.digits ≡ digits }
-{
-    let mut child = Child {
+    Child {
         cell: WalkedCell {
-            place: above.place,
-            state: above.state,
-            row: Row::empty(),
-            ages: above.ages,
+            place,
+            state,
+            row,
+            ages,
         },
-        digits,
-        row_ages: above.ages,
-        turns: 0,
-    };
-    turn_to::<AXES>(settings, above, &mut child, digits);
-    child
+        step,
+        row_ages,
+    }
 }
 
-// Makes the place of a child that of the child at these digits, of the same row.
-fn step_place<const AXES: u8>(parent: &Place, place: &mut Place, digits: Digits)
-    requires axes { IsDim AXES }
-    requires parent { IsCellPlace AXES parent.now }
-    requires digits { IsDigits AXES digits }
-    ensures { (from : SomeDigits) → IsDigits AXES from → AreInOneRow AXES from digits
-        → place.old ≡ child_at parent.now from → place.new ≡ child_at parent.now digits }
-{
-    let last = (AXES - 1) as usize;
-    place.pos[last] = 3 * parent.pos[last] + digits.k[last] as u64;
-}
-
-// Makes a child the one at these digits, of the same row.
-fn step_to<const AXES: u8>(settings: &Settings, above: &Above, child: &mut Child, digits: Digits)
+/// Makes a child the next one: of its row, or the first of another row.
+#[inline(always)]
+pub(crate) fn advance<const AXES: u8>(settings: &Settings, above: &Above, child: &mut Child)
     requires axes { settings.now.setup.dim ≡ AXES }
     requires above { IsAbove settings.now.setup.dim settings.now above.now }
-    requires digits { IsDigits settings.now.setup.dim digits }
-    requires child { IsChild settings.now.setup.dim settings.now above.now child.old }
-    requires row { AreInOneRow settings.now.setup.dim child.old.digits digits }
-    ensures child { IsChild settings.now.setup.dim settings.now above.now child.new }
-    ensures digits { child.new.digits ≡ digits }
+    requires child { (n : ℕ) × (n + 1 < 3 ^ settings.now.setup.dim) × IsChild settings.now.setup.dim settings.now above.now n child.old }
+    ensures { (n : ℕ) → n + 1 < 3 ^ settings.now.setup.dim → IsChild settings.now.setup.dim settings.now above.now n child.old
+        → IsChild settings.now.setup.dim settings.now above.now (n + 1) child.new }
 {
-    let turns = child.turns;
+    let moved = child.step.advance(AXES);
+    if moved == AXES - 1 {
+        step_to::<AXES>(settings, above, child);
+    } else {
+        turn_to::<AXES>(settings, above, child, moved);
+    }
+}
+
+// Makes a child the one of its step, which is of the same row.
+#[inline(always)]
+fn step_to<const AXES: u8>(settings: &Settings, above: &Above, child: &mut Child)
+    requires axes { settings.now.setup.dim ≡ AXES }
+    requires above { IsAbove settings.now.setup.dim settings.now above.now }
+    requires child { (n : ℕ) × IsAhead settings.now.setup.dim settings.now above.now (settings.now.setup.dim - 1) n child.old }
+    ensures { (n : ℕ) → IsAhead settings.now.setup.dim settings.now above.now (settings.now.setup.dim - 1) n child.old
+        → IsChild settings.now.setup.dim settings.now above.now n child.new }
+{
+    let step = child.step;
     above.state.step(
         AXES,
         &mut child.cell.state,
         &mut child.cell.row,
-        turns,
-        digits,
+        step.ups[(AXES - 1) as usize],
+        step.digits,
     );
-    step_place::<AXES>(&above.place, &mut child.cell.place, digits);
-    child.cell.ages = child_ages::<AXES>(settings, above, child.row_ages, digits);
-    child.digits = digits;
+    step_place::<AXES>(&above.place, &mut child.cell.place, step.digits);
+    child.cell.ages = child_ages::<AXES>(settings, above, child.row_ages, step.digits);
 }
 
-// Whether digits differ on the last axis alone.
-fn are_in_one_row<const AXES: u8>(a: &Digits, b: &Digits) -> bool
-    requires { IsDim AXES }
-    ensures { IsTrue result → AreInOneRow AXES a.now b.now }
-{
-    let [i, j, k, _] = a.k;
-    let [x, y, z, _] = b.k;
-    match AXES {
-        2 => i == x,
-        3 => i == x && j == y,
-        _ => i == x && j == y && k == z,
-    }
-}
-
-/// Makes a child the one at these digits: along its row, or the first of another row.
-pub(crate) fn move_to<const AXES: u8>(
-    settings: &Settings,
-    above: &Above,
-    child: &mut Child,
-    digits: Digits,
-)
+// Makes a child the one of its step, which agrees with it before an axis.
+fn turn_to<const AXES: u8>(settings: &Settings, above: &Above, child: &mut Child, first: u8)
     requires axes { settings.now.setup.dim ≡ AXES }
     requires above { IsAbove settings.now.setup.dim settings.now above.now }
-    requires digits { IsDigits settings.now.setup.dim digits }
-    requires child { IsChild settings.now.setup.dim settings.now above.now child.old }
-    ensures child { IsChild settings.now.setup.dim settings.now above.now child.new }
-    ensures digits { child.new.digits ≡ digits }
+    requires first { first ≤ settings.now.setup.dim }
+    requires child { (n : ℕ) × IsAhead settings.now.setup.dim settings.now above.now first n child.old }
+    ensures { (n : ℕ) → IsAhead settings.now.setup.dim settings.now above.now first n child.old
+        → IsChild settings.now.setup.dim settings.now above.now n child.new }
 {
-    if are_in_one_row::<AXES>(&child.digits, &digits) {
-        step_to::<AXES>(settings, above, child, digits);
-    } else {
-        turn_to::<AXES>(settings, above, child, digits);
-    }
+    let dim = dim_in::<AXES>(settings);
+    let step = child.step;
+    let place = child_at(&above.place, step.digits);
+    child.cell.place = place;
+    above
+        .state
+        .turn(AXES, first, &mut child.cell.state, step.ups, step.digits);
+    child.cell.state.set_row(AXES, &mut child.cell.row);
+    let row_ages = above.ages.row(dim, step.digits);
+    child.row_ages = row_ages;
+    let ages = child_ages::<AXES>(settings, above, row_ages, step.digits);
+    child.cell.ages = ages;
+}
+
+// Makes the place of a child that of the child at these digits, of the same row.
+#[inline(always)]
+fn step_place<const AXES: u8>(parent: &Place, place: &mut Place, digits: Digits)
+    requires axes { IsDim AXES }
+    requires parent { IsCellPlace AXES parent.now }
+    requires digits { IsDigits AXES digits }
+    ensures { (from : SomeDigits) → IsDigits AXES from → AgreeBefore (AXES - 1) from digits
+        → place.old ≡ child_at parent.now from → place.new ≡ child_at parent.now digits }
+{
+    let last = (AXES - 1) as usize;
+    place.pos[last] = 3 * parent.pos[last] + digits.k[last] as u64;
 }

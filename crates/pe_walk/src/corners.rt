@@ -9,7 +9,7 @@ ghost use Rattle.pe_stacks.specs.RecordsOut.{RecordsOut, held_by};
 ghost use Rattle.pe_mapping.specs.Held.{found_of};
 ghost use Rattle.pe_adapt.specs.Ages.{GiveKinds};
 ghost use Rattle.pe_walk.specs.Machine.{load_all, store_all};
-ghost use Rattle.pe_adapt.specs.WalkedCells.{IsWalked, setting_in, ports_of, machine_in_hand, failure_in};
+ghost use Rattle.pe_adapt.specs.WalkedCells.{IsWalked, setting_in, stream_stacks_of, machine_in_hand, failure_in};
 ghost use Rattle.pe_adapt.specs.TouchCalls.{MayGo, GoesAlong, hand_of, filled_in};
 ghost use Rattle.pe_walk.specs.Corners.{AreOf, filled_in_corners, seen_slots};
 
@@ -63,9 +63,9 @@ fn load_quads<const AXES: u8, M: Mapping, DV: Depot<Vertex<M::V>>>(
     requires kinds { GiveKinds (M.held m.old).dim settings.now.traversal cell.now.place (corner_records M.numbers.vertex parents.old) cell.now.ages }
     requires full { IsFull (M.held m.old).dim parents.old }
     requires empty { corners.old ≡ no_vertices (M.held m.old).dim }
-    requires fits { MayGo M.rules M.numbers settings.now (λ set. load_all set (ports_of settings.now) cell.now.place (2 ^ (M.held m.old).dim) [])
+    requires fits { MayGo M.rules M.numbers settings.now (λ set. load_all set (stream_stacks_of settings.now) cell.now.place (2 ^ (M.held m.old).dim) [])
         (hand_of (M.held m.old) (DV.holds dv.old) (DV.room dv.old) parents.old parent.old progress.old) }
-    ensures goes { GoesAlong M.rules M.numbers settings.now (λ set. load_all set (ports_of settings.now) cell.now.place (2 ^ (M.held m.old).dim) [])
+    ensures goes { GoesAlong M.rules M.numbers settings.now (λ set. load_all set (stream_stacks_of settings.now) cell.now.place (2 ^ (M.held m.old).dim) [])
         (λ machine. (seen_slots M.numbers.vertex corners.new, machine)) 0 (filled_in_corners corners.new) result
         (hand_of (M.held m.old) (DV.holds dv.old) (DV.room dv.old) parents.old parent.old progress.old)
         (hand_of (M.held m.new) (DV.holds dv.new) (DV.room dv.new) parents.new parent.new progress.new) }
@@ -96,9 +96,9 @@ fn store_quads<const AXES: u8, M: Mapping, DV: Depot<Vertex<M::V>>>(
     requires corners { AreOf (M.held m.old).dim corners.old }
     requires filled { filled_in_corners corners.old ≡ 2 ^ (M.held m.old).dim }
     requires out { 2 ^ (M.held m.old).dim ≤ (DV.holds dv.old).out }
-    requires fits { MayGo M.rules M.numbers settings.now (λ set. store_all set (ports_of settings.now) cell.now.place 0 (seen_slots M.numbers.vertex corners.old))
+    requires fits { MayGo M.rules M.numbers settings.now (λ set. store_all set (stream_stacks_of settings.now) cell.now.place 0 (seen_slots M.numbers.vertex corners.old))
         (hand_of (M.held m.old) (DV.holds dv.old) (DV.room dv.old) parents.old parent.old progress.old) }
-    ensures goes { GoesAlong M.rules M.numbers settings.now (λ set. store_all set (ports_of settings.now) cell.now.place 0 (seen_slots M.numbers.vertex corners.old))
+    ensures goes { GoesAlong M.rules M.numbers settings.now (λ set. store_all set (stream_stacks_of settings.now) cell.now.place 0 (seen_slots M.numbers.vertex corners.old))
         (λ machine. machine) (2 ^ (M.held m.old).dim) (filled_in_corners corners.new) result
         (hand_of (M.held m.old) (DV.holds dv.old) (DV.room dv.old) parents.old parent.old progress.old)
         (hand_of (M.held m.new) (DV.holds dv.new) (DV.room dv.new) parents.new parent.new progress.new) }
@@ -130,10 +130,10 @@ pub(crate) fn load_corners<const AXES: u8, M: Mapping, DV: Depot<Vertex<M::V>>>(
     requires full { IsFull (M.held m.old).dim parents.old }
     requires empty { corners.old ≡ no_vertices (M.held m.old).dim }
     requires fits { (cells : Holdings (List ℤ)) → Fits
-        (load_all (setting_in M.rules (M.held m.old) settings.now) (ports_of settings.now) cell.now.place (2 ^ (M.held m.old).dim) []
+        (load_all (setting_in M.rules (M.held m.old) settings.now) (stream_stacks_of settings.now) cell.now.place (2 ^ (M.held m.old).dim) []
         (machine_in_hand M.numbers (DV.holds dv.old) cells parents.old parent.old (M.held m.old).list progress.old.tally)) }
     ensures follows { (cells : Holdings (List ℤ)) (room : ℕ → ℕ) → Follows
-        (load_all (setting_in M.rules (M.held m.old) settings.now) (ports_of settings.now) cell.now.place (2 ^ (M.held m.old).dim) []
+        (load_all (setting_in M.rules (M.held m.old) settings.now) (stream_stacks_of settings.now) cell.now.place (2 ^ (M.held m.old).dim) []
         (machine_in_hand M.numbers (DV.holds dv.old) cells parents.old parent.old (M.held m.old).list progress.old.tally))
         (λ done. (corner_records M.numbers.vertex corners.new, machine_in_hand M.numbers (DV.holds dv.new) cells parents.new parent.new (M.held m.new).list progress.new.tally))
         (read_by (failure_in progress.new) result) (found_of (M.held m.old) (held_by (DV.holds dv.old) (DV.room dv.old)) room) (M.held m.new).told }
@@ -172,10 +172,10 @@ pub(crate) fn store_corners<const AXES: u8, M: Mapping, DV: Depot<Vertex<M::V>>>
     requires loaded { IsFull (M.held m.old).dim corners.old }
     requires out { 2 ^ (M.held m.old).dim ≤ (DV.holds dv.old).out }
     requires fits { (cells : Holdings (List ℤ)) → Fits
-        (store_all (setting_in M.rules (M.held m.old) settings.now) (ports_of settings.now) cell.now.place 0 (corner_records M.numbers.vertex corners.old)
+        (store_all (setting_in M.rules (M.held m.old) settings.now) (stream_stacks_of settings.now) cell.now.place 0 (corner_records M.numbers.vertex corners.old)
         (machine_in_hand M.numbers (DV.holds dv.old) cells parents.old parent.old (M.held m.old).list progress.old.tally)) }
     ensures follows { (cells : Holdings (List ℤ)) (room : ℕ → ℕ) → Follows
-        (store_all (setting_in M.rules (M.held m.old) settings.now) (ports_of settings.now) cell.now.place 0 (corner_records M.numbers.vertex corners.old)
+        (store_all (setting_in M.rules (M.held m.old) settings.now) (stream_stacks_of settings.now) cell.now.place 0 (corner_records M.numbers.vertex corners.old)
         (machine_in_hand M.numbers (DV.holds dv.old) cells parents.old parent.old (M.held m.old).list progress.old.tally))
         (λ done. machine_in_hand M.numbers (DV.holds dv.new) cells parents.new parent.new (M.held m.new).list progress.new.tally)
         (read_by (failure_in progress.new) result) (found_of (M.held m.old) (held_by (DV.holds dv.old) (DV.room dv.old)) room) (M.held m.new).told }

@@ -5,9 +5,8 @@ ghost use Rattle.pe_base.specs.Tree.Dim.{IsDim};
 ghost use Rattle.pe_base.specs.Acts.Effects.{VertexRecord};
 ghost use Rattle.pe_stacks.specs.Corners.{IsFull};
 ghost use Rattle.pe_mapping.specs.Held.{max_level, found_of};
-ghost use Rattle.pe_stacks.specs.Holdings.{items_at};
 ghost use Rattle.pe_stacks.specs.Sights.{corner_records};
-ghost use Rattle.pe_hang.specs.InHand.{setting_of, vertices_on_stacks, cells_on_stacks, Stays};
+ghost use Rattle.pe_hang.specs.InHand.{setting_of, cells_on_stacks, Stays};
 ghost use Rattle.pe_stacks.specs.RecordsOut.{RecordsOut, held_by};
 ghost use Rattle.pe_base.specs.Calls.Follows.{read_by};
 ghost use Rattle.pe_adapt.specs.Stops.{failure_of};
@@ -15,7 +14,7 @@ ghost use Rattle.pe_adapt.specs.Ages.{AreAgesOf, GiveKinds};
 ghost use Rattle.pe_walk.specs.Machine.{kind_among};
 ghost use Rattle.pe_adapt.specs.WalkedCells.{IsWalked, machine_in_hand};
 ghost use Rattle.pe_order.specs.CellTraffic.{CountsAreFew};
-ghost use Rattle.pe_walk.specs.Beneath.{KeepsBeneath};
+ghost use Rattle.pe_walk.specs.Beneath.{LeavesBeneath};
 ghost use Rattle.pe_walk.specs.FaceLaw.{Moment, IsCalledAt, MayCall, CellAnswers, by_address};
 
 use crate::axes;
@@ -70,8 +69,9 @@ fn walked_cell(
 /// earlier cells, and on the input stacks the vertices and cells that it reads. `parents` and `parent` are the corners and the
 /// record of the cell's parent, `digits` the cell's digits there, and `state` is its state in the way of this traversal.
 /// Afterwards what arrived and was read is gone. What leaves the cell at its faces to later cells lies on their stacks, what
-/// it writes on the output stacks, and all beneath is as it was, each vertex there with its values. All values are those of the walk by address. The tally counts
-/// on, and each stack has moved just what the loads and stores within the cell ask for.
+/// it writes on the output stacks, and all beneath is as it was, each vertex and each cell there with its values. All values
+/// are those of the walk by address. The tally counts on, and each stack has moved just what the loads and stores within the
+/// cell ask for.
 ///
 /// It ends as `traverse` does: with `Event`, `CellLimit` or `Memory`. After an error nothing of the cell stays out.
 pub fn walk_cell<M: Mapping, DV: Depot<Vertex<M::V>>, DC: Depot<CellRec<M::C>>>(
@@ -107,7 +107,8 @@ pub fn walk_cell<M: Mapping, DV: Depot<Vertex<M::V>>, DC: Depot<CellRec<M::C>>>(
     ensures beneath { OnOk result ((moment : Moment)
         → MayCall (setting_of M.rules (M.held m.old) setup.now.start_level setup.now.max_cells traversal) setup.now.max_level at.now input cell_input
         (machine_in_hand M.numbers (DV.holds dv.old) (cells_on_stacks M.numbers (DC.holds dc.old)) parents.old parent.old (M.held m.old).list tally.old) moment
-        → (s : ℕ) → KeepsBeneath (length (moment.beneath s)) (items_at (vertices_on_stacks M.numbers (DV.holds dv.old)) s) (items_at (vertices_on_stacks M.numbers (DV.holds dv.new)) s)) }
+        → LeavesBeneath moment (machine_in_hand M.numbers (DV.holds dv.old) (cells_on_stacks M.numbers (DC.holds dc.old)) parents.old parent.old (M.held m.old).list tally.old)
+        (machine_in_hand M.numbers (DV.holds dv.new) (cells_on_stacks M.numbers (DC.holds dc.new)) parents.new parent.new (M.held m.new).list tally.new)) }
     ensures left { RecordsOut 0 0 (DV.holds dv.old) (DV.room dv.old) (DV.holds dv.new) (DV.room dv.new) (is_err result) }
     ensures cells_left { RecordsOut 0 0 (DC.holds dc.old) (DC.room dc.old) (DC.holds dc.new) (DC.room dc.new) (is_err result) }
     ensures stays { Stays M.numbers.vertex (M.held m.old) (M.held m.new) parents.old parents.new }

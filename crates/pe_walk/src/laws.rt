@@ -13,7 +13,7 @@ ghost use Rattle.pe_walk.specs.Standing.{KindsAreFound};
 ghost use Rattle.pe_walk.specs.Gridded.{StacksAreAddresses};
 ghost use Rattle.pe_walk.specs.Beneath.{BeneathIsLeft, BeneathStays};
 ghost use Rattle.pe_walk.specs.CornerLaw.{LoadOfACorner, StoreOfACorner};
-ghost use Rattle.pe_walk.specs.FaceLaw.{LawOfAFace, CellsAreExact, FirstCellMayBeWalked, FirstChildMayBeWalked, NextCellMayBeWalked};
+ghost use Rattle.pe_walk.specs.FaceLaw.{LawOfAFace, CellsAreExact, FirstCellMayBeWalked, FirstChildMayBeWalked, NextCellMayBeWalked, LastChildEndsTheCell};
 ghost use Rattle.pe_walk.specs.Traversing.{CountsStay};
 ghost use Rattle.pe_walk.specs.TraversalTraffic.{TallyIsForeseen, TraversalsAreExact};
 
@@ -55,7 +55,7 @@ pub fn law_of_a_face<E: Effects>()
 {}
 
 /// The walk of a cell does the same whatever lies beneath what it takes, and leaves all records there as they are. So, where a
-/// cell may be walked, the vertices beneath are afterwards where they were, each with its values.
+/// cell may be walked, the vertices and the cells beneath are afterwards where they were, each with its values.
 pub fn beneath_is_left<E: Effects>()
     ensures left { BeneathIsLeft E.Plan }
     ensures stays { BeneathStays E.Plan }
@@ -69,11 +69,12 @@ pub fn cells_are_exact<E: Effects>()
 
 /// Where a traversal may begin and its first event is done, the first child of the root may be walked by `walk_cell`. So may the
 /// first child of a cell of any level, once the cell was entered where it may be walked; and at every level, once a child was
-/// walked, so may the next.
+/// walked, so may the next. Once all children were walked, the cell is left and its corners are stored, and so its own walk ends.
 pub fn cells_in_turn<E: Effects>()
     ensures first { FirstCellMayBeWalked E.Plan }
     ensures below { FirstChildMayBeWalked E.Plan }
     ensures next { NextCellMayBeWalked E.Plan }
+    ensures last { LastChildEndsTheCell E.Plan }
 {}
 
 /// A traversal of the machine of lists adds the text of the walk by address and ends alike, with the next grid on its stacks.

@@ -9,7 +9,6 @@ mod count;
 mod face;
 mod hand;
 pub mod laws;
-mod order;
 mod quad;
 mod root;
 mod traversal;

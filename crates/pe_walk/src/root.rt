@@ -12,7 +12,7 @@ ghost use Rattle.pe_base.specs.Calls.Follows.{Follows, Fits, wanting, read_by};
 ghost use Rattle.pe_stacks.specs.RecordsOut.{RecordsOut, held_by};
 ghost use Rattle.pe_adapt.specs.CountedTouches.{Machine as AMachine};
 ghost use Rattle.pe_walk.specs.Machine.{root_corners, traverse};
-ghost use Rattle.pe_adapt.specs.WalkedCells.{setting_in, ports_of, machine_in_hand, failure_in};
+ghost use Rattle.pe_adapt.specs.WalkedCells.{setting_in, stream_stacks_of, machine_in_hand, failure_in};
 ghost use Rattle.pe_walk.specs.InHand.{machine_between};
 ghost use Rattle.pe_walk.specs.Visits.{walk_root, with_vertices, CountsCells, Walks, WalkLeft, hands_of};
 
@@ -42,10 +42,10 @@ fn lend_corners<M: Mapping, DV: Depot<Vertex<M::V>>>(
     requires dim { (M.held m.old).dim ≡ settings.now.setup.dim }
     requires empty { corners.old ≡ no_vertices settings.now.setup.dim }
     requires fits { (rest : AMachine) × Fits
-        (root_corners (setting_in M.rules (M.held m.old) settings.now) (ports_of settings.now) (2 ^ (M.held m.old).dim) []
+        (root_corners (setting_in M.rules (M.held m.old) settings.now) (stream_stacks_of settings.now) (2 ^ (M.held m.old).dim) []
         (with_vertices (vertices_on_stacks M.numbers (DV.holds dv.old)) (M.held m.old).list rest)) }
     ensures follows { (rest : AMachine) (cells : ℕ → ℕ) → Follows
-        (root_corners (setting_in M.rules (M.held m.old) settings.now) (ports_of settings.now) (2 ^ (M.held m.old).dim) []
+        (root_corners (setting_in M.rules (M.held m.old) settings.now) (stream_stacks_of settings.now) (2 ^ (M.held m.old).dim) []
         (with_vertices (vertices_on_stacks M.numbers (DV.holds dv.old)) (M.held m.old).list rest))
         (λ done. (corner_records M.numbers.vertex corners.new, with_vertices (vertices_on_stacks M.numbers (DV.holds dv.new)) (M.held m.new).list rest))
         (read_by (λ error. wanting) result) (found_of (M.held m.old) (held_by (DV.holds dv.old) (DV.room dv.old)) cells) (M.held m.new).told }
@@ -119,10 +119,10 @@ fn walk_root<M: Mapping, DV: Depot<Vertex<M::V>>, DC: Depot<CellRec<M::C>>>(
     requires full { IsFull settings.now.setup.dim corners.old }
     requires few { progress.old.tally.cells ≤ settings.now.setup.max_cells }
     requires fits { Fits
-        (walk_root (setting_in M.rules (M.held m.old) settings.now) (ports_of settings.now) settings.now.setup.max_level
+        (walk_root (setting_in M.rules (M.held m.old) settings.now) (stream_stacks_of settings.now) settings.now.setup.max_level
         (machine_in_hand M.numbers (DV.holds dv.old) (cells_on_stacks M.numbers (DC.holds dc.old)) corners.old root.old (M.held m.old).list progress.old.tally)) }
     ensures follows { Walks M.rules M.numbers settings.now
-        (λ set. walk_root set (ports_of settings.now) settings.now.setup.max_level)
+        (λ set. walk_root set (stream_stacks_of settings.now) settings.now.setup.max_level)
         (λ machine. machine) result
         (hands_of (M.held m.old) (DV.holds dv.old) (DV.room dv.old) (DC.holds dc.old) (DC.room dc.old) corners.old root.old progress.old)
         (hands_of (M.held m.new) (DV.holds dv.new) (DV.room dv.new) (DC.holds dc.new) (DC.room dc.new) corners.new root.new progress.new) }
@@ -161,10 +161,10 @@ pub(crate) fn walk_stacks<M: Mapping, DV: Depot<Vertex<M::V>>, DC: Depot<CellRec
     requires dim { (M.held m.old).dim ≡ settings.now.setup.dim }
     requires few { progress.old.tally.cells ≤ settings.now.setup.max_cells }
     requires fits { Fits
-        (traverse (setting_in M.rules (M.held m.old) settings.now) (ports_of settings.now) settings.now.setup.max_level
+        (traverse (setting_in M.rules (M.held m.old) settings.now) (stream_stacks_of settings.now) settings.now.setup.max_level
         (machine_between M.numbers (DV.holds dv.old) (DC.holds dc.old) root.old (M.held m.old).list progress.old.tally)) }
     ensures follows { Follows
-        (traverse (setting_in M.rules (M.held m.old) settings.now) (ports_of settings.now) settings.now.setup.max_level
+        (traverse (setting_in M.rules (M.held m.old) settings.now) (stream_stacks_of settings.now) settings.now.setup.max_level
         (machine_between M.numbers (DV.holds dv.old) (DC.holds dc.old) root.old (M.held m.old).list progress.old.tally))
         (λ done. machine_between M.numbers (DV.holds dv.new) (DC.holds dc.new) root.new (M.held m.new).list progress.new.tally)
         (read_by (failure_in progress.new) result)

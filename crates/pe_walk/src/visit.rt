@@ -15,7 +15,7 @@ ghost use Rattle.pe_base.specs.Calls.Follows.{Follows, Fits, read_by};
 ghost use Rattle.pe_stacks.specs.RecordsOut.{RecordsOut, held_by};
 ghost use Rattle.pe_mapping.specs.Held.{found_of};
 ghost use Rattle.pe_walk.specs.Machine.{kind_among, enter_cell, leave_cell};
-ghost use Rattle.pe_adapt.specs.WalkedCells.{setting_in, ports_of, machine_in_hand, failure_in};
+ghost use Rattle.pe_adapt.specs.WalkedCells.{setting_in, stream_stacks_of, machine_in_hand, failure_in};
 
 use pe_adapt::{Inner, Progress, Settings, put_down};
 use pe_base::{Event, Kind, Place};
@@ -169,10 +169,10 @@ pub(crate) fn enter_cell<M: Mapping, DC: Depot<CellRec<M::C>>>(
     requires full { IsFull (M.held m.old).dim parents.old }
     requires own_full { IsFull (M.held m.old).dim corners.old }
     requires fits { (vertices : Holdings (AVertex M.V)) × Fits
-        (enter_cell (setting_in M.rules (M.held m.old) settings.now) (ports_of settings.now) at.now (corner_records M.numbers.vertex corners.old)
+        (enter_cell (setting_in M.rules (M.held m.old) settings.now) (stream_stacks_of settings.now) at.now (corner_records M.numbers.vertex corners.old)
         (machine_in_hand M.numbers vertices (cells_on_stacks M.numbers (DC.holds dc.old)) parents.old parent.old (M.held m.old).list progress.old.tally)) }
     ensures follows { (vertices : Holdings (AVertex M.V)) (room : ℕ → ℕ) → Follows
-        (enter_cell (setting_in M.rules (M.held m.old) settings.now) (ports_of settings.now) at.now (corner_records M.numbers.vertex corners.old)
+        (enter_cell (setting_in M.rules (M.held m.old) settings.now) (stream_stacks_of settings.now) at.now (corner_records M.numbers.vertex corners.old)
         (machine_in_hand M.numbers vertices (cells_on_stacks M.numbers (DC.holds dc.old)) parents.old parent.old (M.held m.old).list progress.old.tally))
         (λ cell. (
           own_in_hand M.numbers cell corners.new,
@@ -256,12 +256,12 @@ pub(crate) fn leave_cell<M: Mapping, DC: Depot<CellRec<M::C>>>(
     requires own_full { IsFull (M.held m.old).dim corners.old }
     requires out { 0 < (DC.holds dc.old).out }
     requires fits { (vertices : Holdings (AVertex M.V)) × Fits
-        (leave_cell (setting_in M.rules (M.held m.old) settings.now) (ports_of settings.now) at.now (
+        (leave_cell (setting_in M.rules (M.held m.old) settings.now) (stream_stacks_of settings.now) at.now (
           own_in_hand M.numbers cell corners.old,
           machine_in_hand M.numbers vertices (cells_on_stacks M.numbers (DC.holds dc.old)) parents.old parent.old (M.held m.old).list progress.old.tally,
         )) }
     ensures follows { (vertices : Holdings (AVertex M.V)) (room : ℕ → ℕ) → Follows
-        (leave_cell (setting_in M.rules (M.held m.old) settings.now) (ports_of settings.now) at.now (
+        (leave_cell (setting_in M.rules (M.held m.old) settings.now) (stream_stacks_of settings.now) at.now (
           own_in_hand M.numbers cell corners.old,
           machine_in_hand M.numbers vertices (cells_on_stacks M.numbers (DC.holds dc.old)) parents.old parent.old (M.held m.old).list progress.old.tally,
         ))

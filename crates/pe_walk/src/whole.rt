@@ -9,8 +9,8 @@ ghost use Rattle.pe_base.specs.Calls.Follows.{Follows, Fits, read_by};
 ghost use Rattle.pe_stacks.specs.RecordsOut.{RecordsOut, held_by};
 ghost use Rattle.pe_adapt.specs.Stops.{failure_of};
 ghost use Rattle.pe_walk.specs.Machine.{traverse};
-ghost use Rattle.pe_walk.specs.Gridded.{ports_of};
-ghost use Rattle.pe_adapt.specs.WalkedCells.{ports_of as ports_in};
+ghost use Rattle.pe_walk.specs.Gridded.{stream_stacks_of};
+ghost use Rattle.pe_adapt.specs.WalkedCells.{stream_stacks_of as stream_stacks_in};
 ghost use Rattle.pe_walk.specs.InHand.{machine_between};
 ghost use Rattle.pe_walk.specs.Traversing.{IsAdvanced};
 
@@ -25,7 +25,7 @@ fn settings_of<C>(grid: &Grid<C>, setup: &Setup) -> Settings
     requires finished { grid.now.finished < most_traversals }
     ensures setup { result.setup ≡ setup.now }
     ensures traversal { result.traversal ≡ grid.now.finished + 1 }
-    ensures ports { ports_in result ≡ ports_of grid.now.swapped }
+    ensures streams { stream_stacks_in result ≡ stream_stacks_of grid.now.swapped }
 {
     settings_at(setup, grid.finished() + 1, grid.input(), grid.cell_input())
 }
@@ -42,10 +42,10 @@ pub(crate) fn traverse_stacks<M: Mapping, DV: Depot<Vertex<M::V>>, DC: Depot<Cel
     requires finished { grid.finished < most_traversals }
     requires cell_counts { CountsWithin (DC.holds dc.old) (2 ^ 60) }
     requires fits { Fits
-        (traverse (setting_of M.rules (M.held m.old) setup.now.start_level setup.now.max_cells (grid.finished + 1)) (ports_of grid.swapped) setup.now.max_level
+        (traverse (setting_of M.rules (M.held m.old) setup.now.start_level setup.now.max_cells (grid.finished + 1)) (stream_stacks_of grid.swapped) setup.now.max_level
         (machine_between M.numbers (DV.holds dv.old) (DC.holds dc.old) grid.root (M.held m.old).list (no_tally (grid.finished + 1)))) }
     ensures follows { Follows
-        (traverse (setting_of M.rules (M.held m.old) setup.now.start_level setup.now.max_cells (grid.finished + 1)) (ports_of grid.swapped) setup.now.max_level
+        (traverse (setting_of M.rules (M.held m.old) setup.now.start_level setup.now.max_cells (grid.finished + 1)) (stream_stacks_of grid.swapped) setup.now.max_level
         (machine_between M.numbers (DV.holds dv.old) (DC.holds dc.old) grid.root (M.held m.old).list (no_tally (grid.finished + 1))))
         (λ answer. machine_between M.numbers (DV.holds dv.new) (DC.holds dc.new) answer.0.root (M.held m.new).list answer.1)
         (read_by failure_of result) (found_of (M.held m.old) (held_by (DV.holds dv.old) (DV.room dv.old)) (held_by (DC.holds dc.old) (DC.room dc.old))) (M.held m.new).told }

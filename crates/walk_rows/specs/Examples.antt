@@ -7,11 +7,11 @@ use Rattle.pe_base.specs.Walk.Working.{no_tally}
 use Rattle.walk_rows.specs.Trials.{Trial, trial_setting}
 use Rattle.pe_stacks.specs.Grid.{input_stack, cell_input_stack}
 use Rattle.pe_stacks.specs.Holdings.{Holdings, new_holdings}
-use Rattle.pe_adapt.specs.CountedTouches.{Machine, Ports}
+use Rattle.pe_adapt.specs.CountedTouches.{Machine, StreamStacks}
 use Rattle.pe_walk.specs.Machine.{traverse}
 
-abbrev pub ports_of : Bool → Ports
-ports_of swapped = record { input = input_stack swapped; cell_input = cell_input_stack swapped }
+abbrev pub stream_stacks_of : Bool → StreamStacks
+stream_stacks_of swapped = record { input = input_stack swapped; cell_input = cell_input_stack swapped }
 
 -- nothing on any stack
 abbrev pub new_machine : Machine
@@ -25,7 +25,7 @@ new_machine = record {
 -- the first two traversals of a trial
 abbrev pub nth : Trial → ℕ → Bool → Machine → Course Machine
 nth trial traversal swapped m =
-    and_then (traverse (record (trial_setting trial 1 most_cells) { traversal = traversal }) (ports_of swapped) trial.greatest (record m { tally = no_tally traversal }))
+    and_then (traverse (record (trial_setting trial 1 most_cells) { traversal = traversal }) (stream_stacks_of swapped) trial.greatest (record m { tally = no_tally traversal }))
     (λ m. record { text = tally_line m.tally; log = []; ending = done m })
 
 abbrev pub twice : Trial → Course Machine

@@ -6,3 +6,5 @@ pub mod Grids
 pub mod Trials
 -- traversals of the machine of lists
 pub mod Examples
+-- cells that are walked by a call each
+pub mod ByCells

@@ -7,7 +7,7 @@ use Rattle.std.proofs.lemmas.Bool.{and_parts, eqb-true, eq-eqb, ne_eqb, false≢
 use Rattle.std.proofs.lemmas.List.{length-append, length-map}
 use Rattle.std.proofs.lemmas.List.Elements.{All-head, All-tail, filter_passes}
 use Rattle.pe_base.proofs.Steps.Walks.{Path, Walk}
-use Rattle.pe_base.proofs.Steps.Spans.{Spot, fits, fits_all, coarse, two, two_on, low, lead, other, split, is_even, is_other, gray, start, enter, deeper, Within, parents, gray_walk, parents-start}
+use Rattle.pe_base.proofs.Steps.AroundInCell.{Spot, fits, fits_all, coarse, two, two_on, low, lead, other, split, is_even, is_other, gray, start, enter, deeper, Within, parents, gray_walk, parents-start}
 use Rattle.pe_base.proofs.Steps.Levels.{cells, holders, holders-suc, entry, entry-child, or_else, coarsest}
 use Rattle.pe_base.proofs.Tree.Corners.{same_tests}
 

@@ -8,7 +8,7 @@ use Rattle.std.proofs.lemmas.List.Elements.{filter-append, filter_passes, All-he
 use Rattle.pe_base.specs.Tree.Curve.{mirrored}
 use Rattle.pe_base.proofs.Tree.CurveLaws.{sum-cons}
 use Rattle.pe_base.proofs.Steps.Walks.{Step, Path, Walk, Path-join, Path-weaker}
-use Rattle.pe_base.proofs.Steps.Spans.{Spot, Fit, fit, fits, fits_all, coarse, two, low, two_on, low_on, lead, other, split, is_even, gray, start, enter, Crosses, parents, Within, start-parity, parents-start, gray_walk}
+use Rattle.pe_base.proofs.Steps.AroundInCell.{Spot, Fit, fit, fits, fits_all, coarse, two, low, two_on, low_on, lead, other, split, is_even, gray, start, enter, Crosses, parents, Within, start-parity, parents-start, gray_walk}
 
 at_plane : (on whole near even : Bool) (x : ℕ) → on ≡ true → whole ≡ true → near ≡ true → lead (two_on on whole) even (low_on on whole near x) ≡ x
 at_plane false whole near even x o w n = absurd (false≢true o)

@@ -16,9 +16,9 @@ use Rattle.pe_base.proofs.Tree.Mirrors.{up}
 use Rattle.pe_base.proofs.Tree.Ranks.{list_any-Each, same_places}
 use Rattle.pe_base.proofs.Faces.FaceLists.{face_of, up_cell, across-up}
 use Rattle.pe_base.proofs.Steps.Walks.{Path}
-use Rattle.pe_base.proofs.Steps.Spans.{Spot, fits, fits_all, coarse, Crosses}
+use Rattle.pe_base.proofs.Steps.AroundInCell.{Spot, fits, fits_all, coarse, Crosses}
 use Rattle.pe_base.proofs.Steps.Levels.{entry, coarsest, Round, round}
-use Rattle.pe_base.proofs.Steps.Rounds.{spots, around-holders}
+use Rattle.pe_base.proofs.Steps.AroundAsGrid.{spots, around-holders}
 
 -- a position is that on the grid's axes, and 0 behind it
 replicate-rest : (xs : List ℕ) (n : ℕ) → length xs ≡ n → ((i : ℕ) → slice_index xs i ≡ 0) → xs ≡ replicate n 0

@@ -13,9 +13,9 @@ use Rattle.pe_base.specs.Tree.Places.{IsInside, at}
 use Rattle.pe_base.specs.Steps.Around.{around, steps, threes, is_slower, crossings}
 use Rattle.pe_base.specs.Steps.Routes.{way_turns, axis_of}
 use Rattle.pe_base.proofs.Steps.Walks.{Path}
-use Rattle.pe_base.proofs.Steps.Spans.{Spot, coarse, two, two_on, Crosses}
+use Rattle.pe_base.proofs.Steps.AroundInCell.{Spot, coarse, two, two_on, Crosses}
 use Rattle.pe_base.proofs.Steps.Levels.{holders, entry}
-use Rattle.pe_base.proofs.Steps.Rounds.{spots, around-holders}
+use Rattle.pe_base.proofs.Steps.AroundAsGrid.{spots, around-holders}
 use Rattle.pe_base.proofs.Steps.RouteLaws.{Below-front, length-front, at-front, round_at, steps-round, axis_of-step, fits_vertex}
 use Rattle.pe_base.proofs.Steps.CrossingLaws.{one, tally, is_axis, ons, on_at, two_at, before, Strict, strict-at, strict-coarse, slow, crossed-slow, at-old, size}
 use Rattle.pe_base.proofs.Tree.Corners.{same_tests}

@@ -13,9 +13,9 @@ use Rattle.pe_base.proofs.Lists.{Each-weaker, Each-filter, In, In-append_left, I
 use Rattle.pe_base.proofs.Tree.Ranks.{same_list}
 use Rattle.pe_base.proofs.Steps.VertexTouches.{pos_itself}
 use Rattle.pe_base.proofs.Steps.Walks.{Path}
-use Rattle.pe_base.proofs.Steps.Spans.{Spot, fits_all, Crosses, parents, is_even}
+use Rattle.pe_base.proofs.Steps.AroundInCell.{Spot, fits_all, Crosses, parents, is_even}
 use Rattle.pe_base.proofs.Steps.Levels.{kids, cells, holders, entry}
-use Rattle.pe_base.proofs.Steps.Rounds.{spots, cells-long}
+use Rattle.pe_base.proofs.Steps.AroundAsGrid.{spots, cells-long}
 use Rattle.pe_base.proofs.Steps.RouteLaws.{Below, round_at, steps-round, axis_of-step}
 
 -- every cell is a child of its parent

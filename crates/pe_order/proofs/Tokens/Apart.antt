@@ -26,7 +26,7 @@ use Rattle.pe_order.specs.Takings.{loads_of, is_read, reads_of, Grown}
 use Rattle.pe_order.specs.Apart.{lies, occurs, IsApart, StepsKeepApart, BeginsApart}
 use Rattle.pe_order.proofs.Outlooks.{un_map}
 use Rattle.pe_order.proofs.Tokens.Stacks.{is_stack_of}
-use Rattle.pe_order.proofs.Tokens.Dues.{loaded_around}
+use Rattle.pe_order.proofs.Tokens.LoadOrder.{loaded_around}
 use Rattle.pe_order.proofs.Tokens.Keeping.{given_some, walk_keeps}
 use Rattle.pe_order.proofs.Tokens.Counting.{first_around, corners_by_counting, not_zero}
 use Rattle.pe_order.proofs.Tokens.Traversals.{lent_items, lent_stacks}

@@ -18,7 +18,7 @@ use Rattle.pe_order.specs.Takings.{cell_reads_of, MayTraverse}
 use Rattle.pe_order.specs.Apart.{lies}
 use Rattle.pe_order.specs.CellsAhead.{times, cells_below, CellsDiffer, CellsAhead, StepsKeepAhead, BeginsAhead, MovesItsCells}
 use Rattle.pe_order.proofs.Trees.{root_is_cell}
-use Rattle.pe_order.proofs.Tokens.Dues.{root_walks}
+use Rattle.pe_order.proofs.Tokens.LoadOrder.{root_walks}
 use Rattle.pe_order.proofs.Tokens.Keeping.{given_some}
 use Rattle.pe_order.proofs.Tokens.Apart.{one_if, there, set_past, lies_only}
 use Rattle.pe_order.proofs.Tokens.MoveFrames.{pushed_once, store_by, after_load, after_enter}

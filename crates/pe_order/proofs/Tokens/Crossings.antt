@@ -25,8 +25,8 @@ use Rattle.pe_order.specs.Tokens.{Outlook, turned, given, first_of, before}
 use Rattle.pe_order.specs.Takings.{loads_of, stores_of, is_read, Grown}
 use Rattle.pe_order.specs.Traffic.{takes_from, gives_to, first_vertices, crosses_on, TrafficIsCrossings, HangingLoads}
 use Rattle.pe_order.proofs.Tokens.Turning.{stores-turned}
-use Rattle.pe_order.proofs.Tokens.Passages.{far_input, gives_by-turned}
-use Rattle.pe_order.proofs.Tokens.Dues.{loaded_around}
+use Rattle.pe_order.proofs.Tokens.OneStack.{far_input, gives_by-turned}
+use Rattle.pe_order.proofs.Tokens.LoadOrder.{loaded_around}
 use Rattle.pe_order.proofs.Tokens.Counting.{first_around}
 use Rattle.pe_order.proofs.Tokens.Apart.{one_if, firsts}
 use Rattle.pe_order.proofs.Tokens.Streams.{fits_turned}

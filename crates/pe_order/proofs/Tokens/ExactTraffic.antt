@@ -29,7 +29,7 @@ use Rattle.pe_order.specs.Traffic.{tallest, height, entered_cells, departed_cell
 use Rattle.pe_order.specs.Frames.{HasStacks}
 use Rattle.pe_order.specs.Tallies.{IsOfKinds, counted_traversal, is_created, is_destroyed, is_hung, TallyRises, ExactTraffic, TrafficByTally}
 use Rattle.pe_order.proofs.Trees.{root_is_cell}
-use Rattle.pe_order.proofs.Tokens.Dues.{root_walks}
+use Rattle.pe_order.proofs.Tokens.LoadOrder.{root_walks}
 use Rattle.pe_order.proofs.Tokens.Walks.{children_levels}
 use Rattle.pe_order.proofs.Tokens.Traversals.{root_corners}
 use Rattle.pe_order.proofs.Tokens.Turning.{stores-turned}

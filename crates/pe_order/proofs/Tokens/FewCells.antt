@@ -17,7 +17,7 @@ use Rattle.pe_order.specs.Tokens.{Outlook}
 use Rattle.pe_order.specs.Takings.{loads_of, Grown}
 use Rattle.pe_order.specs.Traffic.{entered_cells, first_vertices}
 use Rattle.pe_order.specs.FewCells.{WalksAtCounting, FewCells}
-use Rattle.pe_order.proofs.Tokens.Dues.{root_walks}
+use Rattle.pe_order.proofs.Tokens.LoadOrder.{root_walks}
 use Rattle.pe_order.proofs.Tokens.Walks.{children_levels}
 use Rattle.pe_order.proofs.Tokens.Apart.{one_if}
 use Rattle.pe_order.proofs.Tokens.Traffic.{loads_length}

@@ -21,7 +21,7 @@ use Rattle.pe_order.specs.CellsAhead.{times}
 use Rattle.pe_order.specs.Traffic.{first_vertices, FirstVerticesCount}
 use Rattle.pe_order.proofs.Tests.{some_power}
 use Rattle.pe_order.proofs.Trees.{root_is_cell}
-use Rattle.pe_order.proofs.Tokens.Dues.{loaded_around}
+use Rattle.pe_order.proofs.Tokens.LoadOrder.{loaded_around}
 use Rattle.pe_order.proofs.Tokens.Counting.{first_around}
 use Rattle.pe_order.proofs.Tokens.Apart.{one_if, reading, its_loads, reads_once}
 use Rattle.pe_order.proofs.Tokens.CountLists.{count-cons}

@@ -25,7 +25,7 @@ use Rattle.pe_order.proofs.Tokens.CountLists.{count-append}
 use Rattle.pe_order.specs.Takings.{loads_of, is_read, reads_of, Grown}
 use Rattle.pe_order.specs.Traffic.{entered_cells, FewVertices, OnlyCounting, StepsKeepCounting, BeginsCounting, StacksAreShort}
 use Rattle.pe_order.proofs.Tokens.Stacks.{popped_same, popped_other, pushed_same, pushed_other}
-use Rattle.pe_order.proofs.Tokens.Dues.{loaded_around, root_walks}
+use Rattle.pe_order.proofs.Tokens.LoadOrder.{loaded_around, root_walks}
 use Rattle.pe_order.proofs.Tokens.Keeping.{given_some, walk_keeps}
 use Rattle.pe_order.proofs.Tokens.Apart.{map_some, one_if, there, set_past}
 use Rattle.pe_order.proofs.Tokens.DepotCounts.{count_none}

@@ -26,7 +26,7 @@ use Rattle.pe_order.specs.StreamLaws.{FitsTurned, StreamsAreOne}
 use Rattle.pe_order.proofs.Unwalked.{contains_in, in_contains, all_each, tree_either, contained_either}
 use Rattle.pe_order.proofs.Trees.{root_is_cell}
 use Rattle.pe_order.proofs.Tokens.Keeping.{kids_in_tree}
-use Rattle.pe_order.proofs.Tokens.Dues.{loads_filtered, kids_walked, root_walked}
+use Rattle.pe_order.proofs.Tokens.LoadOrder.{loads_filtered, kids_walked, root_walked}
 
 -- a cell of the tree of one way is one of the other
 cell_turned : (axes : ℕ) (way : Way) (cell : Place) → IsCell axes (opposite way) cell → IsCell axes way cell

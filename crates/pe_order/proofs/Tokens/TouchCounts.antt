@@ -22,7 +22,7 @@ use Rattle.pe_order.specs.Tallies.{is_created, is_destroyed, is_hung}
 use Rattle.pe_order.proofs.Derived.{corners_cross_once}
 use Rattle.pe_order.proofs.Tokens.Walks.{each_below}
 use Rattle.pe_order.proofs.Tokens.Keeping.{kids_in_tree}
-use Rattle.pe_order.proofs.Tokens.Passages.{far_input}
+use Rattle.pe_order.proofs.Tokens.OneStack.{far_input}
 use Rattle.pe_order.proofs.Tokens.Apart.{one_if}
 use Rattle.pe_order.proofs.Tokens.Short.{sum-same}
 use Rattle.pe_order.proofs.Tokens.DepotCounts.{count_none}

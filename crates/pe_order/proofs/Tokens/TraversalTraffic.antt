@@ -18,7 +18,7 @@ use Rattle.pe_stacks.specs.Holdings.{new_stack, stack_count}
 use Rattle.pe_order.specs.Tokens.{Outlook, Tokens, each_some, source, target, numbers, begun, ended, walk, traverse}
 use Rattle.pe_order.specs.Takings.{loads_of, stores_of, Grown}
 use Rattle.pe_order.proofs.Trees.{root_is_cell}
-use Rattle.pe_order.proofs.Tokens.Dues.{root_walks}
+use Rattle.pe_order.proofs.Tokens.LoadOrder.{root_walks}
 use Rattle.pe_order.proofs.Tokens.Traversals.{root_corners}
 use Rattle.pe_order.specs.Traffic.{takes_from, makes, gives_to, ends, tallest, height, HasMovedAll, TrafficOfATraversal}
 use Rattle.pe_order.proofs.Tokens.Keeping.{kids_in_tree}

@@ -27,9 +27,9 @@ use Rattle.pe_order.specs.TokenLaws.{WalkOfACell, LoadsAreDue, LoadedAround, Who
 use Rattle.pe_order.proofs.Trees.{root_is_cell, cell_position}
 use Rattle.pe_order.proofs.Derived.{faces_are_one_way}
 use Rattle.pe_order.proofs.Tokens.Loads.{due-split, met-append}
-use Rattle.pe_order.proofs.Tokens.Passages.{Passage, passage, token_stretch}
+use Rattle.pe_order.proofs.Tokens.OneStack.{Passage, passage, token_stretch}
 use Rattle.pe_order.proofs.Tokens.Walks.{CellPassage, cell_passage, cell_stretch, walk_each, walks, kids_are_cells}
-use Rattle.pe_order.proofs.Tokens.Dues.{due_from, loaded_around, all_due, root_walks}
+use Rattle.pe_order.proofs.Tokens.LoadOrder.{due_from, loaded_around, all_due, root_walks}
 
 -- the faces of the root have no neighbour
 root_alone : (axes : ℕ) (way : Way) (face : Face) (neighbour : Place) → IsDim axes → IsFace axes face → IsCell axes way neighbour → ShareFace face root neighbour → ⊥

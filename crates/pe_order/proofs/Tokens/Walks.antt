@@ -26,7 +26,7 @@ use Rattle.pe_order.proofs.Trees.{cell_position, child_is_cell}
 use Rattle.pe_order.proofs.Derived.{corners_cross_once}
 use Rattle.pe_order.proofs.Tokens.Loads.{taken_from, put_to, vertices_of, takes_by, touched, touched-reverse, all_loads, all_stores, GoesWithin, met-append, due-split}
 use Rattle.pe_order.proofs.Tokens.Turning.{children-turned, cell_writes-turned}
-use Rattle.pe_order.proofs.Tokens.Passages.{own_takes, own_gives, take_all, give_all, token_stretch, passage}
+use Rattle.pe_order.proofs.Tokens.OneStack.{own_takes, own_gives, take_all, give_all, token_stretch, passage}
 use Rattle.pe_order.proofs.Tokens.Bounds.{few_stacks, few_cell_stacks}
 
 -- what a cell takes for itself, and what its children take

@@ -17,7 +17,7 @@ use Rattle.pe_base.specs.Walk.Touches.{kind_below, kind_of_children}
 use Rattle.pe_base.proofs.Walk.Families.{Each-range}
 use Rattle.pe_base.proofs.Walk.Slots.{is_hung}
 use Rattle.pe_order.specs.Tokens.{Outlook, Tokens}
-use Rattle.pe_walk.specs.Standing.{Foresight, Foresees, Outset, Stage, IsStage, Holds, IsOutset, IsFair, IsIdle}
+use Rattle.pe_walk.specs.Standing.{Foresight, Foresees, ForeseenStart, Stage, IsStage, Holds, IsForeseenStart, IsFair, IsIdle}
 use Rattle.pe_walk.proofs.Simulation.LoadedKinds.{found_stored, idle_if}
 
 -- a record's ages are those foreseen of a vertex
@@ -61,7 +61,7 @@ module _ {Plan : Type 0} (set : Setting Plan) (o : Outlook) (f : Foresight) (see
       news [] h = refl
       news (k ∷ ks) h = ap₂ (λ a b. a || b) h.0 (news ks h.1)
 
-module _ {Plan : Type 0} (set : Setting Plan) (e : Outset) (walked : Place → Bool) (is : IsOutset set e walked) (st : Stage) (w : Working) (t : Tokens) (h : Holds set e st w t) where
+module _ {Plan : Type 0} (set : Setting Plan) (e : ForeseenStart) (walked : Place → Bool) (is : IsForeseenStart set e walked) (st : Stage) (w : Working) (t : Tokens) (h : Holds set e st w t) where
   -- the corners of the parent have the ages that are foreseen
   pub parents_aged : (k : ℕ) → k < 2 ^ set.axes → HasAges e.foresight (corner set.axes st.parent k) (record_at set.axes w st.parent k)
   parents_aged k small =

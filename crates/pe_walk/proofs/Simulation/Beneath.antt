@@ -17,7 +17,7 @@ use Rattle.pe_stacks.proofs.StackAt.{stack_count-pushed, stack_at-pushed, stack_
 use Rattle.pe_hang.specs.Moves.{may_rise, lend, give_up, top_of, pop, push}
 use Rattle.pe_adapt.specs.Touches.{Desk, kind_in_hand, lent_vertex, popped_vertex, comes, goes, stack_or}
 use Rattle.pe_adapt.specs.Touches as corners
-use Rattle.pe_adapt.specs.CountedTouches.{Machine, Ports, cell_output, output, tally_may_rise, is_placed, desk_of, load_corner, store_corner}
+use Rattle.pe_adapt.specs.CountedTouches.{Machine, StreamStacks, cell_output, output, tally_may_rise, is_placed, desk_of, load_corner, store_corner}
 use Rattle.pe_walk.specs.Machine as machine
 use Rattle.pe_walk.specs.Beneath.{StackOver, IsOver, LiesOver, BeneathIsLeft}
 
@@ -163,7 +163,7 @@ module _ {X : Type 0} (b : ℕ → List X) where
           (λ t apart. (stack_at-pushed_other h0 (pushed h0 s x) s t x refl apart, stack_at-pushed_other h (pushed h s x) s t x refl apart))
 
 -- # The machine
-module _ {Plan : Type 0} (set : Setting Plan) (ports : Ports) (b : ℕ → List VertexRecord) (c : ℕ → List (List ℤ)) where
+module _ {Plan : Type 0} (set : Setting Plan) (streams : StreamStacks) (b : ℕ → List VertexRecord) (c : ℕ → List (List ℤ)) where
   abbrev Over : Machine → Machine → Type 0
   Over m0 m = LiesOver b c m0 m
 
@@ -214,14 +214,14 @@ module _ {Plan : Type 0} (set : Setting Plan) (ports : Ports) (b : ℕ → List 
       (λ a0 a h. come-by (λ x. Goes ComeOver (touch a0) (touch x)) a0 a h
       (λ now over. core-then ComeOver (load_touch set kind (is_none origin) a0.0 vertex a0.1.family) _ _ (λ it. (refl, (refl, over, refl)))))
 
-  load-goes : (cell : Place) (k : ℕ) (m0 m : Machine) → Over m0 m → Goes PairOver (load_corner set ports cell k m0) (load_corner set ports cell k m)
-  load-goes cell k m0 m o = over-by (λ x. Goes PairOver (load_corner set ports cell k m0) (load_corner set ports cell k x)) m0 m o
+  load-goes : (cell : Place) (k : ℕ) (m0 m : Machine) → Over m0 m → Goes PairOver (load_corner set streams cell k m0) (load_corner set streams cell k m)
+  load-goes cell k m0 m o = over-by (λ x. Goes PairOver (load_corner set streams cell k m0) (load_corner set streams cell k x)) m0 m o
       (λ v cs u w. let vertex = corner set.axes cell k in
       let kind = kind_in_hand set cell m0.family.parents vertex in
       let test = tally_may_rise m0.tally && is_placed set.axes kind vertex in
       allowed-if PairOver test test _ _ refl
-      (λ e. map-goes ComeOver PairOver (corners.load_corner set ports.input cell k (desk_of m0)) (corners.load_corner set ports.input cell k (desk_of (record m0 { vertices = v; cells = cs }))) _ _
-      (load_as-goes ports.input kind (stack_in set.axes (way set) vertex cell) vertex (desk_of m0) v u)
+      (λ e. map-goes ComeOver PairOver (corners.load_corner set streams.input cell k (desk_of m0)) (corners.load_corner set streams.input cell k (desk_of (record m0 { vertices = v; cells = cs }))) _ _
+      (load_as-goes streams.input kind (stack_in set.axes (way set) vertex cell) vertex (desk_of m0) v u)
       (λ a0 a h. (h.0, record { vertices = h.1; cells = w; family = h.2; tally = refl }))))
 
   goes-goes : (out : ℕ) (to : Option ℕ) (left : Option VertexRecord) (d : Desk) (v : Holdings VertexRecord) → IsOver b d.vertices v
@@ -230,83 +230,83 @@ module _ {Plan : Type 0} (set : Setting Plan) (ports : Ports) (b : ℕ → List 
   goes-goes out to (Some it) d v u =
       map-goes (IsOver b) DeskOver (push false (stack_or set out to) it d.vertices) (push false (stack_or set out to) it v) _ _ (push-goes b false (stack_or set out to) it d.vertices v u) (λ x y h. (h, refl))
 
-  store-goes : (cell : Place) (k : ℕ) (it : VertexRecord) (m0 m : Machine) → Over m0 m → Goes Over (store_corner set ports cell k it m0) (store_corner set ports cell k it m)
-  store-goes cell k it m0 m o = over-by (λ x. Goes Over (store_corner set ports cell k it m0) (store_corner set ports cell k it x)) m0 m o
+  store-goes : (cell : Place) (k : ℕ) (it : VertexRecord) (m0 m : Machine) → Over m0 m → Goes Over (store_corner set streams cell k it m0) (store_corner set streams cell k it m)
+  store-goes cell k it m0 m o = over-by (λ x. Goes Over (store_corner set streams cell k it m0) (store_corner set streams cell k it x)) m0 m o
       (λ v cs u w. let vertex = corner set.axes cell k in
       let to = stack_out set.axes (way set) vertex cell in
       let test = tally_may_rise m0.tally && is_placed set.axes it.kind vertex in
       allowed-if Over test test _ _ refl
-      (λ e. map-goes DeskOver Over (corners.store_corner set (output ports) cell k it (desk_of m0)) (corners.store_corner set (output ports) cell k it (desk_of (record m0 { vertices = v; cells = cs }))) _ _
-      (core-then DeskOver (store_touch set (is_none to) vertex it m0.family) _ _ (λ r. goes-goes (output ports) to r.0 (record (desk_of m0) { family = r.1 }) v u))
+      (λ e. map-goes DeskOver Over (corners.store_corner set (output streams) cell k it (desk_of m0)) (corners.store_corner set (output streams) cell k it (desk_of (record m0 { vertices = v; cells = cs }))) _ _
+      (core-then DeskOver (store_touch set (is_none to) vertex it m0.family) _ _ (λ r. goes-goes (output streams) to r.0 (record (desk_of m0) { family = r.1 }) v u))
       (λ a0 a h. record { vertices = h.0; cells = w; family = h.1; tally = refl })))
 
   -- all corners
-  load_all-goes : (cell : Place) (k : ℕ) (its : List VertexRecord) (m0 m : Machine) → Over m0 m → Goes PairOver (machine.load_all set ports cell k its m0) (machine.load_all set ports cell k its m)
+  load_all-goes : (cell : Place) (k : ℕ) (its : List VertexRecord) (m0 m : Machine) → Over m0 m → Goes PairOver (machine.load_all set streams cell k its m0) (machine.load_all set streams cell k its m)
   load_all-goes cell zero its m0 m o = (refl, (refl, o))
   load_all-goes cell (suc k) its m0 m o =
-      let rest : VertexRecord × Machine → Course (List VertexRecord × Machine) = λ it. machine.load_all set ports cell k (it.0 ∷ its) it.1 in
-      then-goes PairOver PairOver (load_corner set ports cell k m0) (load_corner set ports cell k m) rest rest (load-goes cell k m0 m o)
+      let rest : VertexRecord × Machine → Course (List VertexRecord × Machine) = λ it. machine.load_all set streams cell k (it.0 ∷ its) it.1 in
+      then-goes PairOver PairOver (load_corner set streams cell k m0) (load_corner set streams cell k m) rest rest (load-goes cell k m0 m o)
       (λ a0 a h. pair-by (λ x. Goes PairOver (rest a0) (rest x)) a0 a h (λ now over. load_all-goes cell k (a0.0 ∷ its) a0.1 now over))
 
-  store_all-goes : (cell : Place) (k : ℕ) (its : List VertexRecord) (m0 m : Machine) → Over m0 m → Goes Over (machine.store_all set ports cell k its m0) (machine.store_all set ports cell k its m)
+  store_all-goes : (cell : Place) (k : ℕ) (its : List VertexRecord) (m0 m : Machine) → Over m0 m → Goes Over (machine.store_all set streams cell k its m0) (machine.store_all set streams cell k its m)
   store_all-goes cell k [] m0 m o = (refl, o)
   store_all-goes cell k (it ∷ its) m0 m o =
-      then-goes Over Over (store_corner set ports cell k it m0) (store_corner set ports cell k it m) (machine.store_all set ports cell (k + 1) its) (machine.store_all set ports cell (k + 1) its)
+      then-goes Over Over (store_corner set streams cell k it m0) (store_corner set streams cell k it m) (machine.store_all set streams cell (k + 1) its) (machine.store_all set streams cell (k + 1) its)
       (store-goes cell k it m0 m o) (λ a0 a h. store_all-goes cell (k + 1) its a0 a h)
 
   -- # A cell
-  count-goes : (cell : Place) (m0 m : Machine) → Over m0 m → Goes Over (machine.count_cell set ports cell m0) (machine.count_cell set ports cell m)
-  count-goes cell m0 m o = over-by (λ x. Goes Over (machine.count_cell set ports cell m0) (machine.count_cell set ports cell x)) m0 m o
+  count-goes : (cell : Place) (m0 m : Machine) → Over m0 m → Goes Over (machine.count_cell set streams cell m0) (machine.count_cell set streams cell m)
+  count-goes cell m0 m o = over-by (λ x. Goes Over (machine.count_cell set streams cell m0) (machine.count_cell set streams cell x)) m0 m o
       (λ v cs u w. allowed-if Over (tally_may_rise m0.tally) (tally_may_rise m0.tally) _ _ refl (λ e. limited v cs u w (nat_lt set.max_cells (tally_cell cell m0.tally).cells)))
     where
       limited : (v : Holdings VertexRecord) (cs : Holdings (List ℤ)) → IsOver b m0.vertices v → IsOver c m0.cells cs → (past : Bool)
-          → Goes Over (machine.within_limit set ports cell (record m0 { tally = tally_cell cell m0.tally }) past)
-          (machine.within_limit set ports cell (record m0 { vertices = v; cells = cs; tally = tally_cell cell m0.tally }) past)
+          → Goes Over (machine.within_limit set streams cell (record m0 { tally = tally_cell cell m0.tally }) past)
+          (machine.within_limit set streams cell (record m0 { vertices = v; cells = cs; tally = tally_cell cell m0.tally }) past)
       limited v cs u w true = (refl, refl)
       limited v cs u w false = (refl, record { vertices = u; cells = w; family = refl; tally = refl })
 
   cell_lent : (m : Machine) (v : Holdings VertexRecord) (cs : Holdings (List ℤ)) → IsOver b m.vertices v → IsOver c m.cells cs
-      → Goes PairOver (machine.cell_comes set ports Born m) (machine.cell_comes set ports Born (record m { vertices = v; cells = cs }))
+      → Goes PairOver (machine.cell_comes set streams Born m) (machine.cell_comes set streams Born (record m { vertices = v; cells = cs }))
   cell_lent m v cs u w = map-goes (IsOver c) PairOver (lend m.cells) (lend cs) _ _ (lend-goes c m.cells cs w) (λ x y h. (refl, record { vertices = u; cells = h; family = refl; tally = refl }))
 
   cell_popped : (m : Machine) (v : Holdings VertexRecord) (cs : Holdings (List ℤ)) → IsOver b m.vertices v → IsOver c m.cells cs
-      → Goes PairOver (machine.cell_comes set ports Kept m) (machine.cell_comes set ports Kept (record m { vertices = v; cells = cs }))
-  cell_popped m v cs u w = map-goes (Popped c) PairOver (pop ports.cell_input m.cells) (pop ports.cell_input cs) _ _ (pop-goes c ports.cell_input m.cells cs w)
+      → Goes PairOver (machine.cell_comes set streams Kept m) (machine.cell_comes set streams Kept (record m { vertices = v; cells = cs }))
+  cell_popped m v cs u w = map-goes (Popped c) PairOver (pop streams.cell_input m.cells) (pop streams.cell_input cs) _ _ (pop-goes c streams.cell_input m.cells cs w)
       (λ x y h. (h.0, record { vertices = u; cells = h.1; family = refl; tally = refl }))
 
   cell_comes-goes : (kind : Kind) (m : Machine) (v : Holdings VertexRecord) (cs : Holdings (List ℤ)) → IsOver b m.vertices v → IsOver c m.cells cs
-      → Goes PairOver (machine.cell_comes set ports kind m) (machine.cell_comes set ports kind (record m { vertices = v; cells = cs }))
+      → Goes PairOver (machine.cell_comes set streams kind m) (machine.cell_comes set streams kind (record m { vertices = v; cells = cs }))
   cell_comes-goes Born m v cs u w = cell_lent m v cs u w
   cell_comes-goes Kept m v cs u w = cell_popped m v cs u w
   cell_comes-goes Dying m v cs u w = cell_popped m v cs u w
   cell_comes-goes Hanging m v cs u w = cell_popped m v cs u w
 
-  enter-goes : (cell : Place) (its : List VertexRecord) (m0 m : Machine) → Over m0 m → Goes PairOver (machine.enter_cell set ports cell its m0) (machine.enter_cell set ports cell its m)
-  enter-goes cell its m0 m o = over-by (λ x. Goes PairOver (machine.enter_cell set ports cell its m0) (machine.enter_cell set ports cell its x)) m0 m o
-      (λ v cs u w. let kind = machine.kind_of_cell set ports cell m0 in
+  enter-goes : (cell : Place) (its : List VertexRecord) (m0 m : Machine) → Over m0 m → Goes PairOver (machine.enter_cell set streams cell its m0) (machine.enter_cell set streams cell its m)
+  enter-goes cell its m0 m o = over-by (λ x. Goes PairOver (machine.enter_cell set streams cell its m0) (machine.enter_cell set streams cell its x)) m0 m o
+      (λ v cs u w. let kind = machine.kind_of_cell set streams cell m0 in
       let touch : List ℤ × Machine → Course (Own × Machine) = λ come. course_map (λ it. (it.0, record come.1 { family = it.1 })) (enter_touch set kind come.0 cell its come.1.family) in
-      then-goes PairOver PairOver (machine.cell_comes set ports kind m0) (machine.cell_comes set ports kind (record m0 { vertices = v; cells = cs })) touch touch (cell_comes-goes kind m0 v cs u w)
+      then-goes PairOver PairOver (machine.cell_comes set streams kind m0) (machine.cell_comes set streams kind (record m0 { vertices = v; cells = cs })) touch touch (cell_comes-goes kind m0 v cs u w)
       (λ a0 a h. pair-by (λ x. Goes PairOver (touch a0) (touch x)) a0 a h
       (λ now over. over-by (λ x. Goes PairOver (touch a0) (touch (a0.0, x))) a0.1 now over
       (λ v cs u w. core-then PairOver (enter_touch set kind a0.0 cell its a0.1.family) _ _ (λ it. (refl, (refl, record { vertices = u; cells = w; family = refl; tally = refl })))))))
 
   cell_pushed : (numbers : List ℤ) (m : Machine) (v : Holdings VertexRecord) (cs : Holdings (List ℤ)) → IsOver b m.vertices v → IsOver c m.cells cs
-      → Goes Over (machine.cell_goes set ports Kept numbers m) (machine.cell_goes set ports Kept numbers (record m { vertices = v; cells = cs }))
-  cell_pushed numbers m v cs u w = map-goes (IsOver c) Over (push true (cell_output ports) numbers m.cells) (push true (cell_output ports) numbers cs) _ _ (push-goes c true (cell_output ports) numbers m.cells cs w)
+      → Goes Over (machine.cell_goes set streams Kept numbers m) (machine.cell_goes set streams Kept numbers (record m { vertices = v; cells = cs }))
+  cell_pushed numbers m v cs u w = map-goes (IsOver c) Over (push true (cell_output streams) numbers m.cells) (push true (cell_output streams) numbers cs) _ _ (push-goes c true (cell_output streams) numbers m.cells cs w)
       (λ x y h. record { vertices = u; cells = h; family = refl; tally = refl })
 
   cell_goes-goes : (kind : Kind) (numbers : List ℤ) (m : Machine) (v : Holdings VertexRecord) (cs : Holdings (List ℤ)) → IsOver b m.vertices v → IsOver c m.cells cs
-      → Goes Over (machine.cell_goes set ports kind numbers m) (machine.cell_goes set ports kind numbers (record m { vertices = v; cells = cs }))
+      → Goes Over (machine.cell_goes set streams kind numbers m) (machine.cell_goes set streams kind numbers (record m { vertices = v; cells = cs }))
   cell_goes-goes Dying numbers m v cs u w = map-goes (IsOver c) Over (give_up m.cells) (give_up cs) _ _ (give_up-goes c m.cells cs w) (λ x y h. record { vertices = u; cells = h; family = refl; tally = refl })
   cell_goes-goes Kept numbers m v cs u w = cell_pushed numbers m v cs u w
   cell_goes-goes Born numbers m v cs u w = cell_pushed numbers m v cs u w
   cell_goes-goes Hanging numbers m v cs u w = cell_pushed numbers m v cs u w
 
-  leave-goes : (cell : Place) (own : Own) (m0 m : Machine) → Over m0 m → Goes PairOver (machine.leave_cell set ports cell (own, m0)) (machine.leave_cell set ports cell (own, m))
-  leave-goes cell own m0 m o = over-by (λ x. Goes PairOver (machine.leave_cell set ports cell (own, m0)) (machine.leave_cell set ports cell (own, x))) m0 m o
-      (λ v cs u w. let kind = machine.kind_of_cell set ports cell m0 in
+  leave-goes : (cell : Place) (own : Own) (m0 m : Machine) → Over m0 m → Goes PairOver (machine.leave_cell set streams cell (own, m0)) (machine.leave_cell set streams cell (own, m))
+  leave-goes cell own m0 m o = over-by (λ x. Goes PairOver (machine.leave_cell set streams cell (own, m0)) (machine.leave_cell set streams cell (own, x))) m0 m o
+      (λ v cs u w. let kind = machine.kind_of_cell set streams cell m0 in
       core-then PairOver (leave_touch set kind cell own m0.family) _ _
-      (λ after. map-goes Over PairOver (machine.cell_goes set ports kind after.0.cell (record m0 { family = after.1 })) (machine.cell_goes set ports kind after.0.cell (record m0 { vertices = v; cells = cs; family = after.1 })) _ _
+      (λ after. map-goes Over PairOver (machine.cell_goes set streams kind after.0.cell (record m0 { family = after.1 })) (machine.cell_goes set streams kind after.0.cell (record m0 { vertices = v; cells = cs; family = after.1 })) _ _
       (cell_goes-goes kind after.0.cell (record m0 { family = after.1 }) v cs u w) (λ x y h. (refl, h))))
 
   -- # Children
@@ -317,10 +317,10 @@ module _ {Plan : Type 0} (set : Setting Plan) (ports : Ports) (b : ℕ → List 
       then-goes Over Over (step cell m0) (step cell m) (each step cells) (each step cells) (goes cell m0 m o) (λ a0 a h. each-goes step goes cells a0 a h)
 
   below-goes : (step : Place → Machine → Course Machine) → ((cell : Place) (m0 m : Machine) → Over m0 m → Goes Over (step cell m0) (step cell m)) → (cells : List Place) (own : Own) (m0 m : Machine) → Over m0 m
-      → Goes PairOver (course_map (machine.outside set ports m0) (each step cells (machine.inside set ports own m0))) (course_map (machine.outside set ports m) (each step cells (machine.inside set ports own m)))
+      → Goes PairOver (course_map (machine.outside set streams m0) (each step cells (machine.inside set streams own m0))) (course_map (machine.outside set streams m) (each step cells (machine.inside set streams own m)))
   below-goes step goes cells own m0 m o =
-      map-goes Over PairOver (each step cells (machine.inside set ports own m0)) (each step cells (machine.inside set ports own m)) (machine.outside set ports m0) (machine.outside set ports m)
-      (each-goes step goes cells (machine.inside set ports own m0) (machine.inside set ports own m)
+      map-goes Over PairOver (each step cells (machine.inside set streams own m0)) (each step cells (machine.inside set streams own m)) (machine.outside set streams m0) (machine.outside set streams m)
+      (each-goes step goes cells (machine.inside set streams own m0) (machine.inside set streams own m)
       (record { vertices = o.vertices; cells = o.cells; family = ap (λ (f : Family). let inner : Family = record { parents = own.corners; parent = own.cell; list = f.list } in inner) o.family; tally = o.tally }))
       (λ a0 a h. (
         ap (λ (f : Family). let own : Own = record { cell = f.parent; corners = f.parents } in own) h.family,
@@ -333,46 +333,46 @@ module _ {Plan : Type 0} (set : Setting Plan) (ports : Ports) (b : ℕ → List 
       ))
 
   if_walked-goes : (kind : Kind) (walks : Own × Machine → Course (Own × Machine)) (own : Own) (m0 m : Machine) → Over m0 m → Goes PairOver (walks (own, m0)) (walks (own, m))
-      → Goes PairOver (machine.if_walked set ports kind walks (own, m0)) (machine.if_walked set ports kind walks (own, m))
+      → Goes PairOver (machine.if_walked set streams kind walks (own, m0)) (machine.if_walked set streams kind walks (own, m))
   if_walked-goes Kept walks own m0 m o h = h
   if_walked-goes Born walks own m0 m o h = h
   if_walked-goes Dying walks own m0 m o h = h
   if_walked-goes Hanging walks own m0 m o h = (refl, (refl, o))
 
-  walk-goes : (levels : ℕ) (cell : Place) (m0 m : Machine) → Over m0 m → Goes Over (machine.walk_cell set ports levels cell m0) (machine.walk_cell set ports levels cell m)
+  walk-goes : (levels : ℕ) (cell : Place) (m0 m : Machine) → Over m0 m → Goes Over (machine.walk_cell set streams levels cell m0) (machine.walk_cell set streams levels cell m)
   walk-goes zero cell m0 m o = tt
   walk-goes (suc levels) cell m0 m o =
-      then-goes Over Over (machine.count_cell set ports cell m0) (machine.count_cell set ports cell m) from_loads from_loads (count-goes cell m0 m o) (λ m0 m o.
-      then-goes PairOver Over (machine.load_all set ports cell (2 ^ set.axes) [] m0) (machine.load_all set ports cell (2 ^ set.axes) [] m) from_enter from_enter (load_all-goes cell (2 ^ set.axes) [] m0 m o) (λ a0 a h.
+      then-goes Over Over (machine.count_cell set streams cell m0) (machine.count_cell set streams cell m) from_loads from_loads (count-goes cell m0 m o) (λ m0 m o.
+      then-goes PairOver Over (machine.load_all set streams cell (2 ^ set.axes) [] m0) (machine.load_all set streams cell (2 ^ set.axes) [] m) from_enter from_enter (load_all-goes cell (2 ^ set.axes) [] m0 m o) (λ a0 a h.
       pair-by (λ x. Goes Over (from_enter a0) (from_enter x)) a0 a h (λ m o.
-      then-goes PairOver Over (machine.enter_cell set ports cell a0.0 a0.1) (machine.enter_cell set ports cell a0.0 m) from_below from_below (enter-goes cell a0.0 a0.1 m o) (λ a0 a h.
+      then-goes PairOver Over (machine.enter_cell set streams cell a0.0 a0.1) (machine.enter_cell set streams cell a0.0 m) from_below from_below (enter-goes cell a0.0 a0.1 m o) (λ a0 a h.
       pair-by (λ x. Goes Over (from_below a0) (from_below x)) a0 a h (λ m o.
       then-goes PairOver Over (below a0) (below (a0.0, m)) from_leave from_leave
-      (if_walked-goes (kind_below a0.0.corners) walks a0.0 a0.1 m o (below-goes (machine.walk_cell set ports levels) (walk-goes levels) (children set.axes (way set) cell) a0.0 a0.1 m o)) (λ a0 a h.
+      (if_walked-goes (kind_below a0.0.corners) walks a0.0 a0.1 m o (below-goes (machine.walk_cell set streams levels) (walk-goes levels) (children set.axes (way set) cell) a0.0 a0.1 m o)) (λ a0 a h.
       pair-by (λ x. Goes Over (from_leave a0) (from_leave x)) a0 a h (λ m o.
-      then-goes PairOver Over (machine.leave_cell set ports cell a0) (machine.leave_cell set ports cell (a0.0, m)) stores stores (leave-goes cell a0.0 a0.1 m o) (λ a0 a h.
+      then-goes PairOver Over (machine.leave_cell set streams cell a0) (machine.leave_cell set streams cell (a0.0, m)) stores stores (leave-goes cell a0.0 a0.1 m o) (λ a0 a h.
       pair-by (λ x. Goes Over (stores a0) (stores x)) a0 a h (λ m o. store_all-goes cell 0 a0.0 a0.1 m o)))))))))
     where
       walks : Own × Machine → Course (Own × Machine)
-      walks it = course_map (machine.outside set ports it.1) (each (machine.walk_cell set ports levels) (children set.axes (way set) cell) (machine.inside set ports it.0 it.1))
+      walks it = course_map (machine.outside set streams it.1) (each (machine.walk_cell set streams levels) (children set.axes (way set) cell) (machine.inside set streams it.0 it.1))
 
       below : Own × Machine → Course (Own × Machine)
-      below it = machine.if_walked set ports (kind_below it.0.corners) walks it
+      below it = machine.if_walked set streams (kind_below it.0.corners) walks it
 
       stores : List VertexRecord × Machine → Course Machine
-      stores it = machine.store_all set ports cell 0 it.0 it.1
+      stores it = machine.store_all set streams cell 0 it.0 it.1
 
       from_leave : Own × Machine → Course Machine
-      from_leave it = and_then (machine.leave_cell set ports cell it) stores
+      from_leave it = and_then (machine.leave_cell set streams cell it) stores
 
       from_below : Own × Machine → Course Machine
       from_below it = and_then (below it) from_leave
 
       from_enter : List VertexRecord × Machine → Course Machine
-      from_enter it = and_then (machine.enter_cell set ports cell it.0 it.1) from_below
+      from_enter it = and_then (machine.enter_cell set streams cell it.0 it.1) from_below
 
       from_loads : Machine → Course Machine
-      from_loads m = and_then (machine.load_all set ports cell (2 ^ set.axes) [] m) from_enter
+      from_loads m = and_then (machine.load_all set streams cell (2 ^ set.axes) [] m) from_enter
 
 -- So it is done likewise, or halts likewise.
 done-like : {A B : Type 0} (Same : A → B → Type 0) (text0 text : List ℕ) (e0 : Ending A) (e : Ending B) (a : A) → EndsLike Same text0 text e0 e → e0 ≡ done a → (b : B) × (e ≡ done b) × (text ≡ text0) × Same a b
@@ -396,10 +396,10 @@ halts-like Same text0 text (done a) e its h k = absurd cc
 halts-like Same text0 text stuck e its h k = absurd cc
 
 pub beneath_is_left : {Plan : Type 0} → BeneathIsLeft Plan
-beneath_is_left set ports levels cell vertices cells above whole over =
-    let c0 = machine.walk_cell set ports levels cell above in
-    let c = machine.walk_cell set ports levels cell whole in
-    let goes = walk-goes set ports vertices cells levels cell above whole over in
+beneath_is_left set streams levels cell vertices cells above whole over =
+    let c0 = machine.walk_cell set streams levels cell above in
+    let c = machine.walk_cell set streams levels cell whole in
+    let goes = walk-goes set streams vertices cells levels cell above whole over in
     record {
       walks = λ after ends. done-like (LiesOver vertices cells) c0.text c.text c0.ending c.ending after goes ends;
       halts = λ cause ends. halts-like (LiesOver vertices cells) c0.text c.text c0.ending c.ending cause goes ends;

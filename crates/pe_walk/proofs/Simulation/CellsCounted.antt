@@ -13,10 +13,10 @@ use Rattle.pe_hang.specs.Moves.{may_rise}
 use Rattle.pe_adapt.specs.CountedTouches.{Machine, tally_may_rise}
 use Rattle.pe_walk.specs.Machine as machine
 use Rattle.pe_order.specs.Tokens.{Tokens}
-use Rattle.pe_walk.specs.Standing.{Outset, Stage, per_cell, Owes, Holds, IsOutset, Fair}
+use Rattle.pe_walk.specs.Standing.{ForeseenStart, Stage, per_cell, Owes, Holds, IsForeseenStart, Fair}
 use Rattle.pe_walk.proofs.Simulation.Matching.{Alike, some_same, done_same, core-matches, mapped-done}
 use Rattle.pe_walk.proofs.Simulation.Silent.{plain-silent}
-use Rattle.pe_walk.proofs.Simulation.Leaves.{image_of, ports, after_count, CountLeaf, PlainLeaf}
+use Rattle.pe_walk.proofs.Simulation.Leaves.{image_of, streams, after_count, CountLeaf, PlainLeaf}
 
 -- what stays below the bound of a traversal may rise
 pub small_rises : (base owed cells most x : ℕ) → base + per_cell * most < 2 ^ 63 → cells ≤ most → x + owed ≤ base + per_cell * cells → may_rise x ≡ true
@@ -25,7 +25,7 @@ small_rises base owed cells most x bound few below =
     let less : x < 2 ^ 63 = omega (arith, bound, below, more) in
     lt-ltb x (2 ^ 63) less
 
-module _ {Plan : Type 0} (set : Setting Plan) (e : Outset) (walked : Place → Bool) (is : IsOutset set e walked) where
+module _ {Plan : Type 0} (set : Setting Plan) (e : ForeseenStart) (walked : Place → Bool) (is : IsForeseenStart set e walked) where
   -- every number of the tally may rise
   pub tally_rises : (st : Stage) (tally : Tally) (t : Tokens) → Owes set.axes set.max_cells e st tally t → tally_may_rise tally ≡ true
   tally_rises st tally t owes =
@@ -105,14 +105,14 @@ module _ {Plan : Type 0} (set : Setting Plan) (e : Outset) (walked : Place → B
   -- a cell is counted by model and machine alike
   pub count_leaf : (room : Push → Type 0) → CountLeaf set e room
   count_leaf room st stage w t t' h k =
-      subst (λ x. Alike room (image_of set e st.parent) (Holds set e (after_count set.axes st)) (count_cell set st.cell w) (machine.count_cell set (ports set e room) st.cell (image_of set e st.parent w t)) x)
+      subst (λ x. Alike room (image_of set e st.parent) (Holds set e (after_count set.axes st)) (count_cell set st.cell w) (machine.count_cell set (streams set e room) st.cell (image_of set e st.parent w t)) x)
       (some_same t t' k) (go (nat_lt set.max_cells (tally_cell st.cell w.tally).cells) refl)
     where
       counted : Working
       counted = record w { tally = tally_cell st.cell w.tally }
 
       seen : Bool → Course Machine
-      seen b = allowed (tally_may_rise w.tally) (machine.within_limit set (ports set e room) st.cell (image_of set e st.parent counted t) b)
+      seen b = allowed (tally_may_rise w.tally) (machine.within_limit set (streams set e room) st.cell (image_of set e st.parent counted t) b)
 
       go : (b : Bool) → nat_lt set.max_cells (tally_cell st.cell w.tally).cells ≡ b
           → Alike room (image_of set e st.parent) (Holds set e (after_count set.axes st)) (within_limit set st.cell counted b) (seen b) t
@@ -136,7 +136,7 @@ module _ {Plan : Type 0} (set : Setting Plan) (e : Outset) (walked : Place → B
 
   pub plain_leaf : (room : Push → Type 0) → PlainLeaf set e room
   plain_leaf room st event w t t' h k =
-      subst (λ x. Alike room (image_of set e st.parent) (Holds set e st) (plain set event w) (machine.plain set (ports set e room) event (image_of set e st.parent w t)) x) (some_same t t' k)
+      subst (λ x. Alike room (image_of set e st.parent) (Holds set e st) (plain set event w) (machine.plain set (streams set e room) event (image_of set e st.parent w t)) x) (some_same t t' k)
       (record {
         same = core-matches room (λ v. image_of set e st.parent v t) (plain_event set event w.list) (λ list. record w { list = list }) (λ list. image_of set e st.parent (record w { list = list }) t)
             (plain-silent set event w.list) (λ list q. refl);

@@ -21,7 +21,7 @@ use Rattle.pe_adapt.specs.CountedTouches as counted
 use Rattle.pe_order.specs.Tokens.{Outlook, Tokens, is_top, given, taken, put, source, target, touch_of, one_more, one_less, cells_before}
 use Rattle.pe_order.specs.Tokens as tokens
 use Rattle.pe_walk.specs.Standing.{Holds}
-use Rattle.pe_walk.specs.Gridded.{ports_of}
+use Rattle.pe_walk.specs.Gridded.{stream_stacks_of}
 use Rattle.pe_walk.specs.CornerLaw.{EndsAs, IsTouched, IsOnTop, IsLoaded, IsStored, GoesThere, LoadOfACorner, StoreOfACorner}
 use Rattle.pe_walk.proofs.Simulation.Leaves.{image_of, records_from, in_hand, after_load, after_store, store_first}
 use Rattle.pe_walk.proofs.Simulation.Matching.{Alike, ending_map, done_same}
@@ -124,8 +124,8 @@ load_of_a_corner set e walked st k w t may from top =
     let nowhere : Push → Type 0 = λ push. ⊥ in
     let records : (v : Working) → records_from set e v st.cell k (2 ^ set.axes - k) ≡ record_at set.axes v st.cell k ∷ records_from set e v st.cell (k + 1) (2 ^ set.axes - (k + 1)) = λ v. first_in_hand set e v st.cell k k refl may.corner in
     touched nowhere (in_hand set e (after_load k st)) (Holds set e (after_load k st)) (λ it. (it.0 ∷ records_from set e w st.cell st.from (2 ^ set.axes - st.from), it.1))
-    (model.load_corner set st.parent st.cell k w) (counted.load_corner set (ports_of e.outlook.swapped) st.cell k (image_of set e st.parent w t)) came.0 (IsLoaded set e st k t)
-    (load_leaf set e walked nowhere may.outset st k may.stage may.corner from may.owed w t came.0 may.holds came.1)
+    (model.load_corner set st.parent st.cell k w) (counted.load_corner set (stream_stacks_of e.outlook.swapped) st.cell k (image_of set e st.parent w t)) came.0 (IsLoaded set e st k t)
+    (load_leaf set e walked nowhere may.foreseen_start st k may.stage may.corner from may.owed w t came.0 may.holds came.1)
     (load_corner-fits set st.parent st.cell k w)
     (λ v it holds same. record {
       places = came.0;
@@ -141,18 +141,18 @@ load_of_a_corner set e walked st k w t may from top =
 pub store_of_a_corner : {Plan : Type 0} → StoreOfACorner Plan
 store_of_a_corner set e walked st k w t may from unstored =
     let held : e.outlook.counts (touch_of e.outlook st.cell k).vertex ≡ true → 1 ≤ t.held (touch_of e.outlook st.cell k).vertex =
-    subst (λ axes. e.outlook.counts (corner axes st.cell k) ≡ true → 1 ≤ t.held (corner axes st.cell k)) (sym may.outset.foresees.axes)
+    subst (λ axes. e.outlook.counts (corner axes st.cell k) ≡ true → 1 ≤ t.held (corner axes st.cell k)) (sym may.foreseen_start.foresees.axes)
     (λ on. (may.holds.stands.mine k (omega (arith, from)) may.corner on).0) in
     let gave = went e.outlook st.cell k t held in
     let room = GoesThere e.outlook (touch_of e.outlook st.cell k) t in
     let its = records_from set e w st.cell (k + 1) (2 ^ set.axes - (k + 1)) in
     touched room (in_hand set e (after_store k st)) (Holds set e (after_store k st)) (λ m. (its, m))
-    (model.store_corner set st.parent st.cell k w) (counted.store_corner set (ports_of e.outlook.swapped) st.cell k (record_at set.axes w st.cell k) (image_of set e st.parent w t)) gave.0 (IsStored set e st k t)
+    (model.store_corner set st.parent st.cell k w) (counted.store_corner set (stream_stacks_of e.outlook.swapped) st.cell k (record_at set.axes w st.cell k) (image_of set e st.parent w t)) gave.0 (IsStored set e st k t)
     (subst (λ records. Alike room (in_hand set e (after_store k st)) (Holds set e (after_store k st)) (model.store_corner set st.parent st.cell k w) (store_first set e room st.cell k (records, image_of set e st.parent w t)) gave.0)
     (first_in_hand set e w st.cell st.from k from may.corner)
-    (stored_steps set e walked may.outset st may.stage w t may.holds k from may.corner gave.0 gave.1 room
+    (stored_steps set e walked may.foreseen_start st may.stage w t may.holds k from may.corner gave.0 gave.1 room
     (λ r ends. pushed_there e.outlook (touch_of e.outlook st.cell k) t (goal_at set e st k)
-    (named e.outlook (e.outlook.counts (corner set.axes st.cell k)) set.axes (way set) st.cell k may.outset.foresees.axes may.outset.foresees.ways))
+    (named e.outlook (e.outlook.counts (corner set.axes st.cell k)) set.axes (way set) st.cell k may.foreseen_start.foresees.axes may.foreseen_start.foresees.ways))
     may.owed unstored))
     (store_corner-fits set st.parent st.cell k w)
     (λ v m holds same. record {

@@ -9,7 +9,7 @@ use Rattle.pe_base.specs.Walk.Working.{Working}
 use Rattle.pe_base.specs.Walk.Walk as model
 use Rattle.pe_adapt.specs.CountedTouches.{Machine}
 use Rattle.pe_walk.specs.Machine as machine
-use Rattle.pe_walk.specs.Gridded.{ports_of}
+use Rattle.pe_walk.specs.Gridded.{stream_stacks_of}
 use Rattle.pe_order.specs.Laws.{IsCell}
 use Rattle.pe_walk.specs.Standing.{HasRoom}
 use Rattle.pe_walk.specs.FaceLaw.{Moment, MayWalk, HasWalked, CellEndsAlike, IsBrief, IsCellWalked}
@@ -21,7 +21,7 @@ use Rattle.pe_walk.proofs.Simulation.Cells.Simulated.{cell_simulated}
 
 module _ {Plan : Type 0} (set : Setting Plan) (at : Moment) where
   -- each push leaves its stack short
-  brief : HasRoom set at.outset (IsBrief set at)
+  brief : HasRoom set at.foreseen_start (IsBrief set at)
   brief = record {
     vertices = λ st w t h s there other. record {
       there = there;
@@ -35,11 +35,11 @@ module _ {Plan : Type 0} (set : Setting Plan) (at : Moment) where
     };
   }
 
-  pub law_of_a_face : (m : Machine) → MayWalk set at m → IsCellWalked set at (machine.walk_cell set (ports_of at.outset.outlook.swapped) (suc at.levels) at.stage.cell m)
+  pub law_of_a_face : (m : Machine) → MayWalk set at m → IsCellWalked set at (machine.walk_cell set (stream_stacks_of at.foreseen_start.outlook.swapped) (suc at.levels) at.stage.cell m)
   law_of_a_face m may =
-      let runs = walk_of_a_cell at.outset.outlook at.walked (set.rules.greatest set.plan) at.levels at.stage.cell dim may.outset.grown (subst (λ n. IsCell n at.outset.outlook.way at.stage.cell) (sym may.outset.foresees.axes) may.stage.cell) may.deep at.beneath at.cells_beneath at.places may.takes in
-      let steps = cell_simulated set at.outset at.walked (IsBrief set at) may.outset brief at.levels at.stage at.rest may.stage may.unloaded may.ahead at.working at.places runs.0 may.holds runs.1 in
-      subst (λ (x : Machine). IsCellWalked set at (machine.walk_cell set (ports_of at.outset.outlook.swapped) (suc at.levels) at.stage.cell x)) may.image
+      let runs = walk_of_a_cell at.foreseen_start.outlook at.walked (set.rules.greatest set.plan) at.levels at.stage.cell dim may.foreseen_start.grown (subst (λ n. IsCell n at.foreseen_start.outlook.way at.stage.cell) (sym may.foreseen_start.foresees.axes) may.stage.cell) may.deep at.beneath at.cells_beneath at.places may.takes in
+      let steps = cell_simulated set at.foreseen_start at.walked (IsBrief set at) may.foreseen_start brief at.levels at.stage at.rest may.stage may.unloaded may.ahead at.working at.places runs.0 may.holds runs.1 in
+      subst (λ (x : Machine). IsCellWalked set at (machine.walk_cell set (stream_stacks_of at.foreseen_start.outlook.swapped) (suc at.levels) at.stage.cell x)) may.image
       (record {
         text = steps.same.text;
         ending = by steps.same.ending
@@ -47,8 +47,8 @@ module _ {Plan : Type 0} (set : Setting Plan) (at : Moment) where
         log = steps.same.log;
       })
     where
-      dim : IsDim at.outset.outlook.axes
-      dim = subst IsDim (sym may.outset.foresees.axes) may.outset.foresees.dim
+      dim : IsDim at.foreseen_start.outlook.axes
+      dim = subst IsDim (sym may.foreseen_start.foresees.axes) may.foreseen_start.foresees.dim
 
       by : {image : Working → Machine} {a : Ending Machine} → a ≡ ending_map image (model.walk_cell set at.levels at.stage.parent at.stage.cell at.working).ending
           → ((w : Working) → (model.walk_cell set at.levels at.stage.parent at.stage.cell at.working).ending ≡ done w → HasWalked set at w (image w))

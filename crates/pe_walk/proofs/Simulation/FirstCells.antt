@@ -23,13 +23,13 @@ use Rattle.pe_walk.specs.Machine as machine
 use Rattle.pe_order.specs.Tokens.{Outlook, Tokens}
 use Rattle.pe_order.specs.Takings.{loads_of, takes, gives, cell_takes, cell_gives, Due, Grown}
 use Rattle.pe_order.specs.Outlooks.{outlook}
-use Rattle.pe_walk.specs.Standing.{Outset, Stage, IsStage, IsOutset, Holds}
+use Rattle.pe_walk.specs.Standing.{ForeseenStart, Stage, IsStage, IsForeseenStart, Holds}
 use Rattle.pe_walk.specs.Images.{image_of}
-use Rattle.pe_walk.specs.Gridded.{MachineMayTraverse, ports_of}
+use Rattle.pe_walk.specs.Gridded.{MachineMayTraverse, stream_stacks_of}
 use Rattle.pe_walk.specs.FaceLaw.{Moment, MayCall, begins, InTurn, ComeAfter, FirstCellMayBeWalked, NextCellMayBeWalked}
 use Rattle.pe_order.proofs.Trees.{root_is_cell}
 use Rattle.pe_order.proofs.Tokens.Loads.{due-split}
-use Rattle.pe_order.proofs.Tokens.Passages.{token_stretch}
+use Rattle.pe_order.proofs.Tokens.OneStack.{token_stretch}
 use Rattle.pe_order.proofs.Tokens.Walks.{cell_stretch}
 use Rattle.pe_order.proofs.Tokens.Traversals.{RootBegins, root_passage, root_cell_passage, root_begins}
 use Rattle.pe_walk.proofs.Simulation.Matching.{Alike, ending_map, done_same}
@@ -38,7 +38,7 @@ use Rattle.pe_walk.proofs.Simulation.Cells.Corners.{stage_of}
 use Rattle.pe_walk.proofs.Simulation.Cells.Inside.{at_child, next-holds}
 use Rattle.pe_walk.proofs.Simulation.Cells.Children.{kids_stages}
 use Rattle.pe_walk.proofs.Simulation.Cells.Roots.{root_goes}
-use Rattle.pe_walk.proofs.Simulation.Starts.{tokens_of, outset_of, sound_of, dim_of, grown_of, may_traverse, cornered, start, is_outset, first_stage, starts}
+use Rattle.pe_walk.proofs.Simulation.Starts.{tokens_of, foreseen_start_of, sound_of, dim_of, grown_of, may_traverse, cornered, start, is_foreseen_start, first_stage, starts}
 use Rattle.pe_walk.proofs.Simulation.Traverses.{begins_is}
 
 -- what one stretch after another finds is found in turn
@@ -65,8 +65,8 @@ module _ {Plan : Type 0} (set : Setting Plan) (grid : Grid) (swapped : Bool) (m 
   abbrev o : Outlook
   o = outlook set.start_level grid swapped
 
-  abbrev e : Outset
-  e = outset_of set grid swapped m
+  abbrev e : ForeseenStart
+  e = foreseen_start_of set grid swapped m
 
   abbrev goes : Place → Bool
   goes = walked set.start_level grid
@@ -84,8 +84,8 @@ module _ {Plan : Type 0} (set : Setting Plan) (grid : Grid) (swapped : Bool) (m 
   abbrev t : Tokens
   t = start set grid swapped m may
 
-  is : IsOutset set e goes
-  is = is_outset set grid swapped m may
+  is : IsForeseenStart set e goes
+  is = is_foreseen_start set grid swapped m may
 
   dim : IsDim o.axes
   dim = dim_of set grid swapped m may
@@ -93,7 +93,7 @@ module _ {Plan : Type 0} (set : Setting Plan) (grid : Grid) (swapped : Bool) (m 
   grown : Grown o goes grid.greatest
   grown = grown_of set grid swapped m may
 
-  -- the children of the root, in the words of the outset
+  -- the children of the root, in the words of the foreseen_start
   kids_of : children set.axes o.way root ≡ first ∷ others
   kids_of = ap (λ way. children set.axes way root) is.foresees.ways ∙ kids
 
@@ -125,17 +125,17 @@ module _ {Plan : Type 0} (set : Setting Plan) (grid : Grid) (swapped : Bool) (m 
   due = subst (λ cells. Due o (flat_map (loads_of o levels) cells) t.met) token_kids begun.due
 
   -- after the first event the model's state is one of which the machine is the image
-  fired : (after : Machine) → (begins set (ports_of swapped) m).ending ≡ done after
+  fired : (after : Machine) → (begins set (stream_stacks_of swapped) m).ending ≡ done after
       → (w : Working) × Holds set e st w t × (image_of set e root w t ≡ after)
   fired after ends =
-      let plain : Alike any_room (image_of set e root) (Holds set e st) (model.plain set BeginIteration made) (machine.plain set (ports_of swapped) BeginIteration (image_of set e root made t)) t =
+      let plain : Alike any_room (image_of set e root) (Holds set e st) (model.plain set BeginIteration made) (machine.plain set (stream_stacks_of swapped) BeginIteration (image_of set e root made t)) t =
       plain_leaf set e goes is any_room st BeginIteration made t t (starts set grid swapped m may) refl in
       let at = imaged-done (λ w. image_of set e root w t) (model.plain set BeginIteration made).ending after
       (sym plain.same.ending ∙ ap (λ (course : Course Machine). course.ending) (sym (begins_is set grid swapped m may)) ∙ ends) in
       (at.0, plain.holds at.0 at.1, at.2)
 
   -- so the first of them may be walked, and the others come after it
-  begins_there : (after : Machine) → (begins set (ports_of swapped) m).ending ≡ done after
+  begins_there : (after : Machine) → (begins set (stream_stacks_of swapped) m).ending ≡ done after
       → (moment : Moment) × MayCall set grid.greatest first (input_stack swapped) (cell_input_stack swapped) after moment × ComeAfter set others [] moment
   begins_there after ends =
       let now = fired after ends in
@@ -143,7 +143,7 @@ module _ {Plan : Type 0} (set : Setting Plan) (grid : Grid) (swapped : Bool) (m 
       let some = (sound_of set grid swapped m may).some in
       let loads = due-split o (loads_of o levels first) (flat_map (loads_of o levels) others) t.met due in
       let at : Moment = record {
-        outset = e;
+        foreseen_start = e;
         walked = goes;
         stage = record st { cell = first };
         levels = levels;
@@ -157,7 +157,7 @@ module _ {Plan : Type 0} (set : Setting Plan) (grid : Grid) (swapped : Bool) (m 
         record {
           here = record { cell = refl; levels = omega (arith, level, some); input = refl; cell_input = refl };
           may = record {
-            outset = is;
+            foreseen_start = is;
             stage = stage_of set e any_room (at_child set.axes st first) (record st { cell = first }) refl refl stages.0;
             unloaded = refl;
             deep = omega (arith, may.fits.greatest, level);
@@ -189,13 +189,13 @@ first_cell set grid swapped m after first others may ends kids = begins_there se
 pub next_cell : {Plan : Type 0} → NextCellMayBeWalked Plan
 next_cell set greatest stream cell_stream cell next others beyond m after working at called comes walked =
     let may = called.may in
-    let cells_below = walked_cells at.outset.outlook.axes at.outset.outlook.way at.outset.outlook.walks at.levels in
-    let its_level = one_deeper set.axes at.outset.outlook at.stage may.stage in
-    let level = one_deeper set.axes at.outset.outlook (record at.stage { cell = next }) comes.stages.0 in
-    let loads = due-split at.outset.outlook (loads_of at.outset.outlook at.levels next) (flat_map (loads_of at.outset.outlook at.levels) others) walked.places.met (subst (λ met. Due at.outset.outlook (flat_map (loads_of at.outset.outlook at.levels) (next ∷ others)) met) (sym walked.gives.met) comes.due) in
+    let cells_below = walked_cells at.foreseen_start.outlook.axes at.foreseen_start.outlook.way at.foreseen_start.outlook.walks at.levels in
+    let its_level = one_deeper set.axes at.foreseen_start.outlook at.stage may.stage in
+    let level = one_deeper set.axes at.foreseen_start.outlook (record at.stage { cell = next }) comes.stages.0 in
+    let loads = due-split at.foreseen_start.outlook (loads_of at.foreseen_start.outlook at.levels next) (flat_map (loads_of at.foreseen_start.outlook at.levels) others) walked.places.met (subst (λ met. Due at.foreseen_start.outlook (flat_map (loads_of at.foreseen_start.outlook at.levels) (next ∷ others)) met) (sym walked.gives.met) comes.due) in
     let moment : Moment = record at {
       stage = record at.stage { cell = next; ahead = at.rest };
-      rest = flat_map (walked_cells at.outset.outlook.axes at.outset.outlook.way at.outset.outlook.walks at.levels) others ++ beyond;
+      rest = flat_map (walked_cells at.foreseen_start.outlook.axes at.foreseen_start.outlook.way at.foreseen_start.outlook.walks at.levels) others ++ beyond;
       beneath = λ s. (comes.vertices s).0;
       cells_beneath = λ s. (comes.cells s).0;
       working = working;
@@ -210,12 +210,12 @@ next_cell set greatest stream cell_stream cell next others beyond m after workin
           cell_input = called.here.cell_input;
         };
         may = record {
-          outset = may.outset;
-          stage = stage_of set at.outset any_room (record at.stage { cell = next }) (record at.stage { cell = next; ahead = at.rest }) refl refl comes.stages.0;
+          foreseen_start = may.foreseen_start;
+          stage = stage_of set at.foreseen_start any_room (record at.stage { cell = next }) (record at.stage { cell = next; ahead = at.rest }) refl refl comes.stages.0;
           unloaded = may.unloaded;
           deep = omega (arith, may.deep, level, its_level);
           ahead = comes.ahead ∙ append_assoc (cells_below next) (flat_map cells_below others) beyond;
-          holds = next-holds set at.outset (record at.stage { ahead = at.rest }) next working walked.places may.unloaded walked.holds;
+          holds = next-holds set at.foreseen_start (record at.stage { ahead = at.rest }) next working walked.places may.unloaded walked.holds;
           takes = record {
             stacks = walked.gives.stacks;
             cell_stacks = walked.gives.cell_stacks;
@@ -227,7 +227,7 @@ next_cell set greatest stream cell_stream cell next others beyond m after workin
         };
       },
       record {
-        stages = Each-weaker _ _ (λ other its. stage_of set at.outset any_room (record at.stage { cell = other }) (record at.stage { cell = other; ahead = at.rest }) refl refl its) others comes.stages.1;
+        stages = Each-weaker _ _ (λ other its. stage_of set at.foreseen_start any_room (record at.stage { cell = other }) (record at.stage { cell = other; ahead = at.rest }) refl refl its) others comes.stages.1;
         ahead = refl;
         vertices = λ s. (comes.vertices s).2;
         cells = λ s. (comes.cells s).2;

@@ -18,19 +18,19 @@ use Rattle.pe_base.specs.Walk.Walk as walks
 use Rattle.pe_base.specs.Walk.Working.{Working}
 use Rattle.pe_stacks.specs.Holdings.{items_at, stack_count}
 use Rattle.pe_stacks.specs.Grid.{cell_input_stack}
-use Rattle.pe_adapt.specs.CountedTouches.{Machine, Ports}
+use Rattle.pe_adapt.specs.CountedTouches.{Machine, StreamStacks}
 use Rattle.pe_walk.specs.Machine as machine
 use Rattle.pe_order.specs.Laws.{IsCell}
 use Rattle.pe_order.specs.Frames.{AfterEnter}
 use Rattle.pe_order.specs.Tokens.{Outlook, Tokens, given, each_some, cell_source, touch_of, load, enter, walk, numbers}
 use Rattle.pe_order.specs.Takings.{loads_of, takes, gives, cell_takes, cell_gives, met_after, Due}
-use Rattle.pe_walk.specs.Standing.{Outset, Stage, IsStage, Holds}
-use Rattle.pe_walk.specs.Gridded.{ports_of}
+use Rattle.pe_walk.specs.Standing.{ForeseenStart, Stage, IsStage, Holds}
+use Rattle.pe_walk.specs.Gridded.{stream_stacks_of}
 use Rattle.pe_walk.specs.FaceLaw.{Moment, MayWalk, enters, InTurn, ComeAfter, FirstChildMayBeWalked}
 use Rattle.pe_order.proofs.Trees.{cell_position}
 use Rattle.pe_order.proofs.Tokens.Loads.{Loaded, vertices_of, takes_by, all_loads, due-split}
 use Rattle.pe_order.proofs.Tokens.MoveFrames.{what_moves_change}
-use Rattle.pe_order.proofs.Tokens.Passages.{Passage, own_takes, token_stretch, passage}
+use Rattle.pe_order.proofs.Tokens.OneStack.{Passage, own_takes, token_stretch, passage}
 use Rattle.pe_order.proofs.Tokens.Walks.{CellPassage, cell_passage, cell_stretch, own_touches_are}
 use Rattle.pe_order.proofs.Tokens.Traversals.{walk_of_a_cell}
 use Rattle.pe_walk.proofs.Simulation.Matching.{Sim, sim-then, both_some, some_same}
@@ -77,10 +77,10 @@ walk-begins o (suc levels) cell t after run =
 
 module _ {Plan : Type 0} (set : Setting Plan) (at : Moment) (m : Machine) (may : MayWalk set at m) where
   abbrev o : Outlook
-  o = at.outset.outlook
+  o = at.foreseen_start.outlook
 
-  abbrev e : Outset
-  e = at.outset
+  abbrev e : ForeseenStart
+  e = at.foreseen_start
 
   abbrev st : Stage
   st = at.stage
@@ -88,19 +88,19 @@ module _ {Plan : Type 0} (set : Setting Plan) (at : Moment) (m : Machine) (may :
   abbrev cell : Place
   cell = at.stage.cell
 
-  abbrev ports : Ports
-  ports = ports_of at.outset.outlook.swapped
+  abbrev streams : StreamStacks
+  streams = stream_stacks_of at.foreseen_start.outlook.swapped
 
   dim : IsDim o.axes
-  dim = subst IsDim (sym may.outset.foresees.axes) may.outset.foresees.dim
+  dim = subst IsDim (sym may.foreseen_start.foresees.axes) may.foreseen_start.foresees.dim
 
   token_cell : IsCell o.axes o.way cell
-  token_cell = subst (λ n. IsCell n o.way cell) (sym may.outset.foresees.axes) may.stage.cell
+  token_cell = subst (λ n. IsCell n o.way cell) (sym may.foreseen_start.foresees.axes) may.stage.cell
 
   -- the moves of the places
   begins : Begins o cell at.places
   begins =
-      let run = walk_of_a_cell o at.walked (set.rules.greatest set.plan) at.levels cell dim may.outset.grown token_cell may.deep at.beneath at.cells_beneath at.places may.takes in
+      let run = walk_of_a_cell o at.walked (set.rules.greatest set.plan) at.levels cell dim may.foreseen_start.grown token_cell may.deep at.beneath at.cells_beneath at.places may.takes in
       walk-begins o at.levels cell at.places run.0 run.1
 
   -- the cells below, and those that come after the cell
@@ -120,7 +120,7 @@ module _ {Plan : Type 0} (set : Setting Plan) (at : Moment) (m : Machine) (may :
   open_stage = opened set.axes inner st
 
   open_is : IsOpen open_stage
-  open_is = is_open set e at.walked any_room may.outset inner st may.stage
+  open_is = is_open set e at.walked any_room may.foreseen_start inner st may.stage
 
   staged : (s : Stage) → s.cell ≡ st.cell → s.parent ≡ st.parent → IsStage set.axes o s
   staged s same above = stage_of set e any_room st s same above may.stage
@@ -133,23 +133,23 @@ module _ {Plan : Type 0} (set : Setting Plan) (at : Moment) (m : Machine) (may :
 
   -- up to there the machine is the image of the walk by address
   enters_sim : Sim any_room (Holds set e st) (image_of set e st.parent) (Holds set e (opened set.axes (inner_of at.levels) at.stage)) (own_in_hand set e (opened set.axes (inner_of at.levels) at.stage))
-      by_address (enters set ports cell) (λ t. option_and_then (λ t. option_and_then (enter o cell) (each_some (load o cell) (reverse (numbers o)) t)) (Some t))
+      by_address (enters set streams cell) (λ t. option_and_then (λ t. option_and_then (enter o cell) (each_some (load o cell) (reverse (numbers o)) t)) (Some t))
   enters_sim =
       let s1 : Stage = after_count set.axes st in
       let s2 : Stage = all_loaded set.axes st in
-      let most = few set e at.walked any_room may.outset in
+      let most = few set e at.walked any_room may.foreseen_start in
       let moves : Tokens → Option Tokens = each_some (load o cell) (reverse (numbers o)) in
       sim-then any_room (Holds set e st) (image_of set e st.parent) (Holds set e s1) (image_of set e st.parent) (Holds set e open_stage) (own_in_hand set e open_stage)
-      (model.count_cell set cell) (machine.count_cell set ports cell) (λ t. Some t)
+      (model.count_cell set cell) (machine.count_cell set streams cell) (λ t. Some t)
       (λ w. and_then (loads_model w) (model.enter_cell set st.parent cell))
-      (λ m. and_then (machine.load_all set ports cell (2 ^ set.axes) [] m) (λ x. machine.enter_cell set ports cell x.0 x.1))
+      (λ m. and_then (machine.load_all set streams cell (2 ^ set.axes) [] m) (λ x. machine.enter_cell set streams cell x.0 x.1))
       (λ t. option_and_then (enter o cell) (moves t))
-      (count_leaf set e at.walked may.outset any_room st may.stage)
+      (count_leaf set e at.walked may.foreseen_start any_room st may.stage)
       (sim-then any_room (Holds set e s1) (image_of set e st.parent) (Holds set e s2) (in_hand set e s2) (Holds set e open_stage) (own_in_hand set e open_stage)
-      loads_model (machine.load_all set ports cell (2 ^ set.axes) []) moves
-      (model.enter_cell set st.parent cell) (λ x. machine.enter_cell set ports cell x.0 x.1) (enter o cell)
-      (all_loads_sim set e at.walked any_room may.outset (load_leaf set e at.walked any_room may.outset) s1 (staged s1 refl refl) may.unloaded (omega (arith, most)))
-      (enter_leaf set e at.walked any_room may.outset s2 inner (staged s2 refl refl) refl (may.ahead ∙ ahead_is at.levels) (omega (arith, most)) (omega arith)))
+      loads_model (machine.load_all set streams cell (2 ^ set.axes) []) moves
+      (model.enter_cell set st.parent cell) (λ x. machine.enter_cell set streams cell x.0 x.1) (enter o cell)
+      (all_loads_sim set e at.walked any_room may.foreseen_start (load_leaf set e at.walked any_room may.foreseen_start) s1 (staged s1 refl refl) may.unloaded (omega (arith, most)))
+      (enter_leaf set e at.walked any_room may.foreseen_start s2 inner (staged s2 refl refl) refl (may.ahead ∙ ahead_is at.levels) (omega (arith, most)) (omega arith)))
 
   -- the cell was entered
   record Entered (it : Own × Machine) : Type 0 where
@@ -157,22 +157,22 @@ module _ {Plan : Type 0} (set : Setting Plan) (at : Moment) (m : Machine) (may :
     holds : Holds set e open_stage working begins.entered
     hand : own_in_hand set e open_stage working begins.entered ≡ it
 
-  entered : (it : Own × Machine) → (enters set ports cell m).ending ≡ done it → Entered it
+  entered : (it : Own × Machine) → (enters set streams cell m).ending ≡ done it → Entered it
   entered it ends =
       let alike = enters_sim at.working at.places begins.entered may.holds (ap (option_and_then (enter o cell)) begins.loads ∙ begins.enters) in
       let now = imaged-done (λ w. own_in_hand set e open_stage w begins.entered) (by_address at.working).ending it
-      (sym alike.same.ending ∙ ap (λ (x : Machine). (enters set ports cell x).ending) may.image ∙ ends) in
+      (sym alike.same.ending ∙ ap (λ (x : Machine). (enters set streams cell x).ending) may.image ∙ ends) in
       record { working = now.0; holds = alike.holds now.0 now.1; hand = now.2 }
 
   -- its children are walked
   children_walked : (it : Own × Machine) → Entered it → is_hanging (kind_below it.0.corners) ≡ false → o.walks cell ≡ true
   children_walked it now some =
-      let found = below_found set e at.walked any_room may.outset open_stage now.working begins.entered (staged open_stage refl refl) open_is now.holds in
-      may.outset.foresees.walks cell ∙ ap not (ap is_hanging (sym found) ∙ ap (λ (x : Own × Machine). is_hanging (kind_below x.0.corners)) now.hand ∙ some)
+      let found = below_found set e at.walked any_room may.foreseen_start open_stage now.working begins.entered (staged open_stage refl refl) open_is now.holds in
+      may.foreseen_start.foresees.walks cell ∙ ap not (ap is_hanging (sym found) ∙ ap (λ (x : Own × Machine). is_hanging (kind_below x.0.corners)) now.hand ∙ some)
 
   -- so there are levels below it
   some_levels : o.walks cell ≡ true → (levels : ℕ) × (at.levels ≡ suc levels)
-  some_levels goes = go at.levels refl (may.outset.grown.walks_within cell goes)
+  some_levels goes = go at.levels refl (may.foreseen_start.grown.walks_within cell goes)
     where
       go : (n : ℕ) → at.levels ≡ n → cell.level < set.rules.greatest set.plan → (levels : ℕ) × (at.levels ≡ suc levels)
       go zero same below = absurd (omega (arith, same, below, may.deep))
@@ -186,7 +186,7 @@ module _ {Plan : Type 0} (set : Setting Plan) (at : Moment) (m : Machine) (may :
     own = reverse (corner_touches o.axes cell)
 
     pass : (s : ℕ) → Passage o (suc levels) s cell (token_stretch o levels s) (walked_children o.axes o.way o.walks cell) (at.beneath s)
-    pass s = passage o at.walked may.outset.grown.is_walk dim cell token_cell (λ child c. may.outset.grown.below cell child token_cell c) levels s (at.beneath s)
+    pass s = passage o at.walked may.foreseen_start.grown.is_walk dim cell token_cell (λ child c. may.foreseen_start.grown.below cell child token_cell c) levels s (at.beneath s)
 
     cell_pass : (s : ℕ) → CellPassage o (suc levels) s cell (cell_stretch o levels s) (walked_children o.axes o.way o.walks cell) (at.cells_beneath s)
     cell_pass s = cell_passage o levels s cell (at.cells_beneath s)
@@ -222,13 +222,13 @@ module _ {Plan : Type 0} (set : Setting Plan) (at : Moment) (m : Machine) (may :
 
     module _ (it : Own × Machine) (now : Entered it) (goes : o.walks cell ≡ true) (first : Place) (others : List Place) (children_are : children set.axes (way set) cell ≡ first ∷ others) where
       kids_of : children set.axes o.way cell ≡ first ∷ others
-      kids_of = ap (λ way. children set.axes way cell) may.outset.foresees.ways ∙ children_are
+      kids_of = ap (λ way. children set.axes way cell) may.foreseen_start.foresees.ways ∙ children_are
 
       kids_are : walked_children o.axes o.way o.walks cell ≡ first ∷ others
-      kids_are = ap (λ b. if_walks o.axes o.way o.walks b (children o.axes o.way cell)) goes ∙ ap (λ axes. children axes o.way cell) may.outset.foresees.axes ∙ kids_of
+      kids_are = ap (λ b. if_walks o.axes o.way o.walks b (children o.axes o.way cell)) goes ∙ ap (λ axes. children axes o.way cell) may.foreseen_start.foresees.axes ∙ kids_of
 
       stages : Each (λ child. IsStage set.axes o (at_child set.axes open_stage child)) (first ∷ others)
-      stages = subst (λ cells. Each (λ child. IsStage set.axes o (at_child set.axes open_stage child)) cells) kids_of (kids_stages set e at.walked any_room may.outset open_stage may.stage.cell goes)
+      stages = subst (λ cells. Each (λ child. IsStage set.axes o (at_child set.axes open_stage child)) cells) kids_of (kids_stages set e at.walked any_room may.foreseen_start open_stage may.stage.cell goes)
 
       vertices_in_turn : (s : ℕ) → InTurn (takes o levels s) (gives o levels s) (first ∷ others) (items_at begins.entered.vertices s)
       vertices_in_turn s =
@@ -258,11 +258,11 @@ module _ {Plan : Type 0} (set : Setting Plan) (at : Moment) (m : Machine) (may :
       deeper : first.level ≡ cell.level + 1
       deeper = one_deeper set.axes o (at_child set.axes open_stage first) stages.0
 
-      may_walk : MayWalk set moment (machine.inside set ports it.0 it.1)
+      may_walk : MayWalk set moment (machine.inside set streams it.0 it.1)
       may_walk =
           let below = walked_cells o.axes o.way o.walks levels in
           record {
-            outset = may.outset;
+            foreseen_start = may.foreseen_start;
             stage = stages.0;
             unloaded = refl;
             deep = omega (arith, may.deep, deeper, more);
@@ -275,7 +275,7 @@ module _ {Plan : Type 0} (set : Setting Plan) (at : Moment) (m : Machine) (may :
               takes_cells = λ s. (cells_in_turn s).1;
               due = (due-split o (loads_of o levels first) (flat_map (loads_of o levels) others) begins.entered.met due).0;
             };
-            image = ap (λ (x : Own × Machine). machine.inside set ports x.0 x.1) now.hand;
+            image = ap (λ (x : Own × Machine). machine.inside set streams x.0 x.1) now.hand;
           }
 
       come_after : ComeAfter set others at.rest moment

@@ -21,7 +21,7 @@ use Rattle.pe_base.proofs.Walk.MapLaws.{found-changed}
 use Rattle.pe_base.proofs.Walk.Slots.{is_hung}
 use Rattle.pe_base.proofs.Walk.Families.{Each-range}
 use Rattle.pe_stacks.specs.Holdings.{Holdings, lent}
-use Rattle.pe_adapt.specs.CountedTouches.{Machine, Ports}
+use Rattle.pe_adapt.specs.CountedTouches.{Machine, StreamStacks}
 use Rattle.pe_walk.specs.Machine as machine
 use Rattle.pe_walk.specs.Standing.{IsIdle}
 use Rattle.pe_walk.proofs.Simulation.Cells.Corners.{down_from}
@@ -81,21 +81,21 @@ module _ {Plan : Type 0} (set : Setting Plan) where
       before j k low = grind arith
 
   -- the machine makes them likewise
-  pub corners_made : (ports : Ports) (k n : ℕ) (its : List VertexRecord) (w : Working) (m : Machine) → m.family.list ≡ w.list → m.vertices.fresh + k < 2 ^ 63 → its ≡ map (record_at set.axes w root) (range_with_len k n)
-      → machine.root_corners set ports k its m
+  pub corners_made : (streams : StreamStacks) (k n : ℕ) (its : List VertexRecord) (w : Working) (m : Machine) → m.family.list ≡ w.list → m.vertices.fresh + k < 2 ^ 63 → its ≡ map (record_at set.axes w root) (range_with_len k n)
+      → machine.root_corners set streams k its m
       ≡ at_once (
         map (record_at set.axes (model.root_corners set (down_from k) w) root) (range_with_len 0 (k + n)),
         record m { vertices = lent_times k m.vertices; family = record m.family { list = (model.root_corners set (down_from k) w).list } },
       )
-  corners_made ports zero n its w m list few same =
+  corners_made streams zero n its w m list few same =
       ap₂ (λ vs l. at_once (vs, record m { family = record m.family { list = l } })) (same ∙ ap (λ z. map (record_at set.axes w root) (range_with_len 0 z)) (let e : n ≡ zero + n = omega arith in e)) list
-  corners_made ports (suc k) n its w m list few same =
+  corners_made streams (suc k) n its w m list few same =
       let made = fresh_vertex set Hanging root m.family in
       let alike : made.0 ≡ (fresh_vertex set Hanging root (family_of set.axes w root)).0 = ap (λ l. let v : VertexRecord = record { state = Unrefined; kind = Hanging; numbers = (set.rules.fresh_vertex set.plan l).numbers } in v) list in
       let lists : made.1.list ≡ (model.root_corner set k w).list = ap (λ l. (set.rules.fresh_vertex set.plan l).list) list in
       let m' : Machine = record m { vertices = lent m.vertices; family = made.1 } in
-      ap (λ b. and_then (allowed b (at_once (lent m.vertices))) (λ vertices. machine.root_corners set ports k (made.0 ∷ its) (record m { vertices = vertices; family = made.1 }))) (lt-ltb m.vertices.fresh (2 ^ 63) (omega (arith, few)))
-      ∙ corners_made ports k (suc n) (made.0 ∷ its) (model.root_corner set k w) m' lists (omega (arith, few))
+      ap (λ b. and_then (allowed b (at_once (lent m.vertices))) (λ vertices. machine.root_corners set streams k (made.0 ∷ its) (record m { vertices = vertices; family = made.1 }))) (lt-ltb m.vertices.fresh (2 ^ 63) (omega (arith, few)))
+      ∙ corners_made streams k (suc n) (made.0 ∷ its) (model.root_corner set k w) m' lists (omega (arith, few))
       (ap₂ (λ v vs. v ∷ vs)
       (alike ∙ sym (ap (λ found. unwrap_or found (vertex_at w (corner set.axes root k))) (root_put k w k ∙ ap (λ b. if b then Some (fresh_vertex set Hanging root (family_of set.axes w root)).0 else at_corner w.hanging root k) (eq-eqb k k refl))))
       (same ∙ ap (λ z. map (record_at set.axes w root) (range_with_len z n)) (let e : suc k ≡ k + 1 = omega arith in e) ∙ map_same (record_at set.axes w root) (record_at set.axes (model.root_corner set k w) root) (range_with_len (k + 1) n) (Each-range (λ j. record_at set.axes w root j ≡ record_at set.axes (model.root_corner set k w) root j) (k + 1) n

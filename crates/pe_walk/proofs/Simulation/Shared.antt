@@ -30,7 +30,7 @@ use Rattle.pe_order.specs.Tokens.{Outlook, Tokens}
 use Rattle.pe_order.specs.Apart.{IsApart, lies}
 use Rattle.pe_order.specs.Traffic.{OnlyCounting}
 use Rattle.pe_walk.specs.CoreKeeps.{IsAlike, AreAlike}
-use Rattle.pe_walk.specs.Standing.{Foresight, Outset, Stage, IsFair, IsIdle, Owes, times}
+use Rattle.pe_walk.specs.Standing.{Foresight, ForeseenStart, Stage, IsFair, IsIdle, Owes, times}
 use Rattle.pe_order.proofs.Tokens.Apart.{one_if}
 use Rattle.pe_walk.proofs.Simulation.CoreLaws.{length-alike}
 use Rattle.pe_walk.proofs.Simulation.LoadedKinds.{found_stored}
@@ -115,7 +115,7 @@ lies_unheld o t apart counting x some = omega (arith, some, apart.once x (lies_c
 pub cells-image : (w w' : Working) (held : Holdings Place) → ((x : Place) → 1 ≤ lies held x → at w'.cells x ≡ at w.cells x) → map_holdings (cell_at w') held ≡ map_holdings (cell_at w) held
 cells-image w w' held same = map_holdings-same (cell_at w') (cell_at w) held (on_stacks (λ x. cell_at w' x ≡ cell_at w x) held (λ x some. ap (λ found. unwrap_or found []) (same x some)))
 
-pub vertices-image : {Plan : Type 0} (set : Setting Plan) (e : Outset) (w w' : Working) (t t' : Tokens) (held : Holdings Place)
+pub vertices-image : {Plan : Type 0} (set : Setting Plan) (e : ForeseenStart) (w w' : Working) (t t' : Tokens) (held : Holdings Place)
     → ((x : Place) → 1 ≤ lies held x → (at w'.vertices x ≡ at w.vertices x) × (t'.met x ≡ t.met x))
     → map_holdings (record_of set e w' t') held ≡ map_holdings (record_of set e w t) held
 vertices-image set e w w' t t' held same =
@@ -321,7 +321,7 @@ pub record OneMore (tally tally' : Tally) (t t' : Tokens) : Type 0 where
   pub cell_pops : (s : ℕ) → (stack_at t'.cells s).pops ≤ (stack_at t.cells s).pops + 1
 
 -- less is owed then
-pub owes-more : (axes max_cells : ℕ) (e : Outset) (st st' : Stage) (tally tally' : Tally) (t t' : Tokens)
+pub owes-more : (axes max_cells : ℕ) (e : ForeseenStart) (st st' : Stage) (tally tally' : Tally) (t t' : Tokens)
     → Owes axes max_cells e st tally t → OneMore tally tally' t t' → st'.owed + 1 ≤ st.owed → length st'.ahead + st.counted ≡ length st.ahead + st'.counted
     → ((s : ℕ) → len_at t'.vertices s + st'.unstored ≤ len_at t.vertices s + st.unstored)
     → ((s : ℕ) → len_at t'.cells s + length st'.entered + st'.counted ≤ len_at t.cells s + length st.entered + st.counted)

@@ -1,4 +1,4 @@
--- A traversal of a grid as it begins: its outset, its places on stacks, and its working state.
+-- A traversal of a grid as it begins: its foreseen_start, its places on stacks, and its working state.
 use Rattle.std.proofs.Common.{◌≡◌, ◌⊎◌, ℕ, zero, suc, ◌+◌, ◌-◌, ◌*◌, ◌^◌, ◌<◌, ◌≤◌, Bool, true, false, not, ◌&&◌, ◌||◌, ◌==◌, List, [], ◌∷◌, map, length, slice_index, get_or, take, drop, Option, Some, None, refl, sym, ap, subst, ◌∙◌, arith, is_some, true≢false, if◌then◌else◌, inl, inr}
 use Rattle.std.specs.Prelude.{nat_lt, nat_le}
 use Rattle.std.proofs.lemmas.Bool.{lt-ltb, ltb-true, ltb-false, eq-eqb, eqb-true, ne_eqb, and_parts, or_right}
@@ -28,7 +28,7 @@ use Rattle.pe_order.specs.Takings.{Grown, MayTraverse}
 use Rattle.pe_order.specs.CellsAhead.{times, cells_below}
 use Rattle.pe_order.specs.Laws.{IsCell}
 use Rattle.pe_order.specs.Outlooks.{outlook, stored_outlook, stored_walked, IsNew}
-use Rattle.pe_walk.specs.Standing.{Outset, Stage, IsOutset, Foresees, Stands, Fair, Owes, Holds}
+use Rattle.pe_walk.specs.Standing.{ForeseenStart, Stage, IsForeseenStart, Foresees, Stands, Fair, Owes, Holds}
 use Rattle.pe_stacks.specs.StreamsHeld.{stored_of}
 use Rattle.pe_walk.specs.Gridded.{IsTraversalOf, MachineMayTraverse}
 use Rattle.pe_base.specs.Tree.Ways.{way_of}
@@ -55,7 +55,7 @@ use Rattle.pe_walk.proofs.Simulation.Shared.{on_one, lies_counts}
 use Rattle.pe_walk.proofs.Simulation.Levels.{levels_differ}
 use Rattle.pe_walk.proofs.Simulation.Leaves.{record_of}
 use Rattle.pe_walk.proofs.Simulation.Visits.Entering.{times-here, times-there}
-use Rattle.pe_walk.proofs.Simulation.Outsets.{as_begun, foresight_of, foresees}
+use Rattle.pe_walk.proofs.Simulation.ForeseenStarts.{as_begun, foresight_of, foresees}
 use Rattle.pe_walk.proofs.Simulation.RootCorners.{HasCorners, has_corners}
 use Rattle.pe_walk.proofs.Simulation.Cells.Corners.{down_from}
 use Rattle.pe_walk.proofs.Simulation.Begins.{places_with, count-with, WithItems, with_items, image-with, kind_among, with_kind, records_again}
@@ -70,9 +70,9 @@ tokens_of grid swapped m = record {
   met = λ place. 0;
 }
 
--- the outset of a traversal of a grid: no count was greater than this when it began, with the root's corners
-abbrev pub outset_of : {Plan : Type 0} → Setting Plan → Grid → Bool → Machine → Outset
-outset_of set grid swapped m = record {
+-- the foreseen_start of a traversal of a grid: no count was greater than this when it began, with the root's corners
+abbrev pub foreseen_start_of : {Plan : Type 0} → Setting Plan → Grid → Bool → Machine → ForeseenStart
+foreseen_start_of set grid swapped m = record {
   outlook = outlook set.start_level grid swapped;
   foresight = foresight_of set.start_level grid;
   stale = kind_among (stream_vertices grid) (items_at m.vertices (input_stack swapped));
@@ -198,9 +198,9 @@ module _ {Plan : Type 0} (set : Setting Plan) (grid : Grid) (swapped : Bool) (m 
           none (suc n) e = absurd (true≢false (sym (lies_counts o (begun o (tokens_of grid swapped m)) counting_of vertex (omega (arith, lying, e))) ∙ off))
 
   -- # The image
-  pub image_vertices : map_holdings (record_of set (outset_of set grid swapped m) (begun_of set.traversal grid) (tokens_of grid swapped m)) (tokens_of grid swapped m).vertices ≡ m.vertices
+  pub image_vertices : map_holdings (record_of set (foreseen_start_of set grid swapped m) (begun_of set.traversal grid) (tokens_of grid swapped m)) (tokens_of grid swapped m).vertices ≡ m.vertices
   image_vertices =
-      image-with (record_of set (outset_of set grid swapped m) (begun_of set.traversal grid) (tokens_of grid swapped m)) m.vertices (λ s. if s == input_stack swapped then stream_vertices grid else []) (λ s low. by (s == input_stack swapped) s refl)
+      image-with (record_of set (foreseen_start_of set grid swapped m) (begun_of set.traversal grid) (tokens_of grid swapped m)) m.vertices (λ s. if s == input_stack swapped then stream_vertices grid else []) (λ s low. by (s == input_stack swapped) s refl)
     where
       empty : {X Y : Type 0} (f : X → Y) (xs : List X) → map f xs ≡ [] → xs ≡ []
       empty f [] e = refl
@@ -212,10 +212,10 @@ module _ {Plan : Type 0} (set : Setting Plan) (grid : Grid) (swapped : Bool) (m 
       seen vertex kind (Some stored) = refl
 
       by : (b : Bool) → (s : ℕ) → (s == input_stack swapped) ≡ b
-          → map (record_of set (outset_of set grid swapped m) (begun_of set.traversal grid) (tokens_of grid swapped m)) (if b then stream_vertices grid else []) ≡ items_at m.vertices s
+          → map (record_of set (foreseen_start_of set grid swapped m) (begun_of set.traversal grid) (tokens_of grid swapped m)) (if b then stream_vertices grid else []) ≡ items_at m.vertices s
       by true s here =
           let same : s ≡ input_stack swapped = eqb-true s (input_stack swapped) here in
-          map_same (record_of set (outset_of set grid swapped m) (begun_of set.traversal grid) (tokens_of grid swapped m))
+          map_same (record_of set (foreseen_start_of set grid swapped m) (begun_of set.traversal grid) (tokens_of grid swapped m))
           (λ q. with_kind (kind_among (stream_vertices grid) (items_at m.vertices (input_stack swapped)) q) (unwrap_or (at grid.vertices q) (record { state = Unrefined; numbers = [] }))) (stream_vertices grid)
           (Each-all _ (λ q. ap (λ found. let it : VertexRecord = unwrap_or found no_vertex in record it { kind = kind_among (stream_vertices grid) (items_at m.vertices (input_stack swapped)) q }) (found-turned_by as_begun grid.vertices q.level q.pos)
           ∙ seen q (kind_among (stream_vertices grid) (items_at m.vertices (input_stack swapped)) q) (at grid.vertices q)) (stream_vertices grid))
@@ -254,8 +254,8 @@ module _ {Plan : Type 0} (set : Setting Plan) (grid : Grid) (swapped : Bool) (m 
   fits : IsTraversalOf set grid
   fits = may.fits
 
-  pub is_outset : IsOutset set (outset_of set grid swapped m) (walked set.start_level grid)
-  is_outset = record {
+  pub is_foreseen_start : IsForeseenStart set (foreseen_start_of set grid swapped m) (walked set.start_level grid)
+  is_foreseen_start = record {
     foresees = foresees set grid swapped may.fits sound_of stored_by;
     grown = subst (λ n. Grown (outlook set.start_level grid swapped) (walked set.start_level grid) n) (sym may.fits.greatest) grown_of;
     bound = let few = may.fits.max_cells in bounded set.max_cells few;
@@ -265,7 +265,7 @@ module _ {Plan : Type 0} (set : Setting Plan) (grid : Grid) (swapped : Bool) (m 
       bounded n few = omega (arith, few)
 
   sees : Foresees set (outlook set.start_level grid swapped) (foresight_of set.start_level grid)
-  sees = is_outset.foresees
+  sees = is_foreseen_start.foresees
 
   -- no corner of the root counts
   root_off : (k : ℕ) → o.counts (corner set.axes root k) ≡ false
@@ -385,8 +385,8 @@ module _ {Plan : Type 0} (set : Setting Plan) (grid : Grid) (swapped : Bool) (m 
           there_read x ∙ ap (nat_lt 0) (sym (lies_read x))
           ∙ or_none (nat_lt 0 (lies (tokens_of grid swapped m).cells x)) (nat_lt 0 (times (root ∷ []) x)) (ap (nat_lt 0) (times-there root [] x e))
 
-  owes : Owes set.axes set.max_cells (outset_of set grid swapped m) first_stage cornered.tally start
-  owes = subst (λ tally. Owes set.axes set.max_cells (outset_of set grid swapped m) first_stage tally start) (sym has.tally) (record {
+  owes : Owes set.axes set.max_cells (foreseen_start_of set grid swapped m) first_stage cornered.tally start
+  owes = subst (λ tally. Owes set.axes set.max_cells (foreseen_start_of set grid swapped m) first_stage tally start) (sym has.tally) (record {
     cells = omega arith;
     total = omega arith;
     fresh = let corners = few_corners set.axes (subst IsDim (sym may.fits.axes) dim_of).1 in omega (arith, lent_is.fresh, many, may.counts.fresh, corners);
@@ -405,5 +405,5 @@ module _ {Plan : Type 0} (set : Setting Plan) (grid : Grid) (swapped : Bool) (m 
   })
 
   -- what holds as a traversal begins
-  pub starts : Holds set (outset_of set grid swapped m) first_stage cornered start
+  pub starts : Holds set (foreseen_start_of set grid swapped m) first_stage cornered start
   starts = record { stands = stands; fair = fair; owes = owes }

@@ -33,9 +33,9 @@ use Rattle.pe_order.specs.Tokens.{Tokens, ended, numbers, each_some, lent_for}
 use Rattle.pe_order.specs.Tokens as tokens
 use Rattle.pe_order.specs.Takings.{HasTraversed}
 use Rattle.pe_order.specs.Outlooks.{outlook}
-use Rattle.pe_walk.specs.Standing.{Outset, Holds, HasRoom}
+use Rattle.pe_walk.specs.Standing.{ForeseenStart, Holds, HasRoom}
 use Rattle.pe_order.specs.CellsAhead.{times}
-use Rattle.pe_walk.specs.Gridded.{MachineMayTraverse, MachineHasTraversed, EndAlike, IsShort, IsWalked, ports_of}
+use Rattle.pe_walk.specs.Gridded.{MachineMayTraverse, MachineHasTraversed, EndAlike, IsShort, IsWalked, stream_stacks_of}
 use Rattle.pe_walk.specs.FaceLaw.{begins}
 use Rattle.pe_order.proofs.Tests.{some_power, times_one}
 use Rattle.pe_order.proofs.Tokens.Short.{stacks_are_short}
@@ -44,7 +44,7 @@ use Rattle.pe_order.proofs.Tokens.Traversals.{whole_traversal}
 use Rattle.pe_walk.proofs.Simulation.Matching.{Matches, ending_map, then-grouped}
 use Rattle.pe_walk.proofs.Simulation.Leaves.{image_of, record_of, at_root}
 use Rattle.pe_walk.proofs.Simulation.RootCorners.{HasCorners, has_corners, lent_times, corners_made}
-use Rattle.pe_walk.proofs.Simulation.Starts.{tokens_of, outset_of, sound_of, dim_of, grown_of, vertices_at, cells_at, may_traverse, image_vertices, image_cells, cornered, start, is_outset, starts}
+use Rattle.pe_walk.proofs.Simulation.Starts.{tokens_of, foreseen_start_of, sound_of, dim_of, grown_of, vertices_at, cells_at, may_traverse, image_vertices, image_cells, cornered, start, is_foreseen_start, starts}
 use Rattle.pe_walk.proofs.Simulation.Cells.Corners.{reverse-range}
 use Rattle.pe_walk.proofs.Simulation.Cells.Simulated.{traversal_simulated}
 use Rattle.pe_walk.proofs.Simulation.Unstuck.{middle-fits}
@@ -74,8 +74,8 @@ end-alike {W = W} swapped room image course machine after close fits same closes
     go stuck p fit em q = absurd cc
 
 module _ {Plan : Type 0} (set : Setting Plan) (grid : Grid) (swapped : Bool) (m : Machine) (may : MachineMayTraverse set grid swapped m) where
-  abbrev e : Outset
-  e = outset_of set grid swapped m
+  abbrev e : ForeseenStart
+  e = foreseen_start_of set grid swapped m
 
   abbrev levels : ℕ
   levels = grid.greatest - 1
@@ -92,7 +92,7 @@ module _ {Plan : Type 0} (set : Setting Plan) (grid : Grid) (swapped : Bool) (m 
   -- the machine with the root's corners in hand is the image
   corners_image : with_parents (map (record_at set.axes (cornered set grid swapped m may) root) (range_with_len 0 (2 ^ set.axes + 0)))
       (record m { vertices = lent_times (2 ^ set.axes) m.vertices; family = record m.family { list = (cornered set grid swapped m may).list } })
-      ≡ image_of set (outset_of set grid swapped m) root (cornered set grid swapped m may) (start set grid swapped m may)
+      ≡ image_of set (foreseen_start_of set grid swapped m) root (cornered set grid swapped m may) (start set grid swapped m may)
   corners_image = λ i. record {
     vertices = vertices i;
     cells = cells i;
@@ -100,12 +100,12 @@ module _ {Plan : Type 0} (set : Setting Plan) (grid : Grid) (swapped : Bool) (m 
     tally = (may.tally ∙ sym has.tally) i;
   }
     where
-      vertices : lent_times (2 ^ set.axes) m.vertices ≡ map_holdings (record_of set (outset_of set grid swapped m) (cornered set grid swapped m may) (start set grid swapped m may)) (start set grid swapped m may).vertices
+      vertices : lent_times (2 ^ set.axes) m.vertices ≡ map_holdings (record_of set (foreseen_start_of set grid swapped m) (cornered set grid swapped m may) (start set grid swapped m may)) (start set grid swapped m may).vertices
       vertices =
           ap (lent_times (2 ^ set.axes)) (sym (image_vertices set grid swapped m may))
-          ∙ ap (λ n. lent_times n (map_holdings (record_of set (outset_of set grid swapped m) (begun_of set.traversal grid) (tokens_of grid swapped m)) (tokens_of grid swapped m).vertices)) (sym many)
-          ∙ sym (lent-image (record_of set (outset_of set grid swapped m) (begun_of set.traversal grid) (tokens_of grid swapped m)) (numbers (outlook set.start_level grid swapped)) (tokens_of grid swapped m).vertices lent_for (λ held. refl) (λ k ks held. refl))
-          ∙ ap (λ vertices. map_holdings (record_of set (outset_of set grid swapped m) (record (begun_of set.traversal grid) { vertices = vertices }) (tokens_of grid swapped m)) (lent_for (numbers (outlook set.start_level grid swapped)) (tokens_of grid swapped m).vertices)) (sym has.vertices)
+          ∙ ap (λ n. lent_times n (map_holdings (record_of set (foreseen_start_of set grid swapped m) (begun_of set.traversal grid) (tokens_of grid swapped m)) (tokens_of grid swapped m).vertices)) (sym many)
+          ∙ sym (lent-image (record_of set (foreseen_start_of set grid swapped m) (begun_of set.traversal grid) (tokens_of grid swapped m)) (numbers (outlook set.start_level grid swapped)) (tokens_of grid swapped m).vertices lent_for (λ held. refl) (λ k ks held. refl))
+          ∙ ap (λ vertices. map_holdings (record_of set (foreseen_start_of set grid swapped m) (record (begun_of set.traversal grid) { vertices = vertices }) (tokens_of grid swapped m)) (lent_for (numbers (outlook set.start_level grid swapped)) (tokens_of grid swapped m).vertices)) (sym has.vertices)
 
       cells : m.cells ≡ map_holdings (cell_at (cornered set grid swapped m may)) (tokens_of grid swapped m).cells
       cells = sym (image_cells set grid swapped m may)
@@ -119,43 +119,43 @@ module _ {Plan : Type 0} (set : Setting Plan) (grid : Grid) (swapped : Bool) (m 
 
   -- the machine's steps between making the root's corners and giving them up
   abbrev middle : Machine → Course Machine
-  middle x = and_then (machine.plain set (ports_of swapped) BeginIteration x) (λ x. and_then (each (machine.walk_cell set (ports_of swapped) (suc (grid.greatest - 1))) (children set.axes (way set) root) x) (machine.plain set (ports_of swapped) EndIteration))
+  middle x = and_then (machine.plain set (stream_stacks_of swapped) BeginIteration x) (λ x. and_then (each (machine.walk_cell set (stream_stacks_of swapped) (suc (grid.greatest - 1))) (children set.axes (way set) root) x) (machine.plain set (stream_stacks_of swapped) EndIteration))
 
   abbrev close : Machine → Course Machine
-  close x = machine.give_up_all set (ports_of swapped) x.family.parents (with_parents [] x)
+  close x = machine.give_up_all set (stream_stacks_of swapped) x.family.parents (with_parents [] x)
 
   -- what comes after the first event
   abbrev after_first : Machine → Course Machine
-  after_first x = and_then (each (machine.walk_cell set (ports_of swapped) (suc (grid.greatest - 1))) (children set.axes (way set) root) x) (λ x. and_then (machine.plain set (ports_of swapped) EndIteration x) close)
+  after_first x = and_then (each (machine.walk_cell set (stream_stacks_of swapped) (suc (grid.greatest - 1))) (children set.axes (way set) root) x) (λ x. and_then (machine.plain set (stream_stacks_of swapped) EndIteration x) close)
 
   -- the first event is fired at the image
-  pub begins_is : begins set (ports_of swapped) m ≡ machine.plain set (ports_of swapped) BeginIteration (image_of set (outset_of set grid swapped m) root (cornered set grid swapped m may) (start set grid swapped m may))
+  pub begins_is : begins set (stream_stacks_of swapped) m ≡ machine.plain set (stream_stacks_of swapped) BeginIteration (image_of set (foreseen_start_of set grid swapped m) root (cornered set grid swapped m may) (start set grid swapped m may))
   begins_is =
-      ap (λ made. and_then made (λ it. machine.plain set (ports_of swapped) BeginIteration (with_parents it.0 it.1)))
-      (corners_made set (ports_of swapped) (2 ^ set.axes) 0 [] (begun_of set.traversal grid) m may.holds.list (let corners = few_corners set.axes few in omega (arith, may.counts.fresh, corners)) refl)
-      ∙ ap (machine.plain set (ports_of swapped) BeginIteration) corners_image
+      ap (λ made. and_then made (λ it. machine.plain set (stream_stacks_of swapped) BeginIteration (with_parents it.0 it.1)))
+      (corners_made set (stream_stacks_of swapped) (2 ^ set.axes) 0 [] (begun_of set.traversal grid) m may.holds.list (let corners = few_corners set.axes few in omega (arith, may.counts.fresh, corners)) refl)
+      ∙ ap (machine.plain set (stream_stacks_of swapped) BeginIteration) corners_image
     where
       few : set.axes ≤ 4
       few = subst (λ n. n ≤ 4) (sym may.fits.axes) (sound_of set grid swapped m may).dim.1
 
   -- a traversal of the machine, with its steps grouped
-  pub machine_is : machine.traverse set (ports_of swapped) grid.greatest m
-      ≡ and_then (and_then (machine.plain set (ports_of swapped) BeginIteration (image_of set (outset_of set grid swapped m) root (cornered set grid swapped m may) (start set grid swapped m may)))
-      (λ x. and_then (each (machine.walk_cell set (ports_of swapped) (suc (grid.greatest - 1))) (children set.axes (way set) root) x) (machine.plain set (ports_of swapped) EndIteration)))
-      (λ x. machine.give_up_all set (ports_of swapped) x.family.parents (with_parents [] x))
+  pub machine_is : machine.traverse set (stream_stacks_of swapped) grid.greatest m
+      ≡ and_then (and_then (machine.plain set (stream_stacks_of swapped) BeginIteration (image_of set (foreseen_start_of set grid swapped m) root (cornered set grid swapped m may) (start set grid swapped m may)))
+      (λ x. and_then (each (machine.walk_cell set (stream_stacks_of swapped) (suc (grid.greatest - 1))) (children set.axes (way set) root) x) (machine.plain set (stream_stacks_of swapped) EndIteration)))
+      (λ x. machine.give_up_all set (stream_stacks_of swapped) x.family.parents (with_parents [] x))
   machine_is =
-      ap (λ n. machine.traverse set (ports_of swapped) n m) (sym deep)
-      ∙ sym (then-grouped (machine.root_corners set (ports_of swapped) (2 ^ set.axes) [] m) (λ it. machine.plain set (ports_of swapped) BeginIteration (with_parents it.0 it.1)) after_first)
+      ap (λ n. machine.traverse set (stream_stacks_of swapped) n m) (sym deep)
+      ∙ sym (then-grouped (machine.root_corners set (stream_stacks_of swapped) (2 ^ set.axes) [] m) (λ it. machine.plain set (stream_stacks_of swapped) BeginIteration (with_parents it.0 it.1)) after_first)
       ∙ ap (λ begun. and_then begun after_first) begins_is
       ∙ sym (
-      then-grouped (machine.plain set (ports_of swapped) BeginIteration first) (λ x. and_then (each (machine.walk_cell set (ports_of swapped) (suc (grid.greatest - 1))) (children set.axes (way set) root) x) (machine.plain set (ports_of swapped) EndIteration))
-      (λ x. machine.give_up_all set (ports_of swapped) x.family.parents (with_parents [] x))
-      ∙ ap (λ (next : Machine → Course Machine). and_then (machine.plain set (ports_of swapped) BeginIteration first) next)
-      (λ i x. (then-grouped (each (machine.walk_cell set (ports_of swapped) (suc (grid.greatest - 1))) (children set.axes (way set) root) x) (machine.plain set (ports_of swapped) EndIteration) (λ x. machine.give_up_all set (ports_of swapped) x.family.parents (with_parents [] x))) i)
+      then-grouped (machine.plain set (stream_stacks_of swapped) BeginIteration first) (λ x. and_then (each (machine.walk_cell set (stream_stacks_of swapped) (suc (grid.greatest - 1))) (children set.axes (way set) root) x) (machine.plain set (stream_stacks_of swapped) EndIteration))
+      (λ x. machine.give_up_all set (stream_stacks_of swapped) x.family.parents (with_parents [] x))
+      ∙ ap (λ (next : Machine → Course Machine). and_then (machine.plain set (stream_stacks_of swapped) BeginIteration first) next)
+      (λ i x. (then-grouped (each (machine.walk_cell set (stream_stacks_of swapped) (suc (grid.greatest - 1))) (children set.axes (way set) root) x) (machine.plain set (stream_stacks_of swapped) EndIteration) (λ x. machine.give_up_all set (stream_stacks_of swapped) x.family.parents (with_parents [] x))) i)
       )
     where
       first : Machine
-      first = image_of set (outset_of set grid swapped m) root (cornered set grid swapped m may) (start set grid swapped m may)
+      first = image_of set (foreseen_start_of set grid swapped m) root (cornered set grid swapped m may) (start set grid swapped m may)
 
   -- and the walk by address
   pub model_is : model.traverse set grid
@@ -168,13 +168,13 @@ module _ {Plan : Type 0} (set : Setting Plan) (grid : Grid) (swapped : Bool) (m 
 
   -- how a traversal ends, once the last event has fired
   abbrev pub Closes : (Push → Type 0) → Type 0
-  Closes room = (w : Working) (t : Tokens) → Holds set (outset_of set grid swapped m) (at_root set (outset_of set grid swapped m) room []) w t
+  Closes room = (w : Working) (t : Tokens) → Holds set (foreseen_start_of set grid swapped m) (at_root set (foreseen_start_of set grid swapped m) room []) w t
       → HasTraversed (outlook set.start_level grid swapped) grid.greatest (tokens_of grid swapped m) (ended (outlook set.start_level grid swapped) t)
-      → (after : Machine) × (machine.give_up_all set (ports_of swapped) (records_of set.axes w root) (with_parents [] (image_of set (outset_of set grid swapped m) root w t)) ≡ at_once after)
+      → (after : Machine) × (machine.give_up_all set (stream_stacks_of swapped) (records_of set.axes w root) (with_parents [] (image_of set (foreseen_start_of set grid swapped m) root w t)) ≡ at_once after)
       × MachineHasTraversed swapped (ended_of w grid, w.tally) after
 
   -- each push leaves its stack short
-  room_of : HasRoom set (outset_of set grid swapped m) (IsShort set grid swapped)
+  room_of : HasRoom set (foreseen_start_of set grid swapped m) (IsShort set grid swapped)
   room_of = record {
     vertices = λ st w t h s there other. record {
       there = there;
@@ -198,22 +198,22 @@ module _ {Plan : Type 0} (set : Setting Plan) (grid : Grid) (swapped : Bool) (m 
       entered_some (y ∷ xs) x some = omega arith
 
   -- a traversal of the machine is the walk by address
-  pub turns : Closes (IsShort set grid swapped) → IsWalked set grid swapped (machine.traverse set (ports_of swapped) grid.greatest m)
+  pub turns : Closes (IsShort set grid swapped) → IsWalked set grid swapped (machine.traverse set (stream_stacks_of swapped) grid.greatest m)
   turns closes =
       let whole = whole_traversal (outlook set.start_level grid swapped) (walked set.start_level grid) grid.greatest (tokens_of grid swapped m) (dim_of set grid swapped m may) (grown_of set grid swapped m may) (may_traverse set grid swapped m may) in
       let runs = map_some (ended (outlook set.start_level grid swapped)) (each_some (tokens.walk (outlook set.start_level grid swapped) (grid.greatest - 1)) (children grid.axes (outlook set.start_level grid swapped).way root) (start set grid swapped m may)) whole.0 whole.1 in
-      let steps = traversal_simulated set (outset_of set grid swapped m) (walked set.start_level grid) (IsShort set grid swapped) (is_outset set grid swapped m may) room_of (grid.greatest - 1)
+      let steps = traversal_simulated set (foreseen_start_of set grid swapped m) (walked set.start_level grid) (IsShort set grid swapped) (is_foreseen_start set grid swapped m may) room_of (grid.greatest - 1)
       (cornered set grid swapped m may) (start set grid swapped m may) runs.0 (starts set grid swapped m may) runs.1 in
-      let alike = end-alike swapped (IsShort set grid swapped) (λ w. image_of set (outset_of set grid swapped m) root w runs.0)
+      let alike = end-alike swapped (IsShort set grid swapped) (λ w. image_of set (foreseen_start_of set grid swapped m) root w runs.0)
       (and_then (model.plain set BeginIteration (cornered set grid swapped m may)) (λ w. and_then (each (model.walk_cell set (grid.greatest - 1) root) (children set.axes (way set) root) w) (model.plain set EndIteration)))
-      (and_then (machine.plain set (ports_of swapped) BeginIteration (image_of set (outset_of set grid swapped m) root (cornered set grid swapped m may) (start set grid swapped m may)))
-      (λ x. and_then (each (machine.walk_cell set (ports_of swapped) (suc (grid.greatest - 1))) (children set.axes (way set) root) x) (machine.plain set (ports_of swapped) EndIteration)))
-      (λ w. (ended_of w grid, w.tally)) (λ x. machine.give_up_all set (ports_of swapped) x.family.parents (with_parents [] x))
+      (and_then (machine.plain set (stream_stacks_of swapped) BeginIteration (image_of set (foreseen_start_of set grid swapped m) root (cornered set grid swapped m may) (start set grid swapped m may)))
+      (λ x. and_then (each (machine.walk_cell set (stream_stacks_of swapped) (suc (grid.greatest - 1))) (children set.axes (way set) root) x) (machine.plain set (stream_stacks_of swapped) EndIteration)))
+      (λ w. (ended_of w grid, w.tally)) (λ x. machine.give_up_all set (stream_stacks_of swapped) x.family.parents (with_parents [] x))
       (middle-fits set (grid.greatest - 1) (cornered set grid swapped m may)) steps.same
       (λ w ends. closes w runs.0 (steps.holds w ends) (subst (λ t. HasTraversed (outlook set.start_level grid swapped) grid.greatest (tokens_of grid swapped m) t) (sym runs.2) whole.2)) in
       record {
         text = ap (λ c. c.text) machine_is ∙ alike.0 ∙ sym (ap (λ c. c.text) model_is);
-        ending = subst (λ (a : Ending (Grid × Tally)). EndAlike swapped a (machine.traverse set (ports_of swapped) grid.greatest m).ending) (sym (ap (λ c. c.ending) model_is))
+        ending = subst (λ (a : Ending (Grid × Tally)). EndAlike swapped a (machine.traverse set (stream_stacks_of swapped) grid.greatest m).ending) (sym (ap (λ c. c.ending) model_is))
             (subst (λ (b : Ending Machine). EndAlike swapped (course_map (λ w. (ended_of w grid, w.tally)) (and_then (model.plain set BeginIteration (cornered set grid swapped m may))
             (λ w. and_then (each (model.walk_cell set (grid.greatest - 1) root) (children set.axes (way set) root) w) (model.plain set EndIteration)))).ending b) (sym (ap (λ c. c.ending) machine_is)) alike.1);
         log = subst (λ (c : Course Machine). Each (IsShort set grid swapped) c.log) (sym machine_is) alike.2;

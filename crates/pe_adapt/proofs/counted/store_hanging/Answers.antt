@@ -9,7 +9,7 @@ use Rattle.pe_base.specs.Calls.Follows.{Follows, Fits, read_by}
 use Rattle.pe_adapt.specs.Slots.{seen_slot}
 use Rattle.pe_adapt.specs.Spots.{desk_in_hand}
 use Rattle.pe_adapt.proofs.Touching.{store-same}
-use Rattle.pe_adapt.specs.WalkedCells.{setting_in, failure_in, ports_of}
+use Rattle.pe_adapt.specs.WalkedCells.{setting_in, failure_in, stream_stacks_of}
 use Rattle.pe_adapt.specs.CountedTouches.{output}
 use Rattle.pe_adapt.specs.TouchCalls.{hand_of, found_in}
 use Rattle.pe_adapt.proofs.CountedTouches.{walked-pos, goes-store, may-store-desk, slot-kind}
@@ -41,7 +41,7 @@ returns-in-Ok-clause-goes g c =
     let new = hand_of held' holds' (g.DV.Depot.room c.store_hanging.new.dv) c.store_hanging.new.parents c.store_hanging.new.parent (c.args.progress.now) in
     let desk' = desk_in_hand numbers holds' c.store_hanging.new.parents c.store_hanging.new.parent held'.list in
     let it = seen_slot numbers.vertex c.args.slot.now in
-    let out = output (ports_of settings) in
+    let out = output (stream_stacks_of settings) in
     let to = stack_out held.dim (way set) vertex place in
     let same = store-same set held.dim out place c.args.k it desk to c.corner_place-at.result refl at (λ counts. refl) in
     let fits = subst Fits (sym same) (may-store-desk rules numbers settings place c.args.k (Ok tt) old old it c.requires.fits) in
@@ -71,7 +71,7 @@ returns-in-Err-clause-goes g c =
     let new = hand_of held' holds' (g.DV.Depot.room c.store_hanging.new.dv) c.store_hanging.new.parents c.store_hanging.new.parent (record c.args.progress.now { at = c.corner_place-at.result }) in
     let desk' = desk_in_hand numbers holds' c.store_hanging.new.parents c.store_hanging.new.parent held'.list in
     let it = seen_slot numbers.vertex c.args.slot.now in
-    let out = output (ports_of settings) in
+    let out = output (stream_stacks_of settings) in
     let to = stack_out held.dim (way set) vertex place in
     let same = store-same set held.dim out place c.args.k it desk to c.corner_place-at.result refl at (λ counts. refl) in
     let fits = subst Fits (sym same) (may-store-desk rules numbers settings place c.args.k (Ok tt) old old it c.requires.fits) in

@@ -9,7 +9,7 @@ use Rattle.pe_adapt.specs.Slots.{seen_slot}
 use Rattle.pe_adapt.specs.Spots.{desk_in_hand}
 use Rattle.pe_adapt.specs.Touches.{store_as}
 use Rattle.pe_adapt.proofs.Touching.{store-same}
-use Rattle.pe_adapt.specs.WalkedCells.{setting_in, failure_in, ports_of}
+use Rattle.pe_adapt.specs.WalkedCells.{setting_in, failure_in, stream_stacks_of}
 use Rattle.pe_adapt.specs.CountedTouches.{output}
 use Rattle.pe_adapt.specs.TouchCalls.{hand_of, found_in}
 use Rattle.pe_adapt.proofs.CountedTouches.{walked-pos, goes-store, may-store-rises, may-store-desk, slot-kind, slot-counts, output-is}
@@ -47,7 +47,7 @@ store_last-requires-clause-fits g c =
     let it = seen_slot numbers.vertex c.args.slot.now in
     let out = output-is settings.input settings.output settings.cell_input settings.cell_output settings.streams in
     let same = ap (λ o. store_as set o None c.corner_place-at.result it desk) out
-    ∙ store-same set held.dim (output (ports_of settings)) place c.args.k it desk None c.corner_place-at.result refl at (λ counts. sym c.requires.last) in
+    ∙ store-same set held.dim (output (stream_stacks_of settings)) place c.args.k it desk None c.corner_place-at.result refl at (λ counts. sym c.requires.last) in
     subst Fits (sym same) (may-store-desk rules numbers settings place c.args.k (Ok tt) old old it c.requires.fits)
 
 pub returns-in-Ok-clause-goes : goal.returns-in-Ok-clause-goes
@@ -72,7 +72,7 @@ returns-in-Ok-clause-goes g c =
     let it = seen_slot numbers.vertex c.args.slot.now in
     let out = output-is settings.input settings.output settings.cell_input settings.cell_output settings.streams in
     let same = ap (λ o. store_as set o None c.corner_place-at.result it desk) out
-    ∙ store-same set held.dim (output (ports_of settings)) place c.args.k it desk None c.corner_place-at.result refl at (λ counts. sym c.requires.last) in
+    ∙ store-same set held.dim (output (stream_stacks_of settings)) place c.args.k it desk None c.corner_place-at.result refl at (λ counts. sym c.requires.last) in
     let tally = c.args.progress.now.tally in
     let last = is_none (stack_out held.dim (way set) vertex place) in
     goes-store rules numbers settings place c.args.k (Ok tt) old new it c.requires.fits
@@ -104,7 +104,7 @@ returns-in-Err-clause-goes g c =
     let it = seen_slot numbers.vertex c.args.slot.now in
     let out = output-is settings.input settings.output settings.cell_input settings.cell_output settings.streams in
     let same = ap (λ o. store_as set o None c.corner_place-at.result it desk) out
-    ∙ store-same set held.dim (output (ports_of settings)) place c.args.k it desk None c.corner_place-at.result refl at (λ counts. sym c.requires.last) in
+    ∙ store-same set held.dim (output (stream_stacks_of settings)) place c.args.k it desk None c.corner_place-at.result refl at (λ counts. sym c.requires.last) in
     let tally = c.args.progress.now.tally in
     let last = is_none (stack_out held.dim (way set) vertex place) in
     goes-store rules numbers settings place c.args.k (Err c.in-Err.halt) old new it c.requires.fits

@@ -11,7 +11,7 @@ use Rattle.pe_base.proofs.Calls.Leading.{follows-then, follows-found, leads_star
 use Rattle.pe_hang.proofs.Staying.{roomier-held, setting-kept}
 use Rattle.pe_adapt.specs.Stops.{failure_of_halt}
 use Rattle.pe_adapt.specs.Slots.{seen_slot}
-use Rattle.pe_adapt.proofs.Errors.{err-is}
+use Rattle.pe_base.proofs.Calls.Errors.{err-is}
 use Rattle.pe_adapt.proofs.Records.{born-is}
 use Rattle.pe_adapt.proofs.load.load_born.Goals as goal
 

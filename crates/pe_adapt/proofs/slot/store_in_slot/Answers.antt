@@ -12,7 +12,7 @@ use Rattle.pe_adapt.specs.Touches.{store_as}
 use Rattle.pe_adapt.proofs.Storing.{stored-may, stored-put, touch-waiting}
 use Rattle.pe_adapt.proofs.Touching.{store-same}
 use Rattle.pe_adapt.specs.CountedTouches.{is_placed, output}
-use Rattle.pe_adapt.specs.WalkedCells.{setting_in, ports_of, failure_in}
+use Rattle.pe_adapt.specs.WalkedCells.{setting_in, stream_stacks_of, failure_in}
 use Rattle.pe_adapt.specs.TouchCalls.{hand_of, found_in}
 use Rattle.pe_adapt.proofs.CountedTouches.{goes-store, may-store-desk, may-store-placed, route-is, tally-goes, number-none, number-some}
 use Rattle.pe_adapt.proofs.slot.store_in_slot.Goals as goal
@@ -58,7 +58,7 @@ put_down-requires g c =
     let s = number % 8 in
     let to = sym (number-some number c.if-go-eq0.false) ∙ route in
     let set = setting_in rules held settings in
-    let out = output (ports_of settings) in
+    let out = output (stream_stacks_of settings) in
     let family = family_in_hand numbers c.args.parents.now c.args.parent.now held.list in
     let desk = desk_in_hand numbers holds c.args.parents.now c.args.parent.now held.list in
     let f = record_of numbers.vertex in
@@ -92,7 +92,7 @@ returns-else-go-eq0-clause-goes g c =
     let s = number % 8 in
     let to = sym (number-some number c.if-go-eq0.false) ∙ route in
     let set = setting_in rules held settings in
-    let out = output (ports_of settings) in
+    let out = output (stream_stacks_of settings) in
     let family = family_in_hand numbers c.args.parents.now c.args.parent.now held.list in
     let desk = desk_in_hand numbers holds c.args.parents.now c.args.parent.now held.list in
     let f = record_of numbers.vertex in

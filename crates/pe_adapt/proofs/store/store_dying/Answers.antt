@@ -10,7 +10,7 @@ use Rattle.pe_base.proofs.Calls.Leading.{follows-map, follows-then, leads_start,
 use Rattle.pe_hang.proofs.Staying.{roomier-held, setting-kept}
 use Rattle.pe_adapt.specs.Slots.{seen_slot}
 use Rattle.pe_adapt.specs.Stops.{failure_of_halt}
-use Rattle.pe_adapt.proofs.Errors.{err-is}
+use Rattle.pe_base.proofs.Calls.Errors.{err-is}
 use Rattle.pe_adapt.proofs.store.store_dying.Goals as goal
 
 pub returns-clause-follows : goal.returns-clause-follows

@@ -10,7 +10,7 @@ use Rattle.pe_mapping.specs.Held.{found_of}
 use Rattle.pe_stacks.specs.RecordsOut.{held_by}
 use Rattle.pe_adapt.specs.Stops.{failure_of_halt}
 use Rattle.pe_adapt.specs.Slots.{seen_slot}
-use Rattle.pe_adapt.proofs.Errors.{err-is}
+use Rattle.pe_base.proofs.Calls.Errors.{err-is}
 use Rattle.pe_adapt.proofs.Loading.{desk}
 use Rattle.pe_adapt.proofs.Records.{written-is}
 use Rattle.pe_adapt.proofs.Storing.{room-kept, stored-failed, stored-may, stored-put, touch-stays, touch-last}

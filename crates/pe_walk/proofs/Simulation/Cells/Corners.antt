@@ -15,9 +15,9 @@ use Rattle.pe_adapt.specs.CountedTouches as counted
 use Rattle.pe_walk.specs.Machine as machine
 use Rattle.pe_order.specs.Tokens.{each_some}
 use Rattle.pe_order.specs.Tokens as tokens
-use Rattle.pe_walk.specs.Standing.{Outset, Stage, Holds, IsStage}
+use Rattle.pe_walk.specs.Standing.{ForeseenStart, Stage, Holds, IsStage}
 use Rattle.pe_walk.proofs.Simulation.Matching.{Sim, Alike, sim-nothing, sim-then, sim-alike, turned-then}
-use Rattle.pe_walk.proofs.Simulation.Leaves.{image_of, in_hand, ports, after_load, load_before, LoadLeaf, after_store, store_first, StoreLeaf}
+use Rattle.pe_walk.proofs.Simulation.Leaves.{image_of, in_hand, streams, after_load, load_before, LoadLeaf, after_store, store_first, StoreLeaf}
 
 -- the numbers below one, descending
 abbrev pub down_from : ℕ → List ℕ
@@ -63,7 +63,7 @@ after_stores-is (suc n) st =
       unstored = (let same : st.unstored - 1 - n ≡ st.unstored - suc n = omega arith in same) i;
     })
 
-module _ {Plan : Type 0} (set : Setting Plan) (e : Outset) (room : Push → Type 0) where
+module _ {Plan : Type 0} (set : Setting Plan) (e : ForeseenStart) (room : Push → Type 0) where
   -- a stage is one of its cell and parent alone
   pub stage_of : (st after : Stage) → after.cell ≡ st.cell → after.parent ≡ st.parent → IsStage set.axes e.outlook st → IsStage set.axes e.outlook after
   stage_of st after same above is = record {
@@ -76,7 +76,7 @@ module _ {Plan : Type 0} (set : Setting Plan) (e : Outset) (room : Push → Type
   -- the loads of the corners below a number
   abbrev pub LoadsSim : ℕ → Stage → Type 0
   LoadsSim k st = Sim room (Holds set e st) (in_hand set e st) (Holds set e (after_loads k st)) (in_hand set e (after_loads k st))
-      (each (model.load_corner set st.parent st.cell) (down_from k)) (λ x. machine.load_all set (ports set e room) st.cell k x.0 x.1) (each_some (tokens.load e.outlook st.cell) (down_from k))
+      (each (model.load_corner set st.parent st.cell) (down_from k)) (λ x. machine.load_all set (streams set e room) st.cell k x.0 x.1) (each_some (tokens.load e.outlook st.cell) (down_from k))
 
   pub loads_sim : LoadLeaf set e room → (k : ℕ) (st : Stage) → IsStage set.axes e.outlook st → k ≤ 2 ^ set.axes → st.from ≡ k → k ≤ st.owed → LoadsSim k st
   loads_sim leaf zero st is few from owed = sim-nothing room (Holds set e st) (in_hand set e st)
@@ -84,43 +84,43 @@ module _ {Plan : Type 0} (set : Setting Plan) (e : Outset) (room : Push → Type
       let next : Stage = after_load k st in
       sim-alike room (Holds set e st) (in_hand set e st) (in_hand set e st) (Holds set e (after_loads k next)) (in_hand set e (after_loads k next))
       (each (model.load_corner set st.parent st.cell) (down_from (suc k)))
-      (λ x. and_then (load_before set e room st.cell k x) (λ y. machine.load_all set (ports set e room) st.cell k y.0 y.1))
-      (λ x. machine.load_all set (ports set e room) st.cell (suc k) x.0 x.1)
+      (λ x. and_then (load_before set e room st.cell k x) (λ y. machine.load_all set (streams set e room) st.cell k y.0 y.1))
+      (λ x. machine.load_all set (streams set e room) st.cell (suc k) x.0 x.1)
       (each_some (tokens.load e.outlook st.cell) (down_from (suc k)))
-      (λ w t h. let x = in_hand set e st w t in turned-then (counted.load_corner set (ports set e room) st.cell k x.1) (λ it. (it.0 ∷ x.0, it.1)) (λ y. machine.load_all set (ports set e room) st.cell k y.0 y.1))
+      (λ w t h. let x = in_hand set e st w t in turned-then (counted.load_corner set (streams set e room) st.cell k x.1) (λ it. (it.0 ∷ x.0, it.1)) (λ y. machine.load_all set (streams set e room) st.cell k y.0 y.1))
       (sim-then room (Holds set e st) (in_hand set e st) (Holds set e next) (in_hand set e next) (Holds set e (after_loads k next)) (in_hand set e (after_loads k next))
       (model.load_corner set st.parent st.cell k) (load_before set e room st.cell k) (tokens.load e.outlook st.cell k)
-      (each (model.load_corner set st.parent st.cell) (down_from k)) (λ x. machine.load_all set (ports set e room) st.cell k x.0 x.1) (each_some (tokens.load e.outlook st.cell) (down_from k))
+      (each (model.load_corner set st.parent st.cell) (down_from k)) (λ x. machine.load_all set (streams set e room) st.cell k x.0 x.1) (each_some (tokens.load e.outlook st.cell) (down_from k))
       (leaf st k is (omega arith) from (omega arith))
       (loads_sim leaf k next (stage_of st next refl refl is) (omega arith) refl (omega arith)))
 
   -- the stores of the corners from a number on
   abbrev pub StoresSim : ℕ → Stage → Type 0
   StoresSim n st = Sim room (Holds set e st) (in_hand set e st) (Holds set e (after_stores n st)) (image_of set e st.parent)
-      (each (model.store_corner set st.parent st.cell) (range_with_len st.from n)) (λ x. machine.store_all set (ports set e room) st.cell st.from x.0 x.1) (each_some (tokens.store e.outlook st.cell) (range_with_len st.from n))
+      (each (model.store_corner set st.parent st.cell) (range_with_len st.from n)) (λ x. machine.store_all set (streams set e room) st.cell st.from x.0 x.1) (each_some (tokens.store e.outlook st.cell) (range_with_len st.from n))
 
   -- to store all in hand is to store the first, and then all
   store_all-first : (cell : Place) (k : ℕ) (its : List VertexRecord) (m : Machine)
-      → and_then (store_first set e room cell k (its, m)) (λ x. machine.store_all set (ports set e room) cell (k + 1) x.0 x.1) ≡ machine.store_all set (ports set e room) cell k its m
+      → and_then (store_first set e room cell k (its, m)) (λ x. machine.store_all set (streams set e room) cell (k + 1) x.0 x.1) ≡ machine.store_all set (streams set e room) cell k its m
   store_all-first cell k [] m = refl
-  store_all-first cell k (it ∷ its) m = turned-then (counted.store_corner set (ports set e room) cell k it m) (λ m. (its, m)) (λ x. machine.store_all set (ports set e room) cell (k + 1) x.0 x.1)
+  store_all-first cell k (it ∷ its) m = turned-then (counted.store_corner set (streams set e room) cell k it m) (λ m. (its, m)) (λ x. machine.store_all set (streams set e room) cell (k + 1) x.0 x.1)
 
   pub stores_sim : StoreLeaf set e room → (n : ℕ) (st : Stage) → IsStage set.axes e.outlook st → st.from + n ≡ 2 ^ set.axes → n ≤ st.owed → n ≤ st.unstored → StoresSim n st
   stores_sim leaf zero st is all owed unstored = λ w t t' h k.
       let none : 2 ^ set.axes - st.from ≡ 0 = omega (arith, all) in
-      subst (λ n. Alike room (image_of set e st.parent) (Holds set e st) (at_once w) (machine.store_all set (ports set e room) st.cell st.from (map (record_at set.axes w st.cell) (range_with_len st.from n)) (image_of set e st.parent w t)) t')
+      subst (λ n. Alike room (image_of set e st.parent) (Holds set e st) (at_once w) (machine.store_all set (streams set e room) st.cell st.from (map (record_at set.axes w st.cell) (range_with_len st.from n)) (image_of set e st.parent w t)) t')
       (sym none) (sim-nothing room (Holds set e st) (image_of set e st.parent) w t t' h k)
   stores_sim leaf (suc n) st is all owed unstored =
       let next : Stage = after_store st.from st in
       sim-alike room (Holds set e st) (in_hand set e st) (in_hand set e st) (Holds set e (after_stores n next)) (image_of set e st.parent)
       (each (model.store_corner set st.parent st.cell) (range_with_len st.from (suc n)))
-      (λ x. and_then (store_first set e room st.cell st.from x) (λ y. machine.store_all set (ports set e room) st.cell (st.from + 1) y.0 y.1))
-      (λ x. machine.store_all set (ports set e room) st.cell st.from x.0 x.1)
+      (λ x. and_then (store_first set e room st.cell st.from x) (λ y. machine.store_all set (streams set e room) st.cell (st.from + 1) y.0 y.1))
+      (λ x. machine.store_all set (streams set e room) st.cell st.from x.0 x.1)
       (each_some (tokens.store e.outlook st.cell) (range_with_len st.from (suc n)))
       (λ w t h. let x = in_hand set e st w t in store_all-first st.cell st.from x.0 x.1)
       (sim-then room (Holds set e st) (in_hand set e st) (Holds set e next) (in_hand set e next) (Holds set e (after_stores n next)) (image_of set e st.parent)
       (model.store_corner set st.parent st.cell st.from) (store_first set e room st.cell st.from) (tokens.store e.outlook st.cell st.from)
-      (each (model.store_corner set st.parent st.cell) (range_with_len (st.from + 1) n)) (λ x. machine.store_all set (ports set e room) st.cell (st.from + 1) x.0 x.1)
+      (each (model.store_corner set st.parent st.cell) (range_with_len (st.from + 1) n)) (λ x. machine.store_all set (streams set e room) st.cell (st.from + 1) x.0 x.1)
       (each_some (tokens.store e.outlook st.cell) (range_with_len (st.from + 1) n))
       (leaf st st.from is (omega (arith, all)) refl (omega arith) (omega arith))
       (stores_sim leaf n next (stage_of st next refl refl is) (omega (arith, all)) (omega arith) (omega arith)))

@@ -17,7 +17,7 @@ use Rattle.pe_base.proofs.Walk.Slots.{is_hung}
 use Rattle.pe_stacks.specs.Holdings.{len_at}
 use Rattle.pe_order.specs.Tokens.{Outlook, Tokens}
 use Rattle.pe_order.specs.Frames.{LeavesAbove}
-use Rattle.pe_walk.specs.Standing.{Foresight, Outset, Stage, times, Stands, Fair, IsIdle, Owes, Holds}
+use Rattle.pe_walk.specs.Standing.{Foresight, ForeseenStart, Stage, times, Stands, Fair, IsIdle, Owes, Holds}
 
 -- four tests
 all_pass : (a b c d : Bool) → a ≡ true → b ≡ true → c ≡ true → (a && b && c && d) ≡ d
@@ -66,7 +66,7 @@ abbrev pub OwesAlike : Stage → Stage → Type 0
 OwesAlike st after =
     (after.owed ≤ st.owed) × (after.unstored ≡ st.unstored) × (after.counted ≡ st.counted) × (after.entered ≡ st.entered) × (after.ahead ≡ st.ahead)
 
-pub same-owes : (axes max_cells : ℕ) (e : Outset) (st after : Stage) (tally : Tally) (t : Tokens) → OwesAlike st after → Owes axes max_cells e st tally t → Owes axes max_cells e after tally t
+pub same-owes : (axes max_cells : ℕ) (e : ForeseenStart) (st after : Stage) (tally : Tally) (t : Tokens) → OwesAlike st after → Owes axes max_cells e st tally t → Owes axes max_cells e after tally t
 same-owes axes max_cells e st after tally t same owes =
     let less : (n most : ℕ) → n + st.owed ≤ most → n + after.owed ≤ most = λ n most h. omega (arith, h, same.0) in
     record {
@@ -205,7 +205,7 @@ module _ (axes : ℕ) (o : Outlook) where
       mine = λ k from small off. inner.parents k small off;
     }
 
-module _ {Plan : Type 0} (set : Setting Plan) (e : Outset) where
+module _ {Plan : Type 0} (set : Setting Plan) (e : ForeseenStart) where
   pub down-holds : (st : Stage) (child : Place) (w : Working) (t : Tokens) → IsOpen st → Holds set e st w t → Holds set e (at_child set.axes st child) w t
   down-holds st child w t is h = record {
     stands = down-stands set.axes e.outlook st child t is h.stands;

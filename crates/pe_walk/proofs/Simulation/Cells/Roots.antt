@@ -18,15 +18,15 @@ use Rattle.pe_adapt.specs.CountedTouches.{Machine}
 use Rattle.pe_walk.specs.Machine as machine
 use Rattle.pe_order.specs.Tokens.{Tokens, each_some}
 use Rattle.pe_order.specs.Tokens as tokens
-use Rattle.pe_walk.specs.Standing.{Outset, Stage, IsStage, Holds, IsOutset}
+use Rattle.pe_walk.specs.Standing.{ForeseenStart, Stage, IsStage, Holds, IsForeseenStart}
 use Rattle.pe_order.proofs.Trees.{root_is_cell}
 use Rattle.pe_walk.proofs.Simulation.Matching.{Sim, sim-then, sim-along}
-use Rattle.pe_walk.proofs.Simulation.Leaves.{image_of, ports, CountLeaf, LoadLeaf, EnterLeaf, LeaveLeaf, StoreLeaf, PlainLeaf, WalkSim, at_root, RootSim}
+use Rattle.pe_walk.proofs.Simulation.Leaves.{image_of, streams, CountLeaf, LoadLeaf, EnterLeaf, LeaveLeaf, StoreLeaf, PlainLeaf, WalkSim, at_root, RootSim}
 use Rattle.pe_walk.proofs.Simulation.Cells.Inside.{at_child}
 use Rattle.pe_walk.proofs.Simulation.Cells.Children.{kids, kids_stages, between, children_along}
 use Rattle.pe_walk.proofs.Simulation.Cells.Walks.{walk_sim}
 
-module _ {Plan : Type 0} (set : Setting Plan) (e : Outset) (walked : Place → Bool) (room : Push → Type 0) (is : IsOutset set e walked) where
+module _ {Plan : Type 0} (set : Setting Plan) (e : ForeseenStart) (walked : Place → Bool) (room : Push → Type 0) (is : IsForeseenStart set e walked) where
   -- the root's children are walked
   pub root_goes : e.outlook.walks root ≡ true
   root_goes = is.foresees.walks root ∙ ap (λ kind. not (is_hanging kind)) (is.foresees.root_below root refl) ∙ go (set.traversal == 1)
@@ -43,16 +43,16 @@ module _ {Plan : Type 0} (set : Setting Plan) (e : Outset) (walked : Place → B
   root_kids_sim : (levels : ℕ) → WalkSim set e room levels
       → Sim room (Holds set e (at_root set e room (flat_map (walked_cells e.outlook.axes e.outlook.way e.outlook.walks levels) (children e.outlook.axes e.outlook.way root)))) (image_of set e root)
       (Holds set e (at_root set e room [])) (image_of set e root)
-      (each (walks.walk_cell set levels root) (children set.axes (way set) root)) (each (machine.walk_cell set (ports set e room) (suc levels)) (children set.axes (way set) root))
+      (each (walks.walk_cell set levels root) (children set.axes (way set) root)) (each (machine.walk_cell set (streams set e room) (suc levels)) (children set.axes (way set) root))
       (each_some (tokens.walk e.outlook levels) (children e.outlook.axes e.outlook.way root))
   root_kids_sim levels sim =
       let tokens_kids : children e.outlook.axes e.outlook.way root ≡ kids set e walked room is root = ap (λ axes. children axes e.outlook.way root) is.foresees.axes in
       let model_kids : children set.axes (way set) root ≡ kids set e walked room is root = ap (λ way. children set.axes way root) (sym is.foresees.ways) in
       let stages = kids_stages set e walked room is rooted (root_is_cell set.axes e.outlook.way) root_goes in
       subst (λ cells. Sim room (Holds set e (at_root set e room (flat_map (walked_cells e.outlook.axes e.outlook.way e.outlook.walks levels) cells))) (image_of set e root) (Holds set e (at_root set e room [])) (image_of set e root)
-      (each (walks.walk_cell set levels root) (children set.axes (way set) root)) (each (machine.walk_cell set (ports set e room) (suc levels)) (children set.axes (way set) root)) (each_some (tokens.walk e.outlook levels) cells)) (sym tokens_kids)
+      (each (walks.walk_cell set levels root) (children set.axes (way set) root)) (each (machine.walk_cell set (streams set e room) (suc levels)) (children set.axes (way set) root)) (each_some (tokens.walk e.outlook levels) cells)) (sym tokens_kids)
       (subst (λ cells. Sim room (Holds set e (at_root set e room (flat_map (walked_cells e.outlook.axes e.outlook.way e.outlook.walks levels) (kids set e walked room is root)))) (image_of set e root) (Holds set e (at_root set e room [])) (image_of set e root)
-      (each (walks.walk_cell set levels root) cells) (each (machine.walk_cell set (ports set e room) (suc levels)) cells) (each_some (tokens.walk e.outlook levels) (kids set e walked room is root))) (sym model_kids)
+      (each (walks.walk_cell set levels root) cells) (each (machine.walk_cell set (streams set e room) (suc levels)) cells) (each_some (tokens.walk e.outlook levels) (kids set e walked room is root))) (sym model_kids)
       (along (kids set e walked room is root) stages))
     where
       -- between the children the stage is that of the root
@@ -61,13 +61,13 @@ module _ {Plan : Type 0} (set : Setting Plan) (e : Outset) (walked : Place → B
 
       along : (cells : List Place) → Each (λ c. IsStage set.axes e.outlook (at_child set.axes rooted c)) cells
           → Sim room (Holds set e (at_root set e room (flat_map (walked_cells e.outlook.axes e.outlook.way e.outlook.walks levels) cells))) (image_of set e root) (Holds set e (at_root set e room [])) (image_of set e root)
-          (each (walks.walk_cell set levels root) cells) (each (machine.walk_cell set (ports set e room) (suc levels)) cells) (each_some (tokens.walk e.outlook levels) cells)
+          (each (walks.walk_cell set levels root) cells) (each (machine.walk_cell set (streams set e room) (suc levels)) cells) (each_some (tokens.walk e.outlook levels) cells)
       along cells stages =
           subst (λ st. Sim room (Holds set e (at_root set e room (flat_map (walked_cells e.outlook.axes e.outlook.way e.outlook.walks levels) cells))) (image_of set e root) (Holds set e st) (image_of set e root)
-          (each (walks.walk_cell set levels root) cells) (each (machine.walk_cell set (ports set e room) (suc levels)) cells) (each_some (tokens.walk e.outlook levels) cells)) (same [])
+          (each (walks.walk_cell set levels root) cells) (each (machine.walk_cell set (streams set e room) (suc levels)) cells) (each_some (tokens.walk e.outlook levels) cells)) (same [])
           (subst (λ st. Sim room (Holds set e st) (image_of set e root) (Holds set e (between set e walked room is levels sim rooted [] [])) (image_of set e root)
-          (each (walks.walk_cell set levels root) cells) (each (machine.walk_cell set (ports set e room) (suc levels)) cells) (each_some (tokens.walk e.outlook levels) cells)) (same cells)
-          (sim-along room (λ left. Holds set e (between set e walked room is levels sim rooted [] left)) (image_of set e root) (walks.walk_cell set levels root) (machine.walk_cell set (ports set e room) (suc levels)) (tokens.walk e.outlook levels) cells
+          (each (walks.walk_cell set levels root) cells) (each (machine.walk_cell set (streams set e room) (suc levels)) cells) (each_some (tokens.walk e.outlook levels) cells)) (same cells)
+          (sim-along room (λ left. Holds set e (between set e walked room is levels sim rooted [] left)) (image_of set e root) (walks.walk_cell set levels root) (machine.walk_cell set (streams set e room) (suc levels)) (tokens.walk e.outlook levels) cells
           (children_along set e walked room is levels sim rooted [] cells stages)))
 
   -- to go on with what is given is to give it
@@ -83,17 +83,17 @@ module _ {Plan : Type 0} (set : Setting Plan) (e : Outset) (walked : Place → B
       let after : Stage = at_root set e room [] in
       let run : Tokens → Option Tokens = each_some (tokens.walk e.outlook levels) (children e.outlook.axes e.outlook.way root) in
       let model : Working → Course Working = each (walks.walk_cell set levels root) (children set.axes (way set) root) in
-      let machine' : Machine → Course Machine = each (machine.walk_cell set (ports set e room) (suc levels)) (children set.axes (way set) root) in
+      let machine' : Machine → Course Machine = each (machine.walk_cell set (streams set e room) (suc levels)) (children set.axes (way set) root) in
       subst (λ tokens'. Sim room (Holds set e before) (image_of set e root) (Holds set e after) (image_of set e root)
       (λ w. and_then (walks.plain set BeginIteration w) (λ w. and_then (model w) (walks.plain set EndIteration)))
-      (λ m. and_then (machine.plain set (ports set e room) BeginIteration m) (λ m. and_then (machine' m) (machine.plain set (ports set e room) EndIteration)))
+      (λ m. and_then (machine.plain set (streams set e room) BeginIteration m) (λ m. and_then (machine' m) (machine.plain set (streams set e room) EndIteration)))
       tokens') (λ i t. as_given (run t) i)
       (sim-then room (Holds set e before) (image_of set e root) (Holds set e before) (image_of set e root) (Holds set e after) (image_of set e root)
-      (walks.plain set BeginIteration) (machine.plain set (ports set e room) BeginIteration) (λ t. Some t)
-      (λ w. and_then (model w) (walks.plain set EndIteration)) (λ m. and_then (machine' m) (machine.plain set (ports set e room) EndIteration)) (λ t. option_and_then (λ t. Some t) (run t))
+      (walks.plain set BeginIteration) (machine.plain set (streams set e room) BeginIteration) (λ t. Some t)
+      (λ w. and_then (model w) (walks.plain set EndIteration)) (λ m. and_then (machine' m) (machine.plain set (streams set e room) EndIteration)) (λ t. option_and_then (λ t. Some t) (run t))
       (plain before BeginIteration)
       (sim-then room (Holds set e before) (image_of set e root) (Holds set e after) (image_of set e root) (Holds set e after) (image_of set e root)
-      model machine' run (walks.plain set EndIteration) (machine.plain set (ports set e room) EndIteration) (λ t. Some t)
+      model machine' run (walks.plain set EndIteration) (machine.plain set (streams set e room) EndIteration) (λ t. Some t)
       (root_kids_sim levels sim) (plain after EndIteration)))
 
   -- A traversal from its first event to its last, with so many levels below those of the root's children.

@@ -19,9 +19,9 @@ use Rattle.pe_adapt.specs.CountedTouches.{Machine}
 use Rattle.pe_walk.specs.Machine as machine
 use Rattle.pe_order.specs.Tokens.{Tokens, given, each_some}
 use Rattle.pe_order.specs.Tokens as tokens
-use Rattle.pe_walk.specs.Standing.{Outset, Stage, IsStage, Holds, IsOutset}
+use Rattle.pe_walk.specs.Standing.{ForeseenStart, Stage, IsStage, Holds, IsForeseenStart}
 use Rattle.pe_walk.proofs.Simulation.Matching.{Sim, sim-then, sim-alike, sim-weaker}
-use Rattle.pe_walk.proofs.Simulation.Leaves.{image_of, in_hand, own_in_hand, ports, after_count, after_enter, after_leave, CountLeaf, LoadLeaf, EnterLeaf, LeaveLeaf, StoreLeaf, WalkSim}
+use Rattle.pe_walk.proofs.Simulation.Leaves.{image_of, in_hand, own_in_hand, streams, after_count, after_enter, after_leave, CountLeaf, LoadLeaf, EnterLeaf, LeaveLeaf, StoreLeaf, WalkSim}
 use Rattle.pe_walk.proofs.Simulation.Cells.Corners.{down_from, reverse-range, after_loads-is, after_stores-is, stage_of, loads_sim, stores_sim}
 use Rattle.pe_walk.proofs.Simulation.Cells.Inside.{with_ahead, IsOpen, less-holds}
 use Rattle.pe_walk.proofs.Simulation.Cells.Children.{within, BelowSim, below_none, below_some}
@@ -33,7 +33,7 @@ all_loaded axes st = let counted = after_count axes st in record counted { from 
 abbrev pub opened : ℕ → List Place → Stage → Stage
 opened axes inner st = after_enter inner (all_loaded axes st)
 
-module _ {Plan : Type 0} (set : Setting Plan) (e : Outset) (walked : Place → Bool) (room : Push → Type 0) (is : IsOutset set e walked) where
+module _ {Plan : Type 0} (set : Setting Plan) (e : ForeseenStart) (walked : Place → Bool) (room : Push → Type 0) (is : IsForeseenStart set e walked) where
   pub few : 2 ^ set.axes ≤ 16
   few = corners_range set.axes is.foresees.dim
 
@@ -49,33 +49,33 @@ module _ {Plan : Type 0} (set : Setting Plan) (e : Outset) (walked : Place → B
   -- all loads, from none in hand
   pub all_loads_sim : LoadLeaf set e room → (st : Stage) → IsStage set.axes e.outlook st → st.from ≡ 2 ^ set.axes → 2 ^ set.axes ≤ st.owed
       → Sim room (Holds set e st) (image_of set e st.parent) (Holds set e (record st { from = 0; owed = st.owed - 2 ^ set.axes })) (in_hand set e (record st { from = 0; owed = st.owed - 2 ^ set.axes }))
-      (each (model.load_corner set st.parent st.cell) (reverse (walks.corner_numbers set))) (λ m. machine.load_all set (ports set e room) st.cell (2 ^ set.axes) [] m) (each_some (tokens.load e.outlook st.cell) (reverse (tokens.numbers e.outlook)))
+      (each (model.load_corner set st.parent st.cell) (reverse (walks.corner_numbers set))) (λ m. machine.load_all set (streams set e room) st.cell (2 ^ set.axes) [] m) (each_some (tokens.load e.outlook st.cell) (reverse (tokens.numbers e.outlook)))
   all_loads_sim loads st stage none owed =
       let n = 2 ^ set.axes in
       let after : Stage = record st { from = 0; owed = st.owed - 2 ^ set.axes } in
       let empty : 2 ^ set.axes - st.from ≡ 0 = omega (arith, none) in
       let numbers : reverse (tokens.numbers e.outlook) ≡ down_from (2 ^ set.axes) = ap (λ axes. reverse (range_with_len 0 (2 ^ axes))) is.foresees.axes ∙ reverse-range (2 ^ set.axes) in
       subst (λ ks. Sim room (Holds set e st) (image_of set e st.parent) (Holds set e after) (in_hand set e after) (each (model.load_corner set st.parent st.cell) (reverse (walks.corner_numbers set)))
-      (λ m. machine.load_all set (ports set e room) st.cell n [] m) (each_some (tokens.load e.outlook st.cell) ks)) (sym numbers)
+      (λ m. machine.load_all set (streams set e room) st.cell n [] m) (each_some (tokens.load e.outlook st.cell) ks)) (sym numbers)
       (subst (λ ks. Sim room (Holds set e st) (image_of set e st.parent) (Holds set e after) (in_hand set e after) (each (model.load_corner set st.parent st.cell) ks)
-      (λ m. machine.load_all set (ports set e room) st.cell n [] m) (each_some (tokens.load e.outlook st.cell) (down_from n))) (sym (reverse-range n))
+      (λ m. machine.load_all set (streams set e room) st.cell n [] m) (each_some (tokens.load e.outlook st.cell) (down_from n))) (sym (reverse-range n))
       (sim-alike room (Holds set e st) (in_hand set e st) (image_of set e st.parent) (Holds set e after) (in_hand set e after) (each (model.load_corner set st.parent st.cell) (down_from n))
-      (λ x. machine.load_all set (ports set e room) st.cell n x.0 x.1) (λ m. machine.load_all set (ports set e room) st.cell n [] m) (each_some (tokens.load e.outlook st.cell) (down_from n))
-      (λ w t h. ap (λ m. machine.load_all set (ports set e room) st.cell n (map (record_at set.axes w st.cell) (range_with_len st.from m)) (image_of set e st.parent w t)) empty)
-      (subst (λ s. Sim room (Holds set e st) (in_hand set e st) (Holds set e s) (in_hand set e s) (each (model.load_corner set st.parent st.cell) (down_from n)) (λ x. machine.load_all set (ports set e room) st.cell n x.0 x.1) (each_some (tokens.load e.outlook st.cell) (down_from n)))
+      (λ x. machine.load_all set (streams set e room) st.cell n x.0 x.1) (λ m. machine.load_all set (streams set e room) st.cell n [] m) (each_some (tokens.load e.outlook st.cell) (down_from n))
+      (λ w t h. ap (λ m. machine.load_all set (streams set e room) st.cell n (map (record_at set.axes w st.cell) (range_with_len st.from m)) (image_of set e st.parent w t)) empty)
+      (subst (λ s. Sim room (Holds set e st) (in_hand set e st) (Holds set e s) (in_hand set e s) (each (model.load_corner set st.parent st.cell) (down_from n)) (λ x. machine.load_all set (streams set e room) st.cell n x.0 x.1) (each_some (tokens.load e.outlook st.cell) (down_from n)))
       (after_loads-is n st none) (loads_sim set e room loads n st stage (omega arith) none owed))))
 
   -- and all stores, from all in hand
   all_stores_sim : StoreLeaf set e room → (st : Stage) → IsStage set.axes e.outlook st → 2 ^ set.axes ≤ st.owed → 2 ^ set.axes ≤ st.unstored
       → Sim room (Holds set e (record st { from = 0 })) (in_hand set e (record st { from = 0 })) (Holds set e (record st { from = 0 + 2 ^ set.axes; owed = st.owed - 2 ^ set.axes; unstored = st.unstored - 2 ^ set.axes })) (image_of set e st.parent)
-      (each (model.store_corner set st.parent st.cell) (walks.corner_numbers set)) (λ x. machine.store_all set (ports set e room) st.cell 0 x.0 x.1) (λ t. each_some (tokens.store e.outlook st.cell) (tokens.numbers e.outlook) t)
+      (each (model.store_corner set st.parent st.cell) (walks.corner_numbers set)) (λ x. machine.store_all set (streams set e room) st.cell 0 x.0 x.1) (λ t. each_some (tokens.store e.outlook st.cell) (tokens.numbers e.outlook) t)
   all_stores_sim stores st stage owed unstored =
       let n = 2 ^ set.axes in
       let all : Stage = record st { from = 0 } in
       subst (λ axes. Sim room (Holds set e all) (in_hand set e all) (Holds set e (record st { from = 0 + n; owed = st.owed - n; unstored = st.unstored - n })) (image_of set e st.parent)
-      (each (model.store_corner set st.parent st.cell) (walks.corner_numbers set)) (λ x. machine.store_all set (ports set e room) st.cell 0 x.0 x.1) (λ t. each_some (tokens.store e.outlook st.cell) (range_with_len 0 (2 ^ axes)) t)) (sym is.foresees.axes)
+      (each (model.store_corner set st.parent st.cell) (walks.corner_numbers set)) (λ x. machine.store_all set (streams set e room) st.cell 0 x.0 x.1) (λ t. each_some (tokens.store e.outlook st.cell) (range_with_len 0 (2 ^ axes)) t)) (sym is.foresees.axes)
       (subst (λ s. Sim room (Holds set e all) (in_hand set e all) (Holds set e s) (image_of set e st.parent)
-      (each (model.store_corner set st.parent st.cell) (walks.corner_numbers set)) (λ x. machine.store_all set (ports set e room) st.cell 0 x.0 x.1) (each_some (tokens.store e.outlook st.cell) (range_with_len 0 n)))
+      (each (model.store_corner set st.parent st.cell) (walks.corner_numbers set)) (λ x. machine.store_all set (streams set e room) st.cell 0 x.0 x.1) (each_some (tokens.store e.outlook st.cell) (range_with_len 0 n)))
       (after_stores-is n all) (stores_sim set e room stores n all (stage_of set e room st all refl refl stage) (omega arith) owed unstored))
 
   module _ (counts : CountLeaf set e room) (loads : LoadLeaf set e room) (enters : EnterLeaf set e room) (leaves : LeaveLeaf set e room) (stores : StoreLeaf set e room) where
@@ -84,22 +84,22 @@ module _ {Plan : Type 0} (set : Setting Plan) (e : Outset) (walked : Place → B
         → IsStage set.axes e.outlook st → st.from ≡ 2 ^ set.axes → st.ahead ≡ st.cell ∷ inner
         → BelowSim set e walked room is (opened set.axes inner st) rest below levels below_tokens
         → Sim room (Holds set e st) (image_of set e st.parent) (Holds set e (with_ahead rest st)) (image_of set e st.parent)
-        (walks.around_below set below st.parent st.cell) (machine.walk_cell set (ports set e room) (suc levels) st.cell) (tokens.around_below e.outlook below_tokens st.cell)
+        (walks.around_below set below st.parent st.cell) (machine.walk_cell set (streams set e room) (suc levels) st.cell) (tokens.around_below e.outlook below_tokens st.cell)
     around_sim st inner rest below levels below_tokens stage none ahead inside =
         sim-then room (Holds set e st) (image_of set e st.parent) (Holds set e s1) (image_of set e st.parent) (Holds set e last) (image_of set e st.parent)
-        (model.count_cell set st.cell) (machine.count_cell set (ports set e room) st.cell) (λ t. Some t) model2 machine2 tokens2
+        (model.count_cell set st.cell) (machine.count_cell set (streams set e room) st.cell) (λ t. Some t) model2 machine2 tokens2
         (counts st stage)
         (sim-then room (Holds set e s1) (image_of set e st.parent) (Holds set e s2) (in_hand set e s2) (Holds set e last) (image_of set e st.parent)
-        (each (model.load_corner set st.parent st.cell) (reverse (walks.corner_numbers set))) (λ m. machine.load_all set (ports set e room) st.cell (2 ^ set.axes) [] m) (each_some (tokens.load e.outlook st.cell) (reverse (tokens.numbers e.outlook))) model3 machine3 tokens3
+        (each (model.load_corner set st.parent st.cell) (reverse (walks.corner_numbers set))) (λ m. machine.load_all set (streams set e room) st.cell (2 ^ set.axes) [] m) (each_some (tokens.load e.outlook st.cell) (reverse (tokens.numbers e.outlook))) model3 machine3 tokens3
         (all_loads_sim loads s1 (staged s1 refl refl) none (omega (arith, few)))
         (sim-then room (Holds set e s2) (in_hand set e s2) (Holds set e s3) (own_in_hand set e s3) (Holds set e last) (image_of set e st.parent)
-        (model.enter_cell set st.parent st.cell) (λ x. machine.enter_cell set (ports set e room) st.cell x.0 x.1) (tokens.enter e.outlook st.cell) model4 machine4 tokens4
+        (model.enter_cell set st.parent st.cell) (λ x. machine.enter_cell set (streams set e room) st.cell x.0 x.1) (tokens.enter e.outlook st.cell) model4 machine4 tokens4
         (enters s2 inner (staged s2 refl refl) refl ahead (omega (arith, few)) (omega arith))
         (sim-then room (Holds set e s3) (own_in_hand set e s3) (Holds set e s4) (own_in_hand set e s4) (Holds set e last) (image_of set e st.parent)
-        below (λ it. machine.if_walked set (ports set e room) (kind_below it.0.corners) (within set e walked room is levels st.cell) it) below_tokens model5 machine5 tokens5
+        below (λ it. machine.if_walked set (streams set e room) (kind_below it.0.corners) (within set e walked room is levels st.cell) it) below_tokens model5 machine5 tokens5
         inside
         (sim-then room (Holds set e s4) (own_in_hand set e s4) (Holds set e s5) (in_hand set e s5) (Holds set e last) (image_of set e st.parent)
-        (model.leave_cell set st.parent st.cell) (machine.leave_cell set (ports set e room) st.cell) (tokens.leave e.outlook st.cell) model6 machine6 tokens6
+        (model.leave_cell set st.parent st.cell) (machine.leave_cell set (streams set e room) st.cell) (tokens.leave e.outlook st.cell) model6 machine6 tokens6
         (leaves s4 st.entered (staged s4 refl refl) refl refl (omega (arith, few)))
         (sim-weaker room (Holds set e s5) (Holds set e s5) (in_hand set e s5) (Holds set e s6) (Holds set e last) (image_of set e st.parent) model6 machine6 tokens6 (λ w t h. h) finished
         (all_stores_sim stores s5 (staged s5 refl refl) (omega (arith, few)) (omega arith)))))))
@@ -143,7 +143,7 @@ module _ {Plan : Type 0} (set : Setting Plan) (e : Outset) (walked : Place → B
         model6 = each (model.store_corner set st.parent st.cell) (walks.corner_numbers set)
 
         machine6 : List VertexRecord × Machine → Course Machine
-        machine6 x = machine.store_all set (ports set e room) st.cell 0 x.0 x.1
+        machine6 x = machine.store_all set (streams set e room) st.cell 0 x.0 x.1
 
         tokens6 : Tokens → Option Tokens
         tokens6 t = each_some (tokens.store e.outlook st.cell) (tokens.numbers e.outlook) t
@@ -152,7 +152,7 @@ module _ {Plan : Type 0} (set : Setting Plan) (e : Outset) (walked : Place → B
         model5 w = and_then (model.leave_cell set st.parent st.cell w) model6
 
         machine5 : Own × Machine → Course Machine
-        machine5 it = and_then (machine.leave_cell set (ports set e room) st.cell it) machine6
+        machine5 it = and_then (machine.leave_cell set (streams set e room) st.cell it) machine6
 
         tokens5 : Tokens → Option Tokens
         tokens5 t = option_and_then tokens6 (tokens.leave e.outlook st.cell t)
@@ -161,7 +161,7 @@ module _ {Plan : Type 0} (set : Setting Plan) (e : Outset) (walked : Place → B
         model4 w = and_then (below w) model5
 
         machine4 : Own × Machine → Course Machine
-        machine4 it = and_then (machine.if_walked set (ports set e room) (kind_below it.0.corners) (within set e walked room is levels st.cell) it) machine5
+        machine4 it = and_then (machine.if_walked set (streams set e room) (kind_below it.0.corners) (within set e walked room is levels st.cell) it) machine5
 
         tokens4 : Tokens → Option Tokens
         tokens4 t = option_and_then tokens5 (below_tokens t)
@@ -170,7 +170,7 @@ module _ {Plan : Type 0} (set : Setting Plan) (e : Outset) (walked : Place → B
         model3 w = and_then (model.enter_cell set st.parent st.cell w) model4
 
         machine3 : List VertexRecord × Machine → Course Machine
-        machine3 x = and_then (machine.enter_cell set (ports set e room) st.cell x.0 x.1) machine4
+        machine3 x = and_then (machine.enter_cell set (streams set e room) st.cell x.0 x.1) machine4
 
         tokens3 : Tokens → Option Tokens
         tokens3 t = option_and_then tokens4 (tokens.enter e.outlook st.cell t)
@@ -179,7 +179,7 @@ module _ {Plan : Type 0} (set : Setting Plan) (e : Outset) (walked : Place → B
         model2 w = and_then (each (model.load_corner set st.parent st.cell) (reverse (walks.corner_numbers set)) w) model3
 
         machine2 : Machine → Course Machine
-        machine2 m = and_then (machine.load_all set (ports set e room) st.cell (2 ^ set.axes) [] m) machine3
+        machine2 m = and_then (machine.load_all set (streams set e room) st.cell (2 ^ set.axes) [] m) machine3
 
         tokens2 : Tokens → Option Tokens
         tokens2 t = option_and_then tokens3 (each_some (tokens.load e.outlook st.cell) (reverse (tokens.numbers e.outlook)) t)

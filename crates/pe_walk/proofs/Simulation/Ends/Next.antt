@@ -44,8 +44,8 @@ use Rattle.pe_order.proofs.Tokens.Streams.{fits_turned}
 use Rattle.pe_order.proofs.Tokens.Traversals.{given_items}
 use Rattle.pe_order.proofs.Tokens.Turning.{writes-turned, cell_writes-turned}
 use Rattle.pe_walk.proofs.Simulation.Leaves.{at_root}
-use Rattle.pe_walk.proofs.Simulation.Outsets.{as_begun, foresight_of}
-use Rattle.pe_walk.proofs.Simulation.Starts.{tokens_of, outset_of, cell_of, dim_of, grown_of}
+use Rattle.pe_walk.proofs.Simulation.ForeseenStarts.{as_begun, foresight_of}
+use Rattle.pe_walk.proofs.Simulation.Starts.{tokens_of, foreseen_start_of, cell_of, dim_of, grown_of}
 use Rattle.pe_walk.proofs.Simulation.Visits.Entering.{times-there}
 use Rattle.pe_order.proofs.Tokens.Bounds.{few_stacks, few_cell_stacks}
 
@@ -66,7 +66,7 @@ none_there None e = refl
 none_there (Some x) e = absurd (true≢false e)
 
 module _ {Plan : Type 0} (set : Setting Plan) (grid : Grid) (swapped : Bool) (m : Machine) (may : MachineMayTraverse set grid swapped m) (room : Push → Type 0) (w : Working) (t : Tokens)
-    (holds : Holds set (outset_of set grid swapped m) (at_root set (outset_of set grid swapped m) room []) w t)
+    (holds : Holds set (foreseen_start_of set grid swapped m) (at_root set (foreseen_start_of set grid swapped m) room []) w t)
     (all : HasTraversed (outlook set.start_level grid swapped) grid.greatest (tokens_of grid swapped m) (tokens.ended (outlook set.start_level grid swapped) t)) where
   abbrev o : Outlook
   o = outlook set.start_level grid swapped

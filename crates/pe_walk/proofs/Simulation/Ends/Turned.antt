@@ -19,33 +19,33 @@ use Rattle.pe_stacks.specs.Holdings.{Holdings, given_up}
 use Rattle.pe_stacks.specs.Grid.{output_stack, cell_output_stack}
 use Rattle.pe_hang.specs.InHand.{map_holdings}
 use Rattle.pe_hang.proofs.OnStacks.{stack_count-map, stack_at-map}
-use Rattle.pe_adapt.specs.CountedTouches.{Machine, Ports}
+use Rattle.pe_adapt.specs.CountedTouches.{Machine, StreamStacks}
 use Rattle.pe_walk.specs.Machine.{with_parents}
 use Rattle.pe_walk.specs.Machine as machine
 use Rattle.pe_order.specs.Tokens.{Outlook, Tokens, given_up_for, numbers}
 use Rattle.pe_order.specs.Tokens as tokens
 use Rattle.pe_order.specs.Takings.{writes_of, cell_writes_of, HasTraversed}
 use Rattle.pe_order.specs.Outlooks.{outlook}
-use Rattle.pe_walk.specs.Standing.{Outset, Holds}
+use Rattle.pe_walk.specs.Standing.{ForeseenStart, Holds}
 use Rattle.pe_stacks.specs.StreamsHeld.{stored_of}
-use Rattle.pe_walk.specs.Gridded.{HoldsGrid, MachineMayTraverse, MachineHasTraversed, ports_of}
+use Rattle.pe_walk.specs.Gridded.{HoldsGrid, MachineMayTraverse, MachineHasTraversed, stream_stacks_of}
 use Rattle.pe_order.proofs.Tokens.DepotCounts.{given_up_counts}
 use Rattle.pe_walk.proofs.Simulation.Leaves.{record_of, image_of, at_root}
-use Rattle.pe_walk.proofs.Simulation.Starts.{tokens_of, outset_of}
+use Rattle.pe_walk.proofs.Simulation.Starts.{tokens_of, foreseen_start_of}
 use Rattle.pe_walk.proofs.Simulation.Ends.Next.{formed_of, streams_of}
 
 -- so many records are given up, one by one
-all_given : {Plan : Type 0} (set : Setting Plan) (ports : Ports) (f : Place → VertexRecord) (its : List VertexRecord) (ks : List ℕ) (held : Holdings Place) (m : Machine) → length its ≡ length ks → length its ≤ held.out
-    → machine.give_up_all set ports its (record m { vertices = map_holdings f held }) ≡ at_once (record m { vertices = map_holdings f (given_up_for ks held) })
-all_given set ports f [] [] held m same enough = refl
-all_given set ports f [] (k ∷ ks) held m same enough = absurd (omega (arith, same))
-all_given set ports f (it ∷ its) [] held m same enough = absurd (omega (arith, same))
-all_given set ports f (it ∷ its) (k ∷ ks) held m same enough =
-    ap (λ b. and_then (allowed b (at_once (given_up (map_holdings f held)))) (λ vertices. machine.give_up_all set ports its (record m { vertices = vertices }))) (lt-ltb 0 held.out (omega (arith, enough)))
-    ∙ all_given set ports f its ks (given_up held) m (omega (arith, same)) (omega (arith, enough))
+all_given : {Plan : Type 0} (set : Setting Plan) (streams : StreamStacks) (f : Place → VertexRecord) (its : List VertexRecord) (ks : List ℕ) (held : Holdings Place) (m : Machine) → length its ≡ length ks → length its ≤ held.out
+    → machine.give_up_all set streams its (record m { vertices = map_holdings f held }) ≡ at_once (record m { vertices = map_holdings f (given_up_for ks held) })
+all_given set streams f [] [] held m same enough = refl
+all_given set streams f [] (k ∷ ks) held m same enough = absurd (omega (arith, same))
+all_given set streams f (it ∷ its) [] held m same enough = absurd (omega (arith, same))
+all_given set streams f (it ∷ its) (k ∷ ks) held m same enough =
+    ap (λ b. and_then (allowed b (at_once (given_up (map_holdings f held)))) (λ vertices. machine.give_up_all set streams its (record m { vertices = vertices }))) (lt-ltb 0 held.out (omega (arith, enough)))
+    ∙ all_given set streams f its ks (given_up held) m (omega (arith, same)) (omega (arith, enough))
 
 -- the machine as a traversal has ended
-abbrev pub last_of : {Plan : Type 0} → Setting Plan → Outset → Working → Tokens → Machine
+abbrev pub last_of : {Plan : Type 0} → Setting Plan → ForeseenStart → Working → Tokens → Machine
 last_of set e w t = record {
   vertices = map_holdings (record_of set e w t) (tokens.ended e.outlook t).vertices;
   cells = map_holdings (cell_at w) t.cells;
@@ -54,28 +54,28 @@ last_of set e w t = record {
 }
 
 module _ {Plan : Type 0} (set : Setting Plan) (grid : Grid) (swapped : Bool) (m : Machine) (may : MachineMayTraverse set grid swapped m) (room : Push → Type 0) (w : Working) (t : Tokens)
-    (holds : Holds set (outset_of set grid swapped m) (at_root set (outset_of set grid swapped m) room []) w t)
+    (holds : Holds set (foreseen_start_of set grid swapped m) (at_root set (foreseen_start_of set grid swapped m) room []) w t)
     (all : HasTraversed (outlook set.start_level grid swapped) grid.greatest (tokens_of grid swapped m) (tokens.ended (outlook set.start_level grid swapped) t)) where
   abbrev o : Outlook
   o = outlook set.start_level grid swapped
 
-  abbrev e : Outset
-  e = outset_of set grid swapped m
+  abbrev e : ForeseenStart
+  e = foreseen_start_of set grid swapped m
 
   abbrev last : Machine
-  last = last_of set (outset_of set grid swapped m) w t
+  last = last_of set (foreseen_start_of set grid swapped m) w t
 
-  streams : (writes_of (outlook set.start_level grid swapped) grid.greatest root ≡ stream_vertices (ended w grid)) × (cell_writes_of (outlook set.start_level grid swapped) grid.greatest root ≡ stream_cells (ended w grid))
-  streams = streams_of set grid swapped m may room w t holds all
+  turned : (writes_of (outlook set.start_level grid swapped) grid.greatest root ≡ stream_vertices (ended w grid)) × (cell_writes_of (outlook set.start_level grid swapped) grid.greatest root ≡ stream_cells (ended w grid))
+  turned = streams_of set grid swapped m may room w t holds all
 
   many : length (numbers (outlook set.start_level grid swapped)) ≡ 2 ^ set.axes
   many = length-range_with_len 0 (2 ^ grid.axes) ∙ ap (λ n. 2 ^ n) (sym may.fits.axes)
 
   -- what is stored of the records on the output
-  vertices_turned : map stored_of (map (record_of set (outset_of set grid swapped m) w t) (writes_of (outlook set.start_level grid swapped) grid.greatest root)) ≡ vertex_stream (ended w grid)
+  vertices_turned : map stored_of (map (record_of set (foreseen_start_of set grid swapped m) w t) (writes_of (outlook set.start_level grid swapped) grid.greatest root)) ≡ vertex_stream (ended w grid)
   vertices_turned =
       map-map stored_of (record_of set e w t) (writes_of o grid.greatest root)
-      ∙ ap (map (λ q. stored_of (record_of set e w t q))) streams.0
+      ∙ ap (map (λ q. stored_of (record_of set e w t q))) turned.0
       ∙ map_same (λ q. stored_of (record_of set e w t q)) (λ q. unwrap_or (at (ended w grid).vertices q) (record { state = Unrefined; numbers = [] })) (stream_vertices (ended w grid))
       (Each-all _ (λ q. met q (t.met q == 0) ∙ seen (at w.vertices q) ∙ ap (λ found. unwrap_or found (record { state = Unrefined; numbers = [] })) (sym (found-turned_by stored_of w.vertices q.level q.pos))) (stream_vertices (ended w grid)))
     where
@@ -92,7 +92,7 @@ module _ {Plan : Type 0} (set : Setting Plan) (grid : Grid) (swapped : Bool) (m 
   cells_turned =
       let next = ended w grid in
       let walked = walked_cells next.axes (next_way next) (goes_below next) next.greatest root in
-      ap (map (cell_at w)) streams.1
+      ap (map (cell_at w)) turned.1
       ∙ map_same (cell_at w) (λ c. unwrap_or (at (removed w.cells root) c) []) (stream_cells next)
       (Each-weaker (λ c. Unit {0} × (is_some (at (removed w.cells root) c) ≡ true)) (λ c. cell_at w c ≡ unwrap_or (at (removed w.cells root) c) []) (λ c some. kept c some.1) (stream_cells next)
       (Each-filter (λ c. Unit {0}) (λ c. is_some (at (removed w.cells root) c)) walked (Each-all (λ c. Unit {0}) (λ c. tt) walked)))
@@ -131,11 +131,11 @@ module _ {Plan : Type 0} (set : Setting Plan) (grid : Grid) (swapped : Bool) (m 
       on_cell_output false = refl
 
   pub turned_of : (after : Machine)
-      × (machine.give_up_all set (ports_of swapped) (records_of set.axes w root) (with_parents [] (image_of set (outset_of set grid swapped m) root w t)) ≡ at_once after)
+      × (machine.give_up_all set (stream_stacks_of swapped) (records_of set.axes w root) (with_parents [] (image_of set (foreseen_start_of set grid swapped m) root w t)) ≡ at_once after)
       × MachineHasTraversed swapped (ended w grid, w.tally) after
   turned_of =
       let count : length (records_of set.axes w root) ≡ 2 ^ set.axes = length-map-range_with_len (record_at set.axes w root) 0 (2 ^ set.axes) in (
         last,
-        all_given set (ports_of swapped) (record_of set e w t) (records_of set.axes w root) (numbers o) t.vertices (with_parents [] (image_of set e root w t)) (count ∙ sym many) (omega (arith, count, holds.stands.out)),
+        all_given set (stream_stacks_of swapped) (record_of set e w t) (records_of set.axes w root) (numbers o) t.vertices (with_parents [] (image_of set e root w t)) (count ∙ sym many) (omega (arith, count, holds.stands.out)),
         record { formed = formed_of set grid swapped m may room w t holds all; holds = holds_next; tally = refl },
       )

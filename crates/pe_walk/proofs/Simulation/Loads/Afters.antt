@@ -23,7 +23,7 @@ use Rattle.pe_hang.specs.InHand.{map_holdings}
 use Rattle.pe_order.specs.Tokens.{Outlook, Tokens}
 use Rattle.pe_order.specs.Apart.{IsApart, lies}
 use Rattle.pe_order.specs.Traffic.{OnlyCounting}
-use Rattle.pe_walk.specs.Standing.{Foresight, Outset, Stage, Stands, Fair, IsFair, IsIdle}
+use Rattle.pe_walk.specs.Standing.{Foresight, ForeseenStart, Stage, Stands, Fair, IsFair, IsIdle}
 use Rattle.pe_order.proofs.Tokens.Apart.{one_if}
 use Rattle.pe_walk.proofs.Simulation.Leaves.{record_of}
 use Rattle.pe_walk.proofs.Simulation.Shared.{HasPut, lies_unheld, cells-image, vertices-image}
@@ -91,7 +91,7 @@ module _ (axes greatest : ℕ) (o : Outlook) (f : Foresight) (st : Stage) (k : �
       go false e = refl
 
   -- the images of the stacks
-  pub vertices_seen : {Plan : Type 0} (set : Setting Plan) (e : Outset) → map_holdings (record_of set e after t') t'.vertices ≡ map_holdings (record_of set e w t) t'.vertices
+  pub vertices_seen : {Plan : Type 0} (set : Setting Plan) (e : ForeseenStart) → map_holdings (record_of set e after t') t'.vertices ≡ map_holdings (record_of set e w t) t'.vertices
   vertices_seen set e = vertices-image set e w after t t' t'.vertices (λ x some. let none = lies_unheld o t' a.apart a.counting x some in (vertex_elsewhere x none, met_elsewhere x none))
 
   pub cells_seen : map_holdings (cell_at after) t'.cells ≡ map_holdings (cell_at w) t.cells

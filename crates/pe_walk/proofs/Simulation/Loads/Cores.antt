@@ -23,7 +23,7 @@ use Rattle.pe_adapt.specs.Touches.{Desk, load_as}
 use Rattle.pe_order.specs.Laws.{IsCell}
 use Rattle.pe_adapt.specs.CountedTouches.{Machine, tally_may_rise, is_placed}
 use Rattle.pe_order.specs.Tokens.{Tokens, before, first_of, given, taken}
-use Rattle.pe_walk.specs.Standing.{Outset, Stage, Holds, IsOutset, IsStage}
+use Rattle.pe_walk.specs.Standing.{ForeseenStart, Stage, Holds, IsForeseenStart, IsStage}
 use Rattle.pe_order.proofs.Tokens.Counting.{corners_by_counting}
 use Rattle.pe_walk.proofs.Simulation.Matching.{turned-then}
 use Rattle.pe_walk.proofs.Simulation.LoadedKinds.{kinds_are_found, hangs_if}
@@ -40,16 +40,16 @@ abbrev pub source_of : {Plan : Type 0} → Setting Plan → Stage → ℕ → Op
 source_of set st k = stack_in set.axes (way set) (vertex_of set st k) st.cell
 
 -- what the core does
-abbrev pub core_of : {Plan : Type 0} → Setting Plan → Outset → Stage → ℕ → Working → Course (VertexRecord × Family)
+abbrev pub core_of : {Plan : Type 0} → Setting Plan → ForeseenStart → Stage → ℕ → Working → Course (VertexRecord × Family)
 core_of set e st k w =
     let vertex = vertex_of set st k in
     load_touch set (e.foresight.kind vertex) (is_none (source_of set st k)) (vertex_at w vertex) vertex (family_of set.axes w st.parent)
 
 -- the working state afterwards, and what is in hand
-abbrev pub working_after : {Plan : Type 0} → Setting Plan → Outset → Stage → ℕ → Working → VertexRecord × Family → Working
+abbrev pub working_after : {Plan : Type 0} → Setting Plan → ForeseenStart → Stage → ℕ → Working → VertexRecord × Family → Working
 working_after set e st k w it = after_load set (e.foresight.kind (vertex_of set st k)) (is_none (source_of set st k)) st.parent st.cell k it w
 
-abbrev pub hand_after : {Plan : Type 0} → Setting Plan → Outset → Stage → ℕ → Working → Tokens → Tokens → VertexRecord × Family → List VertexRecord × Machine
+abbrev pub hand_after : {Plan : Type 0} → Setting Plan → ForeseenStart → Stage → ℕ → Working → Tokens → Tokens → VertexRecord × Family → List VertexRecord × Machine
 hand_after set e st k w t t' it = (
   it.0 ∷ records_from set e w st.cell (suc k) (2 ^ set.axes - suc k),
   record {
@@ -69,7 +69,7 @@ same_first set Born a b parent cell k w found vertex family same = ap (λ first.
 same_first set Dying a b parent cell k w found vertex family same = ap (λ first. course_map (λ it. after_load set Dying first parent cell k it w) (load_touch set Dying first found vertex family)) (same refl)
 same_first set Hanging a b parent cell k w found vertex family same = refl
 
-module _ {Plan : Type 0} (set : Setting Plan) (e : Outset) (walked : Place → Bool) (is : IsOutset set e walked) (st : Stage) (stage : IsStage set.axes e.outlook st) (k : ℕ) (small : k < 2 ^ set.axes)
+module _ {Plan : Type 0} (set : Setting Plan) (e : ForeseenStart) (walked : Place → Bool) (is : IsForeseenStart set e walked) (st : Stage) (stage : IsStage set.axes e.outlook st) (k : ℕ) (small : k < 2 ^ set.axes)
     (w : Working) (t t' : Tokens) (holds : Holds set e st w t) (loads : LoadsPlace e.outlook st.cell (vertex_of set st k) t t') where
   -- what counts was met as often as the order of the cells around it says
   pub met_first : e.outlook.counts (vertex_of set st k) ≡ true → (t.met (vertex_of set st k) == 0) ≡ is_none (source_of set st k)

@@ -21,7 +21,7 @@ use Rattle.pe_order.specs.Laws.{IsCell}
 use Rattle.pe_adapt.specs.CountedTouches.{Machine}
 use Rattle.pe_order.specs.Tokens.{Tokens, first_of, given, taken, load}
 use Rattle.pe_walk.specs.CoreKeeps.{IsAlike, AreAlike, KeepsParents, loaded}
-use Rattle.pe_walk.specs.Standing.{Outset, Stage, Holds, Owes, IsForeseen, StartsFinest, IsFair, IsIdle, IsOutset, IsStage}
+use Rattle.pe_walk.specs.Standing.{ForeseenStart, Stage, Holds, Owes, IsForeseen, StartsFinest, IsFair, IsIdle, IsForeseenStart, IsStage}
 use Rattle.pe_order.proofs.Unwalked.{cell_four}
 use Rattle.pe_order.proofs.Tokens.Apart.{steps_keep_apart}
 use Rattle.pe_order.proofs.Tokens.Short.{steps_keep_counting}
@@ -39,7 +39,7 @@ use Rattle.pe_walk.proofs.Simulation.Loads.Foreseen.{loads_idle, loads_first, lo
 use Rattle.pe_walk.proofs.Simulation.Loads.Afters.{HasLoaded, vertices_seen, cells_seen, records_seen}
 use Rattle.pe_walk.proofs.Simulation.Loads.Stages.{stands_after, fair_after, owes_after}
 
-module _ {Plan : Type 0} (set : Setting Plan) (e : Outset) (walked : Place → Bool) (is : IsOutset set e walked) (st : Stage) (stage : IsStage set.axes e.outlook st) (k : ℕ) (small : k < 2 ^ set.axes)
+module _ {Plan : Type 0} (set : Setting Plan) (e : ForeseenStart) (walked : Place → Bool) (is : IsForeseenStart set e walked) (st : Stage) (stage : IsStage set.axes e.outlook st) (k : ℕ) (small : k < 2 ^ set.axes)
     (w : Working) (t t' : Tokens) (holds : Holds set e st w t) (loads : LoadsPlace e.outlook st.cell (vertex_of set st k) t t') where
   -- what is loaded of a vertex that counts, before its events
   loaded_fair : e.outlook.counts (vertex_of set st k) ≡ true
@@ -177,7 +177,7 @@ module _ {Plan : Type 0} (set : Setting Plan) (e : Outset) (walked : Place → B
       }
 
 -- a corner is loaded by model and machine alike
-pub load_leaf : {Plan : Type 0} (set : Setting Plan) (e : Outset) (walked : Place → Bool) (room : Push → Type 0) → IsOutset set e walked → LoadLeaf set e room
+pub load_leaf : {Plan : Type 0} (set : Setting Plan) (e : ForeseenStart) (walked : Place → Bool) (room : Push → Type 0) → IsForeseenStart set e walked → LoadLeaf set e room
 load_leaf set e walked room is st k stage small from owed w t t' holds run =
     let loads = loads_place e.outlook set.axes st.cell k t t' is.foresees.axes run in
     let core = core_of set e st k w in

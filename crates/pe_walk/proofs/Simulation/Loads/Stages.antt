@@ -24,7 +24,7 @@ use Rattle.pe_stacks.specs.Holdings.{Holdings, stack_count, stack_at, items_at, 
 use Rattle.pe_stacks.specs.Grid.{output_stack}
 use Rattle.pe_order.specs.Tokens.{Outlook, Tokens, cells_before}
 use Rattle.pe_order.specs.Apart.{lies, occurs}
-use Rattle.pe_walk.specs.Standing.{Foresight, Outset, Stage, Stands, Fair, Owes, IsLive, IsFair, IsIdle, IsWritten, times}
+use Rattle.pe_walk.specs.Standing.{Foresight, ForeseenStart, Stage, Stands, Fair, Owes, IsLive, IsFair, IsIdle, IsWritten, times}
 use Rattle.pe_order.proofs.Tokens.Apart.{one_if}
 use Rattle.pe_walk.proofs.Simulation.Leaves.{after_load}
 use Rattle.pe_walk.proofs.Simulation.Shared.{on_one, lies_unheld, OneMore, owes-more}
@@ -278,7 +278,7 @@ tally-more kind first tally t t' v moved cells = go kind first
     go Born false = counts tally refl (omega arith) (omega arith) (omega arith) (omega arith) (omega arith)
     go Dying false = counts tally refl (omega arith) (omega arith) (omega arith) (omega arith) (omega arith)
 
-pub owes_after : (axes max_cells : ℕ) (e : Outset) (st : Stage) (k : ℕ) (kind : Kind) (first : Bool) (tally : Tally) (t t' : Tokens) (v : Place) → 1 ≤ st.owed → HasTaken v t.vertices t'.vertices → t'.cells ≡ t.cells
+pub owes_after : (axes max_cells : ℕ) (e : ForeseenStart) (st : Stage) (k : ℕ) (kind : Kind) (first : Bool) (tally : Tally) (t t' : Tokens) (v : Place) → 1 ≤ st.owed → HasTaken v t.vertices t'.vertices → t'.cells ≡ t.cells
     → Owes axes max_cells e st tally t → Owes axes max_cells e (after_load k st) (tally_load kind first tally) t'
 owes_after axes max_cells e st k kind first tally t t' v owed moved cells owes =
     owes-more axes max_cells e st (after_load k st) tally (tally_load kind first tally) t t' owes (tally-more kind first tally t t' v moved cells) (omega (arith, owed)) refl

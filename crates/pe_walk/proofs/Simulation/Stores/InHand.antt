@@ -21,7 +21,7 @@ use Rattle.pe_order.specs.Laws.{IsCell}
 use Rattle.pe_adapt.specs.CountedTouches.{is_placed}
 use Rattle.pe_order.specs.Tokens.{Tokens}
 use Rattle.pe_walk.specs.CoreKeeps.{IsStoredAlike, stays}
-use Rattle.pe_walk.specs.Standing.{Outset, Stage, Holds, IsOutset, IsStage, IsFair}
+use Rattle.pe_walk.specs.Standing.{ForeseenStart, Stage, Holds, IsForeseenStart, IsStage, IsFair}
 use Rattle.pe_walk.proofs.Simulation.LoadedKinds.{found_stored}
 use Rattle.pe_walk.proofs.Simulation.Stores.Lasts.{lasts_agree}
 use Rattle.pe_walk.proofs.Simulation.Stores.Goals.{goal_if, goal_of, waits_apart}
@@ -38,7 +38,7 @@ stored_by set st k w last = stored_as_kind set st k w (record_at set.axes w st.c
 
 -- The record hangs or counts; the model's last store is that of the order around the vertex; and what is left of it goes
 -- where its place goes.
-pub record InHand {Plan : Type 0} (set : Setting Plan) (e : Outset) (st : Stage) (k : ℕ) (w : Working) : Type 0 where
+pub record InHand {Plan : Type 0} (set : Setting Plan) (e : ForeseenStart) (st : Stage) (k : ℕ) (w : Working) : Type 0 where
   pub kind : e.outlook.counts (corner set.axes st.cell k) ≡ not (is_hanging (record_at set.axes w st.cell k).kind)
   pub placed : is_placed set.axes (record_at set.axes w st.cell k).kind (corner set.axes st.cell k) ≡ true
   pub same : stored_by set st k w (loads_of w (corner set.axes st.cell k) == 2 ^ set.axes) ≡ stored_by set st k w (is_none (stack_out set.axes (way set) (corner set.axes st.cell k) st.cell))
@@ -46,7 +46,7 @@ pub record InHand {Plan : Type 0} (set : Setting Plan) (e : Outset) (st : Stage)
       → Fate set e.foresight (output_stack e.outlook.swapped) (corner set.axes st.cell k) (stack_out set.axes (way set) (corner set.axes st.cell k) st.cell)
       (goal_of e.outlook set.axes (way set) (corner set.axes st.cell k) st.cell) left
 
-module _ {Plan : Type 0} (set : Setting Plan) (e : Outset) (walked : Place → Bool) (is : IsOutset set e walked) (st : Stage) (stage : IsStage set.axes e.outlook st) (w : Working) (t : Tokens) (h : Holds set e st w t)
+module _ {Plan : Type 0} (set : Setting Plan) (e : ForeseenStart) (walked : Place → Bool) (is : IsForeseenStart set e walked) (st : Stage) (stage : IsStage set.axes e.outlook st) (w : Working) (t : Tokens) (h : Holds set e st w t)
     (k : ℕ) (from : st.from ≡ k) (below : k < 2 ^ set.axes) (deep : st.parent.level + 1 ≡ st.cell.level) where
   abbrev vertex : Place
   vertex = corner set.axes st.cell k

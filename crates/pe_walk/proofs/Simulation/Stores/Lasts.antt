@@ -10,11 +10,11 @@ use Rattle.pe_base.specs.Walk.Working.{Working, loads_of}
 use Rattle.pe_base.proofs.Steps.SlowerLaws.{length-around}
 use Rattle.pe_order.specs.Laws.{IsCell}
 use Rattle.pe_order.specs.Tokens.{Tokens, before}
-use Rattle.pe_walk.specs.Standing.{Outset, Stage, Holds, IsOutset, IsStage}
+use Rattle.pe_walk.specs.Standing.{ForeseenStart, Stage, Holds, IsForeseenStart, IsStage}
 use Rattle.pe_order.proofs.Tokens.Counting.{corners_by_counting}
 
 -- A vertex that was loaded for all cells around it goes to no further cell, and the other way round.
-pub lasts_agree : {Plan : Type 0} (set : Setting Plan) (e : Outset) (walked : Place → Bool) → IsOutset set e walked → (st : Stage) (w : Working) (t : Tokens) → IsStage set.axes e.outlook st → Holds set e st w t
+pub lasts_agree : {Plan : Type 0} (set : Setting Plan) (e : ForeseenStart) (walked : Place → Bool) → IsForeseenStart set e walked → (st : Stage) (w : Working) (t : Tokens) → IsStage set.axes e.outlook st → Holds set e st w t
     → (k : ℕ) → st.from ≤ k → k < 2 ^ set.axes → e.outlook.counts (corner set.axes st.cell k) ≡ true
     → (loads_of w (corner set.axes st.cell k) == 2 ^ set.axes) ≡ is_none (stack_out set.axes (way set) (corner set.axes st.cell k) st.cell)
 lasts_agree set e walked is st w t stage holds k from below on =

@@ -22,7 +22,7 @@ use Rattle.pe_adapt.specs.Touches.{Desk}
 use Rattle.pe_adapt.specs.Touches as corners
 use Rattle.pe_adapt.specs.CountedTouches.{Machine, desk_of, with_desk, tally_may_rise, is_placed}
 use Rattle.pe_order.specs.Tokens.{Tokens, store, put}
-use Rattle.pe_walk.specs.Standing.{Outset, Stage, Holds, HasRoom, IsOutset, IsStage}
+use Rattle.pe_walk.specs.Standing.{ForeseenStart, Stage, Holds, HasRoom, IsForeseenStart, IsStage}
 use Rattle.pe_walk.proofs.Simulation.CellsCounted.{tally_rises}
 use Rattle.pe_walk.proofs.Simulation.Leaves.{StoreLeaf, after_store, record_of, image_of, records_from, in_hand, store_first}
 use Rattle.pe_walk.proofs.Simulation.Matching.{Matches, Alike, then-grouped, core-then-matches, matches-same, mapped-done}
@@ -42,13 +42,13 @@ output_is true = refl
 output_is false = refl
 
 -- the corners in hand, the first of which is stored
-pub first_in_hand : {Plan : Type 0} (set : Setting Plan) (e : Outset) (w : Working) (cell : Place) (from k : ℕ) → from ≡ k → k < 2 ^ set.axes
+pub first_in_hand : {Plan : Type 0} (set : Setting Plan) (e : ForeseenStart) (w : Working) (cell : Place) (from k : ℕ) → from ≡ k → k < 2 ^ set.axes
     → records_from set e w cell from (2 ^ set.axes - from) ≡ record_at set.axes w cell k ∷ records_from set e w cell (k + 1) (2 ^ set.axes - (k + 1))
 first_in_hand set e w cell from k same below =
     ap (λ n. records_from set e w cell n (2 ^ set.axes - n)) same
     ∙ ap (records_from set e w cell k) (let more : 2 ^ set.axes - k ≡ suc (2 ^ set.axes - (k + 1)) = omega (arith, below) in more)
 
-module _ {Plan : Type 0} (set : Setting Plan) (e : Outset) (walked : Place → Bool) (is : IsOutset set e walked) (st : Stage) (stage : IsStage set.axes e.outlook st) (w : Working) (t : Tokens) (h : Holds set e st w t)
+module _ {Plan : Type 0} (set : Setting Plan) (e : ForeseenStart) (walked : Place → Bool) (is : IsForeseenStart set e walked) (st : Stage) (stage : IsStage set.axes e.outlook st) (w : Working) (t : Tokens) (h : Holds set e st w t)
     (k : ℕ) (from : st.from ≡ k) (below : k < 2 ^ set.axes) (t' : Tokens) (run : store e.outlook st.cell k t ≡ Some t') where
   abbrev vertex : Place
   vertex = corner set.axes st.cell k
@@ -200,6 +200,6 @@ module _ {Plan : Type 0} (set : Setting Plan) (e : Outset) (walked : Place → B
       }))
 
 -- A corner is stored by model and machine alike.
-pub store_leaf : {Plan : Type 0} (set : Setting Plan) (e : Outset) (walked : Place → Bool) (room : Push → Type 0) → IsOutset set e walked → HasRoom set e room → StoreLeaf set e room
+pub store_leaf : {Plan : Type 0} (set : Setting Plan) (e : ForeseenStart) (walked : Place → Bool) (room : Push → Type 0) → IsForeseenStart set e walked → HasRoom set e room → StoreLeaf set e room
 store_leaf set e walked room is rooms st k stage below from owed unstored w t t' h run =
     stored_steps set e walked is st stage w t h k from below t' run room (λ r run_core. logged set e walked is st stage w t h k from below t' run r run_core room rooms owed unstored) owed unstored

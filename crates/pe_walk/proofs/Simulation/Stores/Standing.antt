@@ -10,7 +10,7 @@ use Rattle.pe_base.proofs.Walk.CellCorners.{corners_apart}
 use Rattle.pe_order.specs.Tokens.{Outlook, Tokens}
 use Rattle.pe_order.specs.Apart.{IsApart}
 use Rattle.pe_order.specs.Traffic.{OnlyCounting}
-use Rattle.pe_walk.specs.Standing.{Outset, Stage, Stands, Owes}
+use Rattle.pe_walk.specs.Standing.{ForeseenStart, Stage, Stands, Owes}
 use Rattle.pe_walk.proofs.Simulation.Leaves.{after_store}
 use Rattle.pe_walk.proofs.Simulation.Levels.{levels_differ}
 use Rattle.pe_walk.proofs.Simulation.Shared.{owes-more}
@@ -68,7 +68,7 @@ counted_store Born false tally = uncounted tally
 counted_store Kept false tally = uncounted tally
 
 -- what is owed
-pub owes-stored : (axes max_cells : ℕ) (e : Outset) (st : Stage) (t : Tokens) (counts : Bool) (goal : Option ℕ) (place : Place) (k : ℕ) (kind : Kind) (last : Bool) (tally : Tally)
+pub owes-stored : (axes max_cells : ℕ) (e : ForeseenStart) (st : Stage) (t : Tokens) (counts : Bool) (goal : Option ℕ) (place : Place) (k : ℕ) (kind : Kind) (last : Bool) (tally : Tally)
     → Owes axes max_cells e st tally t → Within goal t.vertices → 1 ≤ st.owed → 1 ≤ st.unstored
     → Owes axes max_cells e (after_store k st) (tally_store kind last tally) (stored counts goal place t)
 owes-stored axes max_cells e st t counts goal place k kind last tally owes within owed unstored =

@@ -15,7 +15,7 @@ use Rattle.pe_order.specs.Tokens.{Tokens, store}
 use Rattle.pe_order.specs.Apart.{IsApart}
 use Rattle.pe_order.specs.Traffic.{OnlyCounting}
 use Rattle.pe_walk.specs.CoreKeeps.{AreAlike, IsStoredAlike, KeepsParents}
-use Rattle.pe_walk.specs.Standing.{Outset, Stage, Stands, Owes, Holds, IsOutset, IsStage}
+use Rattle.pe_walk.specs.Standing.{ForeseenStart, Stage, Stands, Owes, Holds, IsForeseenStart, IsStage}
 use Rattle.pe_order.proofs.Unwalked.{cell_four}
 use Rattle.pe_walk.proofs.Simulation.CoreLaws.{core_keeps}
 use Rattle.pe_walk.proofs.Simulation.LoadedKinds.{parent_long}
@@ -33,7 +33,7 @@ use Rattle.pe_walk.proofs.Simulation.Stores.Fairness.{IsStored, fair-stored}
 abbrev pub to_of : {Plan : Type 0} → Setting Plan → Stage → ℕ → Option ℕ
 to_of set st k = stack_out set.axes (way set) (corner set.axes st.cell k) st.cell
 
-abbrev pub goal_at : {Plan : Type 0} → Setting Plan → Outset → Stage → ℕ → Option ℕ
+abbrev pub goal_at : {Plan : Type 0} → Setting Plan → ForeseenStart → Stage → ℕ → Option ℕ
 goal_at set e st k = goal_of e.outlook set.axes (way set) (corner set.axes st.cell k) st.cell
 
 abbrev pub core_of : {Plan : Type 0} → Setting Plan → Stage → ℕ → Working → Course (Option VertexRecord × Family)
@@ -47,10 +47,10 @@ before_of set st k w left =
 abbrev pub after_of : {Plan : Type 0} → Setting Plan → Stage → ℕ → Working → Option VertexRecord × Family → Working
 after_of set st k w r = model.after_store set (record_at set.axes w st.cell k).kind (is_none (to_of set st k)) st.parent st.cell k r w
 
-abbrev pub places_of : {Plan : Type 0} → Setting Plan → Outset → Stage → ℕ → Tokens → Tokens
+abbrev pub places_of : {Plan : Type 0} → Setting Plan → ForeseenStart → Stage → ℕ → Tokens → Tokens
 places_of set e st k t = stored (e.outlook.counts (corner set.axes st.cell k)) (goal_at set e st k) (corner set.axes st.cell k) t
 
-module _ {Plan : Type 0} (set : Setting Plan) (e : Outset) (walked : Place → Bool) (is : IsOutset set e walked) (st : Stage) (stage : IsStage set.axes e.outlook st) (w : Working) (t : Tokens) (h : Holds set e st w t)
+module _ {Plan : Type 0} (set : Setting Plan) (e : ForeseenStart) (walked : Place → Bool) (is : IsForeseenStart set e walked) (st : Stage) (stage : IsStage set.axes e.outlook st) (w : Working) (t : Tokens) (h : Holds set e st w t)
     (k : ℕ) (from : st.from ≡ k) (below : k < 2 ^ set.axes) (t' : Tokens) (run : store e.outlook st.cell k t ≡ Some t') where
   abbrev vertex : Place
   vertex = corner set.axes st.cell k

@@ -20,7 +20,7 @@ use Rattle.pe_base.specs.Walk.Walk as walks
 use Rattle.pe_base.proofs.Walk.Courses.{done_same, mapped-done, then-done}
 use Rattle.pe_base.proofs.Walk.Families.{beside-put_records}
 use Rattle.pe_order.specs.Tokens.{Tokens, touch_of, load, store}
-use Rattle.pe_walk.specs.Standing.{Outset, Stage, Holds, IsOutset, IsStage, IsFair}
+use Rattle.pe_walk.specs.Standing.{ForeseenStart, Stage, Holds, IsForeseenStart, IsStage, IsFair}
 use Rattle.pe_order.specs.Tallies.{counted_load, counted_store}
 use Rattle.pe_walk.proofs.Simulation.Matching.{both_some}
 use Rattle.pe_walk.proofs.Simulation.LoadedKinds.{found_stored, hangs_if}
@@ -90,8 +90,8 @@ module _ {Plan : Type 0} (set : Setting Plan) where
   pub plain_counted : (holds : Working → Tokens → Type 0) (tokens : Tokens → Option Tokens) (event : Event) → Counted holds (walks.plain set event) tokens (λ tally. tally)
   plain_counted holds tokens event w t t' h k v q = let at = mapped-done (plain_event set event w.list) (λ list. record w { list = list }) v q in ap (λ (u : Working). u.tally) at.2
 
-  module _ (e : Outset) (walked : Place → Bool) (is : IsOutset set e walked) (st : Stage) (stage : IsStage set.axes e.outlook st) (k : ℕ) (small : k < 2 ^ set.axes) where
-    -- the kinds are those of the outset, over its axes and its way
+  module _ (e : ForeseenStart) (walked : Place → Bool) (is : IsForeseenStart set e walked) (st : Stage) (stage : IsStage set.axes e.outlook st) (k : ℕ) (small : k < 2 ^ set.axes) where
+    -- the kinds are those of the foreseen_start, over its axes and its way
     load-same : (tally : Tally) → tally_load (e.foresight.kind (vertex_of set st k)) (is_none (source_of set st k)) tally ≡ counted_load e.outlook e.foresight.kind (touch_of e.outlook st.cell k) tally
     load-same tally = ap₂ (λ n u. tally_load (e.foresight.kind (corner n st.cell k)) (is_none (stack_in n u (corner n st.cell k) st.cell)) tally) (sym is.foresees.axes) (sym is.foresees.ways)
 

@@ -19,15 +19,15 @@ use Rattle.pe_base.specs.Walk.Streams.{walked_cells}
 use Rattle.pe_base.proofs.Walk.Courses.{mapped-done, then-done, done_same}
 use Rattle.pe_stacks.specs.Holdings.{Holdings, given_up}
 use Rattle.pe_hang.specs.InHand.{map_holdings}
-use Rattle.pe_adapt.specs.CountedTouches.{Machine, Ports}
+use Rattle.pe_adapt.specs.CountedTouches.{Machine, StreamStacks}
 use Rattle.pe_walk.specs.Machine.{with_parents}
 use Rattle.pe_walk.specs.Machine as machine
 use Rattle.pe_order.specs.Tokens.{Outlook, Tokens, ended, numbers, each_some, given_up_for}
 use Rattle.pe_order.specs.Tokens as tokens
 use Rattle.pe_order.specs.Outlooks.{outlook}
-use Rattle.pe_walk.specs.Standing.{Outset, IsOutset, Holds}
+use Rattle.pe_walk.specs.Standing.{ForeseenStart, IsForeseenStart, Holds}
 use Rattle.pe_order.specs.Tallies.{each_counted, counted_walk, foreseen_tally, ExactTraffic}
-use Rattle.pe_walk.specs.Gridded.{MachineMayTraverse, ports_of}
+use Rattle.pe_walk.specs.Gridded.{MachineMayTraverse, stream_stacks_of}
 use Rattle.pe_order.specs.FewCells.{most_cells}
 use Rattle.pe_walk.specs.TraversalTraffic.{TallyIsForeseen, TraversalsAreExact}
 use Rattle.pe_order.proofs.Trees.{root_is_cell}
@@ -41,7 +41,7 @@ use Rattle.pe_walk.proofs.Simulation.Matching.{ending_map}
 use Rattle.pe_walk.proofs.Simulation.Leaves.{image_of, record_of, at_root}
 use Rattle.pe_walk.proofs.Simulation.CellsCounted.{plain_leaf}
 use Rattle.pe_walk.proofs.Simulation.RootCorners.{has_corners}
-use Rattle.pe_walk.proofs.Simulation.Starts.{tokens_of, outset_of, dim_of, grown_of, may_traverse, image_vertices, image_cells, cornered, start, is_outset, starts}
+use Rattle.pe_walk.proofs.Simulation.Starts.{tokens_of, foreseen_start_of, dim_of, grown_of, may_traverse, image_vertices, image_cells, cornered, start, is_foreseen_start, starts}
 use Rattle.pe_walk.proofs.Simulation.Traverses.{machine_is, model_is}
 use Rattle.pe_walk.proofs.Simulation.Cells.Children.{kids, kids_stages, between}
 use Rattle.pe_walk.proofs.Simulation.Cells.Roots.{rooted, root_goes}
@@ -69,12 +69,12 @@ record GaveUp (n : ℕ) (m after : Machine) : Type 0 where
   cells : after.cells ≡ m.cells
   tally : after.tally ≡ m.tally
 
-gave_up : {Plan : Type 0} (set : Setting Plan) (ports : Ports) (its : List VertexRecord) (m after : Machine) → (machine.give_up_all set ports its m).ending ≡ done after → GaveUp (length its) m after
-gave_up set ports [] m after e = let same = done_same m after e in record { vertices = ap (λ (x : Machine). x.vertices) (sym same); cells = ap (λ (x : Machine). x.cells) (sym same); tally = ap (λ (x : Machine). x.tally) (sym same) }
-gave_up set ports (it ∷ its) m after e =
-    let first = then-done (allowed (nat_lt 0 m.vertices.out) (at_once (given_up m.vertices))) (λ vertices. machine.give_up_all set ports its (record m { vertices = vertices })) after e in
+gave_up : {Plan : Type 0} (set : Setting Plan) (streams : StreamStacks) (its : List VertexRecord) (m after : Machine) → (machine.give_up_all set streams its m).ending ≡ done after → GaveUp (length its) m after
+gave_up set streams [] m after e = let same = done_same m after e in record { vertices = ap (λ (x : Machine). x.vertices) (sym same); cells = ap (λ (x : Machine). x.cells) (sym same); tally = ap (λ (x : Machine). x.tally) (sym same) }
+gave_up set streams (it ∷ its) m after e =
+    let first = then-done (allowed (nat_lt 0 m.vertices.out) (at_once (given_up m.vertices))) (λ vertices. machine.give_up_all set streams its (record m { vertices = vertices })) after e in
     let same : first.0 ≡ given_up m.vertices = let by = go (nat_lt 0 m.vertices.out) first.0 first.1 in by in
-    let more = gave_up set ports its (record m { vertices = first.0 }) after first.2 in
+    let more = gave_up set streams its (record m { vertices = first.0 }) after first.2 in
     record { vertices = more.vertices ∙ ap (given_times (length its)) same; cells = more.cells; tally = more.tally }
   where
     go : (b : Bool) (held : Holdings VertexRecord) → (allowed b (at_once (given_up m.vertices))).ending ≡ done held → held ≡ given_up m.vertices
@@ -88,25 +88,25 @@ from_image f (halts cause) x h = absurd cc
 from_image f stuck x h = absurd cc
 
 module _ {Plan : Type 0} (set : Setting Plan) (grid : Grid) (swapped : Bool) (m : Machine) (may : MachineMayTraverse set grid swapped m) where
-  abbrev e : Outset
-  e = outset_of set grid swapped m
+  abbrev e : ForeseenStart
+  e = foreseen_start_of set grid swapped m
 
   abbrev o : Outlook
   o = outlook set.start_level grid swapped
 
-  is : IsOutset set (outset_of set grid swapped m) (walked set.start_level grid)
-  is = is_outset set grid swapped m may
+  is : IsForeseenStart set (foreseen_start_of set grid swapped m) (walked set.start_level grid)
+  is = is_foreseen_start set grid swapped m may
 
   -- the steps of the walk by address between making the root's corners and dropping them
   abbrev middle : Working → Course Working
   middle w = and_then (walks.plain set BeginIteration w) (λ w. and_then (each (walks.walk_cell set (grid.greatest - 1) root) (children set.axes (way set) root) w) (walks.plain set EndIteration))
 
   -- the children of the root count so
-  root_counted : (w : Working) (t t' : Tokens) → Holds set (outset_of set grid swapped m) (at_root set (outset_of set grid swapped m) (any_room set (outset_of set grid swapped m) (walked set.start_level grid) is)
+  root_counted : (w : Working) (t t' : Tokens) → Holds set (foreseen_start_of set grid swapped m) (at_root set (foreseen_start_of set grid swapped m) (any_room set (foreseen_start_of set grid swapped m) (walked set.start_level grid) is)
       (flat_map (walked_cells grid.axes (outlook set.start_level grid swapped).way (outlook set.start_level grid swapped).walks (grid.greatest - 1)) (children grid.axes (outlook set.start_level grid swapped).way root))) w t
       → each_some (tokens.walk (outlook set.start_level grid swapped) (grid.greatest - 1)) (children grid.axes (outlook set.start_level grid swapped).way root) t ≡ Some t'
       → (v : Working) → (each (walks.walk_cell set (grid.greatest - 1) root) (children set.axes (way set) root) w).ending ≡ done v
-      → v.tally ≡ each_counted (counted_walk (outlook set.start_level grid swapped) (outset_of set grid swapped m).foresight.kind (grid.greatest - 1)) (children grid.axes (outlook set.start_level grid swapped).way root) w.tally
+      → v.tally ≡ each_counted (counted_walk (outlook set.start_level grid swapped) (foreseen_start_of set grid swapped m).foresight.kind (grid.greatest - 1)) (children grid.axes (outlook set.start_level grid swapped).way root) w.tally
   root_counted w t t' h k v q =
       let levels = grid.greatest - 1 in
       let room = any_room set e (walked set.start_level grid) is in
@@ -160,10 +160,10 @@ record EndsAs {Plan : Type 0} (set : Setting Plan) (grid : Grid) (swapped : Bool
   cells : after.cells ≡ map_holdings seen_cell places.cells
   tally : after.tally ≡ foreseen_tally set.start_level grid swapped
 
-ends_as : {Plan : Type 0} (set : Setting Plan) (grid : Grid) (swapped : Bool) (m after : Machine) (may : MachineMayTraverse set grid swapped m) → (machine.traverse set (ports_of swapped) grid.greatest m).ending ≡ done after
+ends_as : {Plan : Type 0} (set : Setting Plan) (grid : Grid) (swapped : Bool) (m after : Machine) (may : MachineMayTraverse set grid swapped m) → (machine.traverse set (stream_stacks_of swapped) grid.greatest m).ending ≡ done after
     → EndsAs set grid swapped (whole set grid swapped m may).0 after
 ends_as set grid swapped m after may q =
-    let e = outset_of set grid swapped m in
+    let e = foreseen_start_of set grid swapped m in
     let o = outlook set.start_level grid swapped in
     let its = is set grid swapped m may in
     let room = any_room set e (walked set.start_level grid) its in
@@ -173,11 +173,11 @@ ends_as set grid swapped m after may q =
     let t = tokens_run.0 in
     let image : Working → Machine = λ w. image_of set e root w t in
     let steps = traversal_simulated set e (walked set.start_level grid) room its (roomy set e (walked set.start_level grid) its) (grid.greatest - 1) begun begin t (starts set grid swapped m may) tokens_run.1 in
-    let middle_machine = and_then (machine.plain set (ports_of swapped) BeginIteration (image_of set e root begun begin))
-    (λ x. and_then (each (machine.walk_cell set (ports_of swapped) (suc (grid.greatest - 1))) (children set.axes (way set) root) x) (machine.plain set (ports_of swapped) EndIteration)) in
-    let closed = then-done middle_machine (λ x. machine.give_up_all set (ports_of swapped) x.family.parents (with_parents [] x)) after (ap (λ (c : Course Machine). c.ending) (sym (machine_is set grid swapped m may)) ∙ q) in
+    let middle_machine = and_then (machine.plain set (stream_stacks_of swapped) BeginIteration (image_of set e root begun begin))
+    (λ x. and_then (each (machine.walk_cell set (stream_stacks_of swapped) (suc (grid.greatest - 1))) (children set.axes (way set) root) x) (machine.plain set (stream_stacks_of swapped) EndIteration)) in
+    let closed = then-done middle_machine (λ x. machine.give_up_all set (stream_stacks_of swapped) x.family.parents (with_parents [] x)) after (ap (λ (c : Course Machine). c.ending) (sym (machine_is set grid swapped m may)) ∙ q) in
     let seen = from_image image (middle set grid swapped m may begun).ending closed.0 (sym closed.1 ∙ steps.same.ending) in
-    let gave = gave_up set (ports_of swapped) closed.0.family.parents (with_parents [] closed.0) after closed.2 in
+    let gave = gave_up set (stream_stacks_of swapped) closed.0.family.parents (with_parents [] closed.0) after closed.2 in
     let many : length closed.0.family.parents ≡ length (numbers o) =
     ap (λ (x : Machine). length x.family.parents) seen.2 ∙ length-map (range_with_len 0 (2 ^ set.axes)) (record_at set.axes seen.0 root) ∙ ap (λ axes. length (range_with_len 0 (2 ^ axes))) may.fits.axes in
     record {

@@ -22,7 +22,7 @@ use Rattle.pe_base.proofs.Walk.Courses.{done_same}
 use Rattle.pe_stacks.proofs.CornerSlots.{corners_range}
 use Rattle.pe_order.specs.Tokens.{Tokens, given, each_some, touch_of}
 use Rattle.pe_order.specs.Tokens as tokens
-use Rattle.pe_walk.specs.Standing.{Outset, Stage, IsStage, Holds, HasRoom, IsOutset}
+use Rattle.pe_walk.specs.Standing.{ForeseenStart, Stage, IsStage, Holds, HasRoom, IsForeseenStart}
 use Rattle.pe_order.specs.Tallies.{each_counted, counted_load, counted_store, counted_around, counted_walk}
 use Rattle.pe_walk.proofs.Simulation.Leaves.{after_count, after_load, after_leave, after_store}
 use Rattle.pe_walk.proofs.Simulation.CellsCounted.{count_leaf}
@@ -46,7 +46,7 @@ each-map step f (x ∷ xs) tally = each-map step f xs (step (f x) tally)
 pub nothing_counted : (w v : Working) → (at_once w).ending ≡ done v → v.tally ≡ w.tally
 nothing_counted w v q = ap (λ (u : Working). u.tally) (sym (done_same w v q))
 
-module _ {Plan : Type 0} (set : Setting Plan) (e : Outset) (walked : Place → Bool) (is : IsOutset set e walked) where
+module _ {Plan : Type 0} (set : Setting Plan) (e : ForeseenStart) (walked : Place → Bool) (is : IsForeseenStart set e walked) where
   -- any push has room here: what is counted does not depend on it
   abbrev pub any_room : Push → Type 0
   any_room push = Unit {0}

@@ -29,7 +29,7 @@ use Rattle.pe_walk.specs.CoreKeeps.{AreAlike, KeepsParents}
 use Rattle.pe_order.specs.CellsAhead.{CellsAhead}
 use Rattle.pe_order.specs.Apart.{lies}
 use Rattle.pe_order.specs.Outlooks.{was_stored}
-use Rattle.pe_walk.specs.Standing.{Outset, Stage, per_cell, Stands, Fair, Owes, Holds, IsOutset, IsStage, times}
+use Rattle.pe_walk.specs.Standing.{ForeseenStart, Stage, per_cell, Stands, Fair, Owes, Holds, IsForeseenStart, IsStage, times}
 use Rattle.pe_order.proofs.Tokens.Apart.{map_some, one_if, at_most_one}
 use Rattle.pe_order.proofs.Tokens.CellsAhead.{steps_keep_ahead}
 use Rattle.pe_order.proofs.Tokens.MoveFrames as frames
@@ -42,7 +42,7 @@ use Rattle.pe_walk.proofs.Simulation.Silent.{enter-silent}
 use Rattle.pe_walk.proofs.Simulation.CoreLaws.{core_keeps}
 use Rattle.pe_walk.proofs.Simulation.Below.{cell_found}
 use Rattle.pe_walk.proofs.Simulation.Shared.{lend-image, pop-image, cells-image, owes-more}
-use Rattle.pe_walk.proofs.Simulation.Leaves.{image_of, own_in_hand, record_of, records_from, ports, after_enter, EnterLeaf}
+use Rattle.pe_walk.proofs.Simulation.Leaves.{image_of, own_in_hand, record_of, records_from, streams, after_enter, EnterLeaf}
 use Rattle.pe_walk.proofs.Simulation.Visits.Records.{Visited, visited, fair_visited, vertices_visited}
 use Rattle.pe_order.proofs.Tokens.Bounds.{few_cell_input_stacks}
 
@@ -68,7 +68,7 @@ len-taken (Some from) place held after e s =
       | inr other ↦ omega (arith, ap length (popped_other held from s other))
     ]
 
-module _ {Plan : Type 0} (set : Setting Plan) (e : Outset) (walked : Place → Bool) (is : IsOutset set e walked) (st : Stage) (rest : List Place) (stage : IsStage set.axes e.outlook st)
+module _ {Plan : Type 0} (set : Setting Plan) (e : ForeseenStart) (walked : Place → Bool) (is : IsForeseenStart set e walked) (st : Stage) (rest : List Place) (stage : IsStage set.axes e.outlook st)
     (all : st.from ≡ 0) (next : st.ahead ≡ st.cell ∷ rest) (owed : 1 ≤ st.owed) (counted : 1 ≤ st.counted) (w : Working) (t t' : Tokens) (h : Holds set e st w t) (runs : tokens.enter e.outlook st.cell t ≡ Some t') where
   abbrev kind : Kind
   kind = e.foresight.below st.parent
@@ -89,7 +89,7 @@ module _ {Plan : Type 0} (set : Setting Plan) (e : Outset) (walked : Place → B
   -- the machine finds the cell's numbers, or makes them
   record Comes (room : Push → Type 0) (k : Kind) : Type 0 where
     numbers : List ℤ
-    comes : cell_comes set (ports set e room) k (image_of set e st.parent w t) ≡ at_once (numbers, record (image_of set e st.parent w t) { cells = map_holdings (cell_at w) took.0 })
+    comes : cell_comes set (streams set e room) k (image_of set e st.parent w t) ≡ at_once (numbers, record (image_of set e st.parent w t) { cells = map_holdings (cell_at w) took.0 })
     same : (corners : List VertexRecord) (family : Family) → enter_touch set k numbers st.cell corners family ≡ enter_touch set k (cell_at w st.cell) st.cell corners family
 
   cell_popped : (cells : Holdings Place) → taken (Some (cell_input_stack e.outlook.swapped)) st.cell t.cells ≡ Some cells
@@ -312,22 +312,22 @@ module _ {Plan : Type 0} (set : Setting Plan) (e : Outset) (walked : Place → B
 
   pub entered_steps : (room : Push → Type 0)
       → Alike room (own_in_hand set e (after_enter rest st)) (Holds set e (after_enter rest st)) (model.enter_cell set st.parent st.cell w)
-      (machine.enter_cell set (ports set e room) st.cell (records_of set.axes w st.cell) (image_of set e st.parent w t)) t'
+      (machine.enter_cell set (streams set e room) st.cell (records_of set.axes w st.cell) (image_of set e st.parent w t)) t'
   entered_steps room =
       let found = cell_found set e walked is st w t h stage in
       let walked_kind : is_hanging kind ≡ false = is_walked (is_hanging kind) (sym (is.foresees.walks st.parent) ∙ stage.walked) in
       let come = comes room kind walked_kind (is.foresees.reads_cell st.cell stage.deep ∙ ap (λ p. was_stored (e.foresight.below p)) stage.above) in
       let m' : Machine = record (image_of set e st.parent w t) { cells = map_holdings (cell_at w) took.0 } in
       subst (λ (c : Course Working). Alike room (own_in_hand set e (after_enter rest st)) (Holds set e (after_enter rest st)) c
-      (machine.enter_cell set (ports set e room) st.cell (records_of set.axes w st.cell) (image_of set e st.parent w t)) t')
+      (machine.enter_cell set (streams set e room) st.cell (records_of set.axes w st.cell) (image_of set e st.parent w t)) t')
       (ap (λ k. course_map (λ it. after_cell set st.parent st.cell it w) (enter_touch set k (cell_at w st.cell) st.cell (records_of set.axes w st.cell) (family_of set.axes w st.parent))) (sym found.by_map))
       (record {
         same = matches-same room (λ u. own_in_hand set e (after_enter rest st) u t')
             (course_map (λ it. after_cell set st.parent st.cell it w) core)
             (course_map (λ it. (it.0, record m' { family = it.1 })) core)
-            (machine.enter_cell set (ports set e room) st.cell (records_of set.axes w st.cell) (image_of set e st.parent w t))
+            (machine.enter_cell set (streams set e room) st.cell (records_of set.axes w st.cell) (image_of set e st.parent w t))
             (sym (
-            ap (λ k. and_then (cell_comes set (ports set e room) k (image_of set e st.parent w t)) (λ c. course_map (λ it. (it.0, record c.1 { family = it.1 })) (enter_touch set k c.0 st.cell (records_of set.axes w st.cell) c.1.family))) found.by_hand
+            ap (λ k. and_then (cell_comes set (streams set e room) k (image_of set e st.parent w t)) (λ c. course_map (λ it. (it.0, record c.1 { family = it.1 })) (enter_touch set k c.0 st.cell (records_of set.axes w st.cell) c.1.family))) found.by_hand
             ∙ ap (λ course. and_then course (λ c. course_map (λ it. (it.0, record c.1 { family = it.1 })) (enter_touch set kind c.0 st.cell (records_of set.axes w st.cell) c.1.family))) come.comes
             ∙ ap (course_map (λ it. (it.0, record m' { family = it.1 }))) (come.same (records_of set.axes w st.cell) (family_of set.axes w st.parent))
             ))
@@ -343,12 +343,12 @@ module _ {Plan : Type 0} (set : Setting Plan) (e : Outset) (walked : Place → B
       is_walked false q = refl
 
 -- all corners in hand are those from the first on
-pub all_records : {Plan : Type 0} (set : Setting Plan) (e : Outset) (w : Working) (cell : Place) (from : ℕ) → from ≡ 0 → records_of set.axes w cell ≡ records_from set e w cell from (2 ^ set.axes - from)
+pub all_records : {Plan : Type 0} (set : Setting Plan) (e : ForeseenStart) (w : Working) (cell : Place) (from : ℕ) → from ≡ 0 → records_of set.axes w cell ≡ records_from set e w cell from (2 ^ set.axes - from)
 all_records set e w cell from all =
     ap (records_from set e w cell 0) (let whole : 2 ^ set.axes ≡ 2 ^ set.axes - 0 = omega arith in whole) ∙ ap (λ n. records_from set e w cell n (2 ^ set.axes - n)) (sym all)
 
-pub enter_leaf : {Plan : Type 0} (set : Setting Plan) (e : Outset) (walked : Place → Bool) (room : Push → Type 0) → IsOutset set e walked → EnterLeaf set e room
+pub enter_leaf : {Plan : Type 0} (set : Setting Plan) (e : ForeseenStart) (walked : Place → Bool) (room : Push → Type 0) → IsForeseenStart set e walked → EnterLeaf set e room
 enter_leaf set e walked room is st rest stage all next owed counted w t t' h runs =
     subst (λ records. Alike room (own_in_hand set e (after_enter rest st)) (Holds set e (after_enter rest st)) (model.enter_cell set st.parent st.cell w)
-    (machine.enter_cell set (ports set e room) st.cell records (image_of set e st.parent w t)) t') (all_records set e w st.cell st.from all)
+    (machine.enter_cell set (streams set e room) st.cell records (image_of set e st.parent w t)) t') (all_records set e w st.cell st.from all)
     (entered_steps set e walked is st rest stage all next owed counted w t t' h runs room)

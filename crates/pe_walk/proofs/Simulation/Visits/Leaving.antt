@@ -34,8 +34,8 @@ use Rattle.pe_walk.specs.CoreKeeps.{AreAlike, KeepsParents}
 use Rattle.pe_order.specs.CellsAhead.{CellsAhead}
 use Rattle.pe_order.specs.Apart.{lies}
 use Rattle.pe_order.specs.Frames.{AfterLeave}
-use Rattle.pe_walk.specs.Gridded.{ports_of}
-use Rattle.pe_walk.specs.Standing.{Outset, Stage, Stands, Fair, Owes, Holds, HasRoom, IsOutset, IsStage, times}
+use Rattle.pe_walk.specs.Gridded.{stream_stacks_of}
+use Rattle.pe_walk.specs.Standing.{ForeseenStart, Stage, Stands, Fair, Owes, Holds, HasRoom, IsForeseenStart, IsStage, times}
 use Rattle.pe_order.proofs.Tokens.CellsAhead.{steps_keep_ahead}
 use Rattle.pe_order.proofs.Tokens.MoveFrames as frames
 use Rattle.pe_order.proofs.Tokens.DepotCounts.{Gave, put_counts}
@@ -44,7 +44,7 @@ use Rattle.pe_walk.proofs.Simulation.Silent.{leave-silent}
 use Rattle.pe_walk.proofs.Simulation.CoreLaws.{core_keeps}
 use Rattle.pe_walk.proofs.Simulation.Below.{cell_found}
 use Rattle.pe_walk.proofs.Simulation.Shared.{give_up-image, push-image, cells-image, owes-more}
-use Rattle.pe_walk.proofs.Simulation.Leaves.{image_of, in_hand, record_of, records_from, ports, after_leave, LeaveLeaf}
+use Rattle.pe_walk.proofs.Simulation.Leaves.{image_of, in_hand, record_of, records_from, streams, after_leave, LeaveLeaf}
 use Rattle.pe_walk.proofs.Simulation.Levels.{levels_differ}
 use Rattle.pe_walk.proofs.Simulation.Visits.Records.{Visited, visited, fair_visited, vertices_visited, stage_levels}
 use Rattle.pe_walk.proofs.Simulation.Visits.Entering.{times-here, times-there, all_records}
@@ -86,7 +86,7 @@ left_at cell Hanging cells x = stays (is_same cell x)
     stays true = refl
     stays false = refl
 
-module _ {Plan : Type 0} (set : Setting Plan) (e : Outset) (walked : Place → Bool) (is : IsOutset set e walked) (st : Stage) (outer : List Place) (stage : IsStage set.axes e.outlook st)
+module _ {Plan : Type 0} (set : Setting Plan) (e : ForeseenStart) (walked : Place → Bool) (is : IsForeseenStart set e walked) (st : Stage) (outer : List Place) (stage : IsStage set.axes e.outlook st)
     (all : st.from ≡ 0) (opened : st.entered ≡ st.cell ∷ outer) (owed : 1 ≤ st.owed) (w : Working) (t t' : Tokens) (h : Holds set e st w t) (runs : tokens.leave e.outlook st.cell t ≡ Some t') where
   abbrev kind : Kind
   kind = e.foresight.below st.parent
@@ -319,7 +319,7 @@ module _ {Plan : Type 0} (set : Setting Plan) (e : Outset) (walked : Place → B
     -- the numbers of what is stored are pushed on the output
     push_on : (room : Push → Type 0) → HasRoom set e room → is_stored kind ≡ true
         → Matches room (λ u. in_hand set e (after_leave outer st) u t') (at_once after)
-        (course_map (λ m. (own.corners, m)) (course_map (λ cells. left_machine cells) (push true (counted.cell_output (ports set e room)) own.cell (map_holdings (cell_at w) t.cells))))
+        (course_map (λ m. (own.corners, m)) (course_map (λ cells. left_machine cells) (push true (counted.cell_output (streams set e room)) own.cell (map_holdings (cell_at w) t.cells))))
     push_on room has stored =
         matches-same room (λ u. in_hand set e (after_leave outer st) u t') (at_once after)
         (record { text = []; log = record { of_cell = true; stack = (cell_output_stack e.outlook.swapped); length = len_at t.cells (cell_output_stack e.outlook.swapped) + 1 } ∷ []; ending = done (own.corners, left_machine (map_holdings (cell_at after) (pushed t.cells (cell_output_stack e.outlook.swapped) st.cell))) }) _
@@ -330,7 +330,7 @@ module _ {Plan : Type 0} (set : Setting Plan) (e : Outset) (walked : Place → B
         ))
         (record { text = refl; ending = ap done (ap (λ p. (own.corners, left_machine (map_holdings (cell_at after) p))) pushed_places ∙ image_after); log = (roomy, tt) })
       where
-        outputs : (b : Bool) → 1 - (ports_of b).cell_input ≡ cell_output_stack b
+        outputs : (b : Bool) → 1 - (stream_stacks_of b).cell_input ≡ cell_output_stack b
         outputs true = refl
         outputs false = refl
 
@@ -374,7 +374,7 @@ module _ {Plan : Type 0} (set : Setting Plan) (e : Outset) (walked : Place → B
 
     -- the machine puts the numbers on the output, or gives them up
     goes : (room : Push → Type 0) → HasRoom set e room → (k : Kind) → kind ≡ k
-        → Matches room (λ u. in_hand set e (after_leave outer st) u t') (at_once after) (course_map (λ m. (own.corners, m)) (cell_goes set (ports set e room) k own.cell (record (image_of set e st.parent w t) { family = it })))
+        → Matches room (λ u. in_hand set e (after_leave outer st) u t') (at_once after) (course_map (λ m. (own.corners, m)) (cell_goes set (streams set e room) k own.cell (record (image_of set e st.parent w t) { family = it })))
     goes room has Hanging q = absurd (true≢false (sym (ap is_hanging q) ∙ walked_kind))
     goes room has Dying q =
         matches-same room (λ u. in_hand set e (after_leave outer st) u t') (at_once after) (at_once (own.corners, left_machine (map_holdings (cell_at after) places))) _
@@ -401,29 +401,29 @@ module _ {Plan : Type 0} (set : Setting Plan) (e : Outset) (walked : Place → B
 
   pub left_steps : (room : Push → Type 0) → HasRoom set e room
       → Alike room (in_hand set e (after_leave outer st)) (Holds set e (after_leave outer st)) (model.leave_cell set st.parent st.cell w)
-      (machine.leave_cell set (ports set e room) st.cell (own_of set.axes w st.cell, image_of set e st.parent w t)) t'
+      (machine.leave_cell set (streams set e room) st.cell (own_of set.axes w st.cell, image_of set e st.parent w t)) t'
   left_steps room has =
       let finds = cell_found set e walked is st w t h stage in
       subst (λ (c : Course Working). Alike room (in_hand set e (after_leave outer st)) (Holds set e (after_leave outer st)) c
-      (machine.leave_cell set (ports set e room) st.cell (own_of set.axes w st.cell, image_of set e st.parent w t)) t')
+      (machine.leave_cell set (streams set e room) st.cell (own_of set.axes w st.cell, image_of set e st.parent w t)) t')
       (ap (λ k. course_map (λ it. put_left set k st.cell (after_cell set st.parent st.cell it w)) (leave_touch set k st.cell (own_of set.axes w st.cell) (family_of set.axes w st.parent))) (sym finds.by_map))
       (record {
         same = matches-same room (λ u. in_hand set e (after_leave outer st) u t')
             (course_map (λ it. put_left set kind st.cell (after_cell set st.parent st.cell it w)) core)
-            (and_then core (λ r. course_map (λ m. (r.0.corners, m)) (cell_goes set (ports set e room) kind r.0.cell (record (image_of set e st.parent w t) { family = r.1 }))))
-            (machine.leave_cell set (ports set e room) st.cell (own_of set.axes w st.cell, image_of set e st.parent w t))
+            (and_then core (λ r. course_map (λ m. (r.0.corners, m)) (cell_goes set (streams set e room) kind r.0.cell (record (image_of set e st.parent w t) { family = r.1 }))))
+            (machine.leave_cell set (streams set e room) st.cell (own_of set.axes w st.cell, image_of set e st.parent w t))
             (ap (λ k. and_then (leave_touch set k st.cell (own_of set.axes w st.cell) (family_of set.axes w st.parent))
-            (λ r. course_map (λ m. (r.0.corners, m)) (cell_goes set (ports set e room) k r.0.cell (record (image_of set e st.parent w t) { family = r.1 })))) (sym finds.by_hand))
+            (λ r. course_map (λ m. (r.0.corners, m)) (cell_goes set (streams set e room) k r.0.cell (record (image_of set e st.parent w t) { family = r.1 })))) (sym finds.by_hand))
             (core-then-matches room (λ u. in_hand set e (after_leave outer st) u t') core (λ it. put_left set kind st.cell (after_cell set st.parent st.cell it w))
-            (λ r. course_map (λ m. (r.0.corners, m)) (cell_goes set (ports set e room) kind r.0.cell (record (image_of set e st.parent w t) { family = r.1 })))
+            (λ r. course_map (λ m. (r.0.corners, m)) (cell_goes set (streams set e room) kind r.0.cell (record (image_of set e st.parent w t) { family = r.1 })))
             (leave-silent set kind st.cell (own_of set.axes w st.cell) (family_of set.axes w st.parent))
             (λ r ends. let alike = alike_after r ends in
-            subst (λ u. Matches room (λ u. in_hand set e (after_leave outer st) u t') (at_once u) (course_map (λ m. (r.0.corners, m)) (cell_goes set (ports set e room) kind r.0.cell (record (image_of set e st.parent w t) { family = r.1 }))))
+            subst (λ u. Matches room (λ u. in_hand set e (after_leave outer st) u t') (at_once u) (course_map (λ m. (r.0.corners, m)) (cell_goes set (streams set e room) kind r.0.cell (record (image_of set e st.parent w t) { family = r.1 }))))
             (sym (put_left-is set st.cell kind (after_cell set st.parent st.cell r w)))
             (goes r.0 r.1 alike.0 alike.1 room has kind refl)));
         holds = λ u ends. let at = mapped-done core (λ it. put_left set kind st.cell (after_cell set st.parent st.cell it w)) u ends in let alike = alike_after at.0 at.1 in
             subst (λ x. Holds set e (after_leave outer st) x t') (sym (at.2 ∙ put_left-is set st.cell kind (after_cell set st.parent st.cell at.0 w))) (holds_left at.0.0 at.0.1 alike.0 alike.1);
       })
 
-pub leave_leaf : {Plan : Type 0} (set : Setting Plan) (e : Outset) (walked : Place → Bool) (room : Push → Type 0) → IsOutset set e walked → HasRoom set e room → LeaveLeaf set e room
+pub leave_leaf : {Plan : Type 0} (set : Setting Plan) (e : ForeseenStart) (walked : Place → Bool) (room : Push → Type 0) → IsForeseenStart set e walked → HasRoom set e room → LeaveLeaf set e room
 leave_leaf set e walked room is has st outer stage all opened owed w t t' h runs = left_steps set e walked is st outer stage all opened owed w t t' h runs room has

@@ -18,7 +18,7 @@ use Rattle.pe_stacks.specs.Holdings.{Holdings}
 use Rattle.pe_stacks.specs.Grid.{output_stack}
 use Rattle.pe_hang.specs.InHand.{map_holdings}
 use Rattle.pe_order.specs.Apart.{lies}
-use Rattle.pe_walk.specs.Standing.{Outset, Stage, IsStage, Holds, IsOutset, Fair, IsFair, IsWritten, IsIdle, times}
+use Rattle.pe_walk.specs.Standing.{ForeseenStart, Stage, IsStage, Holds, IsForeseenStart, Fair, IsFair, IsWritten, IsIdle, times}
 use Rattle.pe_order.proofs.Unwalked.{cell_four}
 use Rattle.pe_walk.proofs.Simulation.LoadedKinds.{parent_long}
 use Rattle.pe_walk.proofs.Simulation.Levels.{records_of-put_family, own_of-put_family}
@@ -27,7 +27,7 @@ use Rattle.pe_walk.proofs.Simulation.Leaves.{record_of}
 
 -- After it, cell and family are found as they were put; what is not held, other cells, hanging vertices, loads and the
 -- tally are as they were; and what is as foreseen, or hangs, stays so.
-pub record Visited {Plan : Type 0} (set : Setting Plan) (e : Outset) (st : Stage) (mine : Own) (it : Family) (w after : Working) (t : Tokens) : Type 0 where
+pub record Visited {Plan : Type 0} (set : Setting Plan) (e : ForeseenStart) (st : Stage) (mine : Own) (it : Family) (w after : Working) (t : Tokens) : Type 0 where
   pub own : own_of set.axes after st.cell ≡ mine
   pub family : family_of set.axes after st.parent ≡ it
   pub vertices : (q : Place) → t.held q ≡ 0 → at after.vertices q ≡ at w.vertices q
@@ -39,7 +39,7 @@ pub record Visited {Plan : Type 0} (set : Setting Plan) (e : Outset) (st : Stage
   pub idle_parents : (k : ℕ) → k < 2 ^ set.axes → IsIdle (record_at set.axes w st.parent k) → IsIdle (record_at set.axes after st.parent k)
   pub idle : (k : ℕ) → k < 2 ^ set.axes → IsIdle (record_at set.axes w st.cell k) → IsIdle (record_at set.axes after st.cell k)
 
-module _ {Plan : Type 0} (set : Setting Plan) (e : Outset) (walked : Place → Bool) (is : IsOutset set e walked) (st : Stage) (stage : IsStage set.axes e.outlook st) where
+module _ {Plan : Type 0} (set : Setting Plan) (e : ForeseenStart) (walked : Place → Bool) (is : IsForeseenStart set e walked) (st : Stage) (stage : IsStage set.axes e.outlook st) where
   pub stage_cell : IsCell set.axes (way set) st.cell
   stage_cell = subst (λ w. IsCell set.axes w st.cell) is.foresees.ways stage.cell
 

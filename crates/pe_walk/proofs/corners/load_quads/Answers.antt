@@ -1,5 +1,5 @@
 use Rattle.std.proofs.Common.{arith}
-use Rattle.pe_adapt.proofs.Errors.{err-is}
+use Rattle.pe_base.proofs.Calls.Errors.{err-is}
 use Rattle.pe_adapt.specs.TouchCalls.{hand_of}
 use Rattle.pe_walk.proofs.Going.{goes-then}
 use Rattle.pe_walk.proofs.CornerSteps.{corners-most, none-filled, loads-start, loads-end}

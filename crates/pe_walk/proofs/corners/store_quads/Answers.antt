@@ -1,6 +1,6 @@
 use Rattle.std.proofs.Common.{◌≡◌, arith}
 use Rattle.std.specs.Prelude.{OnOk}
-use Rattle.pe_adapt.proofs.Errors.{err-is}
+use Rattle.pe_base.proofs.Calls.Errors.{err-is}
 use Rattle.pe_walk.specs.Corners.{filled_in_corners}
 use Rattle.pe_walk.proofs.Going.{on-ok, goes-then}
 use Rattle.pe_walk.proofs.CornerSteps.{corners-most, stores-start, stores-end}

@@ -9,13 +9,13 @@ use Rattle.pe_adapt.specs.Ages.{AreAgesOf, GiveKinds}
 use Rattle.pe_adapt.specs.Stops.{failure_of, failure_of_halt}
 use Rattle.pe_walk.specs.Machine.{kind_among}
 use Rattle.pe_walk.specs.Machine as machine
-use Rattle.pe_walk.specs.Gridded.{ports_of}
+use Rattle.pe_walk.specs.Gridded.{stream_stacks_of}
 use Rattle.pe_adapt.specs.WalkedCells.{machine_in_hand}
 use Rattle.pe_walk.specs.Traversing.{Stores}
 use Rattle.pe_walk.proofs.AgeLaws.{length-seen}
 use Rattle.pe_walk.proofs.Simulation.Tallied.Alike.{is_seen, alike-sym}
 use Rattle.pe_walk.proofs.WalkedCells.{cell-fits, cell_answers, same-course}
-use Rattle.pe_walk.proofs.Simulation.CutOff.{beneath_stays}
+use Rattle.pe_walk.proofs.Simulation.CutCells.{beneath_stays}
 use Rattle.pe_walk.proofs.face.walk_cell.Goals as goal
 
 pub walk_cell-walked-requires-clause-kinds : goal.walk_cell-walked-requires-clause-kinds
@@ -76,7 +76,7 @@ returns-in-Ok-clause-answers g c moment can =
     (subst (λ course. Follows course (λ (done : Unit {0}). ends) (Ok (tt {0})) found told) same c.in-Ok.ensures.follows)
 
 pub returns-in-Ok-clause-beneath : goal.returns-in-Ok-clause-beneath
-returns-in-Ok-clause-beneath g c moment can s =
+returns-in-Ok-clause-beneath g c moment can =
     let numbers = g.M.Mapping.numbers in
     let held = g.M.Mapping.held c.args.m.now in
     let begins = machine_in_hand numbers (g.DV.Depot.holds c.args.dv.now) (cells_on_stacks numbers (g.DC.Depot.holds c.args.dc.now)) c.args.parents.now c.args.parent.now held.list c.args.tally.now in
@@ -87,9 +87,9 @@ returns-in-Ok-clause-beneath g c moment can s =
     let told = (g.M.Mapping.held c.walk_cell-walked.new.m).told in
     let same = same-course g.M.Effects.rules held c.args.setup.now c.settings_at-settings.result c.args.traversal c.args.input c.args.cell_input c.walked_cell-cell.result.place c.args.at.now begins moment
     c.settings_at-settings.ensures.setup c.settings_at-settings.ensures.traversal c.settings_at-settings.ensures.input c.settings_at-settings.ensures.cell_input c.walked_cell-cell.ensures.place can.here in
-    let follows : Follows (machine.walk_cell set (ports_of moment.outset.outlook.swapped) (suc moment.levels) moment.stage.cell begins) (λ (done : Unit {0}). ends) (Ok (tt {0})) found told =
+    let follows : Follows (machine.walk_cell set (stream_stacks_of moment.foreseen_start.outlook.swapped) (suc moment.levels) moment.stage.cell begins) (λ (done : Unit {0}). ends) (Ok (tt {0})) found told =
     subst (λ course. Follows course (λ (done : Unit {0}). ends) (Ok (tt {0})) found told) same c.in-Ok.ensures.follows in
-    beneath_stays set moment begins ends can.may follows.ends s
+    beneath_stays set moment begins ends can.may follows.ends
 
 pub returns-in-Err-clause-answers : goal.returns-in-Err-clause-answers
 returns-in-Err-clause-answers g c moment can =
@@ -107,5 +107,5 @@ returns-in-Err-clause-answers g c moment can =
     c.settings_at-settings.ensures.setup c.settings_at-settings.ensures.traversal c.settings_at-settings.ensures.input c.settings_at-settings.ensures.cell_input c.walked_cell-cell.ensures.place can.here in
     cell_answers set moment begins can.may found before told after ends (alike-sym (is_seen (record_of numbers.vertex) before.vertices)) (alike-sym (is_seen (seen_cell numbers.cell) before.cells))
     (alike-sym (is_seen (record_of numbers.vertex) after.vertices)) (alike-sym (is_seen (seen_cell numbers.cell) after.cells)) c.requires.few failure_of (Err c.of_halt.result)
-    (subst (λ failure. Follows {A = Unit {0}} (machine.walk_cell set (ports_of moment.outset.outlook.swapped) (suc moment.levels) moment.stage.cell begins) (λ done. ends) (Err failure) found told) (sym c.of_halt.ensures.failure)
+    (subst (λ failure. Follows {A = Unit {0}} (machine.walk_cell set (stream_stacks_of moment.foreseen_start.outlook.swapped) (suc moment.levels) moment.stage.cell begins) (λ done. ends) (Err failure) found told) (sym c.of_halt.ensures.failure)
     (subst (λ course. Follows {A = Unit {0}} course (λ done. ends) (Err (failure_of_halt c.walk_cell-walked.new.progress.at c.in-Err.halt)) found told) same c.in-Err.ensures.follows))

@@ -1,5 +1,5 @@
 use Rattle.pe_walk.proofs.Simulation.Beneath.{beneath_is_left}
-use Rattle.pe_walk.proofs.Simulation.CutOff.{beneath_stays}
+use Rattle.pe_walk.proofs.Simulation.CutCells.{beneath_stays}
 use Rattle.pe_walk.proofs.laws.beneath_is_left.Goals as goal
 
 pub returns-clause-left : goal.returns-clause-left

@@ -1,5 +1,5 @@
 use Rattle.std.proofs.Common.{arith}
-use Rattle.pe_adapt.proofs.Errors.{err-is}
+use Rattle.pe_base.proofs.Calls.Errors.{err-is}
 use Rattle.pe_walk.proofs.Going.{goes-nowhere, goes-then}
 use Rattle.pe_walk.proofs.CornerSteps.{quad_beyond}
 use Rattle.pe_walk.proofs.quad.load_quad.Goals as goal

@@ -10,7 +10,7 @@ use Rattle.pe_stacks.specs.RecordsOut.{held_by}
 use Rattle.pe_base.proofs.Calls.Leading.{leads_start, leads_rest, leads_want, leads_found}
 use Rattle.pe_hang.proofs.Staying.{roomier-held, keeps-same, keeps-then}
 use Rattle.pe_hang.proofs.Moving.{lend-may}
-use Rattle.pe_adapt.specs.WalkedCells.{setting_in, ports_of}
+use Rattle.pe_adapt.specs.WalkedCells.{setting_in, stream_stacks_of}
 use Rattle.pe_walk.proofs.RootCorners.{at_root, roots, roots-may, roots-step, roots-end}
 use Rattle.pe_walk.proofs.root.lend_corners.Goals as goal
 
@@ -29,10 +29,10 @@ loop-done-init g c =
       count = c.corners-count.ensures.value;
       full = subst (λ n. FullFrom s.setup.dim n c.args.corners.now) all (full_start s.setup.dim c.args.corners.now c.requires.empty);
       leads = λ rest cells.
-          let whole = roots numbers set (ports_of s) rest (2 ^ before.dim) [] vertices before.list in
+          let whole = roots numbers set (stream_stacks_of s) rest (2 ^ before.dim) [] vertices before.list in
           let found = found_of before (held_by vertices room) cells in
-          subst (λ its. Leads whole found found (roots numbers set (ports_of s) rest (2 ^ before.dim - 0) its vertices before.list)) (sym none)
-          (subst (λ n. Leads whole found found (roots numbers set (ports_of s) rest n [] vertices before.list)) all_of (leads_start whole found));
+          subst (λ its. Leads whole found found (roots numbers set (stream_stacks_of s) rest (2 ^ before.dim - 0) its vertices before.list)) (sym none)
+          (subst (λ n. Leads whole found found (roots numbers set (stream_stacks_of s) rest n [] vertices before.list)) all_of (leads_start whole found));
       left = record { count = refl; keeps = λ n. omega arith; out = omega arith };
       keeps = keeps-same before;
     }
@@ -54,7 +54,7 @@ lend-requires g c =
     let more : n ≡ suc k = omega (arith, dims, c.corners-count.ensures.value, c.loop-done-test.true) in
     record {
       count = lend-may (record_of numbers) vertices
-          (roots-may numbers set (ports_of s) rest n k its vertices now.list more (leads_rest (roots numbers set (ports_of s) rest n its vertices now.list) (is.leads rest (λ j. 0)) c.requires.fits.1));
+          (roots-may numbers set (stream_stacks_of s) rest n k its vertices now.list more (leads_rest (roots numbers set (stream_stacks_of s) rest n its vertices now.list) (is.leads rest (λ j. 0)) c.requires.fits.1));
     }
 
 pub loop-done-preserved : goal.loop-done-preserved
@@ -82,16 +82,16 @@ loop-done-preserved g c =
     let made = c.lend.ensures.handed ∙ c.new-vertex.ensures in
     let rules = g.M.Effects.rules in
     let first = c.requires.fits.0 in
-    let fits = roots-may numbers set (ports_of s) first n n' its vertices now.list more (leads_rest (roots numbers set (ports_of s) first n its vertices now.list) (is.leads first (λ j. 0)) c.requires.fits.1) in
+    let fits = roots-may numbers set (stream_stacks_of s) first n n' its vertices now.list more (leads_rest (roots numbers set (stream_stacks_of s) first n its vertices now.list) (is.leads first (λ j. 0)) c.requires.fits.1) in
     record {
       count = c.corners-count.ensures.value;
       full = subst (λ j. FullFrom axes j c.put.new.self) next (full_put axes k c.lend.result c.loop-done.corners c.put.new.self c.put.ensures full);
       leads = λ rest cells.
-          let whole = roots numbers set (ports_of s) rest (2 ^ before.dim) [] (g.DV.Depot.holds c.args.dv.now) before.list in
+          let whole = roots numbers set (stream_stacks_of s) rest (2 ^ before.dim) [] (g.DV.Depot.holds c.args.dv.now) before.list in
           let lead = is.leads rest cells in
           subst (λ its'. Leads whole (found_of before (held_by (g.DV.Depot.holds c.args.dv.now) (g.DV.Depot.room c.args.dv.now)) cells) (found_of new (held_by vertices' (g.DV.Depot.room c.lend.new.self)) cells)
-          (roots numbers set (ports_of s) rest n' its' vertices' new.list)) (sym seen)
-          (roots-step numbers set (ports_of s) rest whole (found_of before (held_by (g.DV.Depot.holds c.args.dv.now) (g.DV.Depot.room c.args.dv.now)) cells)
+          (roots numbers set (stream_stacks_of s) rest n' its' vertices' new.list)) (sym seen)
+          (roots-step numbers set (stream_stacks_of s) rest whole (found_of before (held_by (g.DV.Depot.holds c.args.dv.now) (g.DV.Depot.room c.args.dv.now)) cells)
           (found_of now (held_by vertices (g.DV.Depot.room c.loop-done.dv)) cells) n n' its vertices vertices' now.list new.list c.lend.result (found_of new (held_by vertices' (g.DV.Depot.room c.lend.new.self)) cells)
           more lead fits c.lend.ensures.holds
           (ap (λ (v : AVertex g.row.M-V.Denot). numbers v.payload) made ∙ c.in-Ok.ensures.answer.payload ∙ ap (λ plan. (rules.fresh_vertex plan now.list).numbers) is.keeps.plan)
@@ -116,8 +116,8 @@ returns-in-Err-clause-follows g c = λ rest cells.
     let s = c.args.settings.now in
     let set = setting_in g.M.Effects.rules before s in
     let vertices = held_by (g.DV.Depot.holds c.loop-done.dv) (g.DV.Depot.room c.loop-done.dv) in
-    let left = roots numbers set (ports_of s) rest (2 ^ before.dim - c.loop-done.done) (corner_records numbers c.loop-done.corners) (g.DV.Depot.holds c.loop-done.dv) now.list in
-    leads_want left (λ (u : Unit {0}). (corner_records numbers c.loop-done.corners, at_root numbers set (ports_of s) rest (g.DV.Depot.holds c.loop-done.dv) now.list))
+    let left = roots numbers set (stream_stacks_of s) rest (2 ^ before.dim - c.loop-done.done) (corner_records numbers c.loop-done.corners) (g.DV.Depot.holds c.loop-done.dv) now.list in
+    leads_want left (λ (u : Unit {0}). (corner_records numbers c.loop-done.corners, at_root numbers set (stream_stacks_of s) rest (g.DV.Depot.holds c.loop-done.dv) now.list))
     (leads_found left (found_of new vertices cells) (c.loop-done.invariant.leads rest cells) (sym c.in-Err.ensures.told) (roomier-held now new vertices cells c.in-Err.ensures.keeps))
     (c.in-Err.ensures.keeps.sure ∙ c.in-Err.ensures.answer)
 
@@ -131,7 +131,7 @@ returns-clause-follows g c = λ rest cells.
     let dims = ap (λ d. 2 ^ d) c.requires.dim in
     let n = 2 ^ before.dim - c.loop-done.done in
     let none : n ≡ 0 = omega (arith, dims, c.corners-count.ensures.value, c.loop-done-test.false, c.loop-done.auto.done-end) in
-    roots-end numbers set (ports_of s) rest (roots numbers set (ports_of s) rest (2 ^ before.dim) [] (g.DV.Depot.holds c.args.dv.now) before.list)
+    roots-end numbers set (stream_stacks_of s) rest (roots numbers set (stream_stacks_of s) rest (2 ^ before.dim) [] (g.DV.Depot.holds c.args.dv.now) before.list)
     (found_of before (held_by (g.DV.Depot.holds c.args.dv.now) (g.DV.Depot.room c.args.dv.now)) cells) (found_of now (held_by (g.DV.Depot.holds c.loop-done.dv) (g.DV.Depot.room c.loop-done.dv)) cells)
     n (corner_records numbers c.loop-done.corners) (g.DV.Depot.holds c.loop-done.dv) now.list none (c.loop-done.invariant.leads rest cells)
 

@@ -6,7 +6,7 @@ use Rattle.pe_mapping.specs.Held.{found_of}
 use Rattle.pe_stacks.specs.RecordsOut.{held_by}
 use Rattle.pe_adapt.specs.Stops.{failure_of}
 use Rattle.pe_walk.specs.Machine.{traverse}
-use Rattle.pe_walk.specs.Gridded.{ports_of}
+use Rattle.pe_walk.specs.Gridded.{stream_stacks_of}
 use Rattle.pe_walk.specs.InHand.{machine_between}
 use Rattle.pe_walk.specs.Traversing.{Stores}
 use Rattle.pe_walk.proofs.Simulation.Answers.{stacks_are_addresses}
@@ -23,8 +23,8 @@ traverse_stacks-requires-clause-fits g c =
     let turns = may_turn g.M.Mapping.numbers g.M.Effects.rules (g.M.Mapping.held c.args.m.now) c.args.setup.now.start_level c.args.setup.now.max_cells c.args.setup.now.max_level
     (record { vertices = g.DV.Depot.holds c.args.dv.now; cells = g.DC.Depot.holds c.args.dc.now }) c.args.grid walked g.M.Effects.lawful (c.requires.dim ∙ sym c.requires.axes) c.requires.greatest c.args.setup.now.levels c.args.setup.now.limit
     c.requires.counts c.requires.cell_counts may in
-    subst (λ levels. Fits (traverse set (ports_of c.args.grid.swapped) levels begins)) may.greatest
-    (fits_of set walked c.args.grid.swapped (traverse set (ports_of c.args.grid.swapped) walked.greatest begins) (stacks_are_addresses set walked c.args.grid.swapped begins turns))
+    subst (λ levels. Fits (traverse set (stream_stacks_of c.args.grid.swapped) levels begins)) may.greatest
+    (fits_of set walked c.args.grid.swapped (traverse set (stream_stacks_of c.args.grid.swapped) walked.greatest begins) (stacks_are_addresses set walked c.args.grid.swapped begins turns))
 
 pub returns-clause-answers : goal.returns-clause-answers
 returns-clause-answers g c walked may =
@@ -36,7 +36,7 @@ returns-clause-answers g c walked may =
     let turns = may_turn g.M.Mapping.numbers g.M.Effects.rules (g.M.Mapping.held c.args.m.now) c.args.setup.now.start_level c.args.setup.now.max_cells c.args.setup.now.max_level
     before c.args.grid walked g.M.Effects.lawful (c.requires.dim ∙ sym c.requires.axes) c.requires.greatest c.args.setup.now.levels c.args.setup.now.limit c.requires.counts c.requires.cell_counts may in
     answers g.M.Mapping.numbers set walked c.args.grid before (g.M.Mapping.held c.args.m.now).list turns found (g.M.Mapping.held c.traverse_stacks.new.m) after may.holds.axes may.holds.finished failure_of c.traverse_stacks.result c.traverse_stacks.ensures.advanced
-    (subst (λ levels. Follows (traverse set (ports_of c.args.grid.swapped) levels begins)
+    (subst (λ levels. Follows (traverse set (stream_stacks_of c.args.grid.swapped) levels begins)
     (λ answer. machine_between g.M.Mapping.numbers (g.DV.Depot.holds c.traverse_stacks.new.dv) (g.DC.Depot.holds c.traverse_stacks.new.dc) answer.0.root (g.M.Mapping.held c.traverse_stacks.new.m).list answer.1)
     (read_by failure_of c.traverse_stacks.result) found (g.M.Mapping.held c.traverse_stacks.new.m).told) (sym may.greatest) c.traverse_stacks.ensures.follows)
 

@@ -17,7 +17,7 @@ use Rattle.pe_base.proofs.Lists.{Each-weaker, Each-append, Each-map, Each-flat_m
 use Rattle.pe_base.proofs.Tree.PlaceLaws.{length-finer, finer-zeros}
 use Rattle.pe_base.proofs.Tree.Mirrors.{Digits3, digit_lists_below, mirrored_same, turned_below}
 use Rattle.pe_base.proofs.Tree.Children.{flips_in, length-flips, child_of, children_are, length-digits}
-use Rattle.pe_base.proofs.Steps.Spans.{Spot, fits_all}
+use Rattle.pe_base.proofs.Steps.AroundInCell.{Spot, fits_all}
 use Rattle.pe_base.proofs.Steps.Levels.{kids, cells, holders}
 
 -- flips that turn each axis as the position and a number of turns do
