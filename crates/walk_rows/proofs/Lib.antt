@@ -6,3 +6,5 @@ pub mod Computed
 pub mod InTurn
 -- depots that are new
 pub mod NewDepots
+-- the children of a cell by their digits
+pub mod ChildDigits

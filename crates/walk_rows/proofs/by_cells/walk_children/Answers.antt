@@ -7,8 +7,8 @@ use Rattle.pe_hang.specs.InHand.{setting_of, cells_on_stacks}
 use Rattle.pe_hang.proofs.Staying.{keeps-same, keeps-then}
 use Rattle.pe_adapt.specs.WalkedCells.{machine_in_hand}
 use Rattle.pe_order.specs.CellTraffic.{CountsAreFew}
-use Rattle.pe_walk.proofs.ChildWalks.{all-children, all-tail}
 use Rattle.walk_rows.specs.ByCells.{MayWalkInTurn}
+use Rattle.walk_rows.proofs.ChildDigits.{all-children, all-tail}
 use Rattle.walk_rows.proofs.InTurn.{root-place, came-through}
 use Rattle.walk_rows.proofs.by_cells.walk_children.Goals as goal
 
