@@ -1,0 +1,6 @@
+-- The tour that counts.
+
+-- it has levels enough
+mod Fitting
+-- levels of children
+mod ChildLevels

@@ -1,0 +1,9 @@
+-- The root has levels enough below it.
+use Rattle.std.proofs.Common.{arith}
+use Rattle.pe_tour.specs.Sights.{between_of}
+use Rattle.tour_rows.proofs.Fitting.{children-fit}
+use Rattle.tour_rows.proofs.rows.walk_below.Goals as goal
+
+pub walk_children-requires-clause-fits : goal.walk_children-requires-clause-fits
+walk_children-requires-clause-fits g c =
+    children-fit c.args.tour.now.settings c.args.levels c.root_of-over.result.place (between_of c.args.tour.now tt c.args.levels) c.requires.some (omega arith)

@@ -1,0 +1,6 @@
+-- The tour that counts.
+
+-- courses that give a value
+pub mod Giving
+-- the tour as its calls see it
+pub mod Counting
