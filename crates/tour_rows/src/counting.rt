@@ -20,8 +20,7 @@ pub struct Counting {
     pub trail: u64,
 }
 
-/// Why the tour fails: it never does.
-#[derive(Clone, Copy, Debug, PartialEq, Eq)]
+/// Why the tour fails: it never does. No value is of this type.
 pub enum Never {}
 
 // A trail that a number is added to.
