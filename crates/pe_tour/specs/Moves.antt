@@ -1,5 +1,5 @@
 -- What the calls of a walk ask, and what they do.
-use Rattle.std.specs.Prelude.{◌≡◌, ℕ, ◌^◌, true, false, Result, Ok, Err, is_err}
+use Rattle.std.specs.Prelude.{◌≡◌, ℕ, suc, ◌-◌, ◌^◌, true, false, Result, Ok, Err, is_err}
 use Rattle.pe_base.specs.declared.place.Place.{Place}
 use Rattle.pe_base.specs.Walk.Steps.{loads, stores}
 use Rattle.pe_tour.specs.declared.settings.TourSettings.{TourSettings}
@@ -8,6 +8,10 @@ use Rattle.pe_tour.specs.Cells.{IsAt, IsAgedBy}
 use Rattle.pe_tour.specs.Going.{Goes, GoesOn, Rests, answer_by}
 use Rattle.pe_tour.specs.Sights.{Between, Amid, Open, Stage, loading, storing, failed, stage_after, around_amid, around_open}
 use Rattle.pe_tour.specs.Walker.{Walker}
+
+-- the number four behind a corner's
+abbrev pub four_on : ℕ → ℕ
+four_on k = suc (suc (suc (suc k)))
 
 module _ {S H R E : Type 0} (w : Walker S H R E) where
   -- what a walk goes by
@@ -57,6 +61,10 @@ module _ {S H R E : Type 0} (w : Walker S H R E) where
 
   abbrev pub stores_of : Place → ℕ → ℕ → w.Plan → w.Inner → w.courses.Course w.Inner
   stores_of place k n plan = stores (w.steps plan) place k n
+
+  -- the stores of all corners from a number on
+  abbrev pub stores_from : Place → ℕ → S → w.Plan → w.Inner → w.courses.Course w.Inner
+  stores_from place k tour = stores_of place k (2 ^ (settings_of tour).dim - k)
 
   -- # While its record is in hand
   abbrev pub MayMove : {X : Type 0} → CellAt → (w.Plan → w.Opened → w.courses.Course X) → Open S H R → Type 0

@@ -1,5 +1,11 @@
+ghost use Rattle.std.specs.Prelude.{◌≡◌, ℕ};
+ghost use Rattle.pe_base.specs.Tree.Dim.{IsDim};
+ghost use Rattle.pe_base.specs.Tree.Places.{root};
+ghost use Rattle.pe_access.specs.States.{axes_of};
+ghost use Rattle.pe_tour.specs.Cells.{IsMadeOf, IsOver};
+
 use pe_access::{CellState, Row};
-use pe_base::{Kind, Place};
+use pe_base::{Digits, Dim, Kind, Place, Way};
 use pe_curve::Step;
 use pe_states::Ages;
 
@@ -18,4 +24,42 @@ pub struct CellAt {
     pub ages: Ages,
     /// Its kind, by the corners of the cell above it.
     pub kind: Kind,
+}
+
+impl CellAt {
+    /// The root, whose children a traversal walks. Of it only the place and the state are asked for.
+    pub fn root(dim: Dim, way: Way) -> CellAt
+        ensures over { (traversal : ℕ) → IsOver (record { dim = dim; way = way; traversal = traversal }) result }
+        ensures place { result.place ≡ root }
+    {
+        CellAt {
+            place: Place {
+                level: 0,
+                pos: [0; 4],
+            },
+            step: Step::first(dim, way, 0),
+            state: CellState::root(dim, way),
+            row: Row::empty(),
+            ages: Ages::new(0, 0),
+            kind: Kind::Kept,
+        }
+    }
+
+    /// A cell by itself: of its step only the digits are asked for.
+    pub fn alone(place: Place, digits: Digits, state: CellState, ages: Ages, kind: Kind) -> CellAt
+        requires { IsDim (axes_of state) }
+        ensures { IsMadeOf place digits state ages kind result }
+    {
+        CellAt {
+            place,
+            step: Step {
+                digits,
+                ups: [false; 4],
+            },
+            state,
+            row: state.row(),
+            ages,
+            kind,
+        }
+    }
 }

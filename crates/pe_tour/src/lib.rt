@@ -5,6 +5,7 @@
 //! corners come, and what is known of a child by the cell above it. Nothing here takes memory.
 #![tactic(auto)]
 
+mod axes;
 mod cell;
 mod child;
 mod corners;
@@ -12,7 +13,7 @@ mod recursion;
 mod settings;
 mod tour;
 
+pub use axes::{walk_cell, walk_children};
 pub use cell::CellAt;
-pub use recursion::{walk_cell, walk_children};
 pub use settings::TourSettings;
 pub use tour::Tour;

@@ -15,7 +15,7 @@ use pe_states::Ages;
 /// Walks a cell with all below it, of so many levels: it is counted, its corners are loaded, it is visited, and its corners
 /// are stored. Whatever the answer, nothing is in hand afterwards.
 #[cycle(cells)]
-pub fn walk_cell<const AXES: u8, T: Tour>(
+pub(crate) fn walk_cell<const AXES: u8, T: Tour>(
     tour: &mut T,
     at: &CellAt,
     levels: u8,
@@ -121,7 +121,7 @@ fn walk_below<const AXES: u8, T: Tour>(
 
 /// Walks the children of a cell, each with all below it. Their corners are loaded into a hand of their own.
 #[cycle(cells)]
-pub fn walk_children<const AXES: u8, T: Tour>(
+pub(crate) fn walk_children<const AXES: u8, T: Tour>(
     tour: &mut T,
     over: &CellAt,
     ages: Ages,

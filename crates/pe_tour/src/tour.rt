@@ -1,13 +1,13 @@
-ghost use Rattle.std.specs.Prelude.{◌≡◌, ℕ, suc, ◌<◌, ◌^◌, false, true, is_some, Ok, IfSome};
+ghost use Rattle.std.specs.Prelude.{◌≡◌, ℕ, ◌≤◌, ◌^◌, false, true, is_some, Ok, IfSome};
 ghost use Rattle.pe_base.specs.declared.kind.Kind.TheVariants.{Born};
 ghost use Rattle.pe_tour.specs.Sights.{Between, Amid, Open, loading, storing, failed, between_of, amid_of, open_of};
 ghost use Rattle.pe_tour.specs.Walker.{Walker, IsLawful};
-ghost use Rattle.pe_tour.specs.Moves.{plan_of, settings_of, MayWalk, MayTouch, MayMove, Counts, Touches, Moves, Comes, GoesOff, GivesUp};
+ghost use Rattle.pe_tour.specs.Moves.{plan_of, settings_of, MayWalk, MayTouch, MayMove, Counts, TouchesOn, Moves, Comes, GoesOff, GivesUp, four_on, loads_of, stores_from};
 
 use crate::{CellAt, TourSettings};
 use pe_states::Ages;
 
-/// A walk over the cells of a grid: what is done where a cell is counted, a corner loaded or stored, a cell entered and left.
+/// A walk over the cells of a grid: what is done where a cell is counted, its corners are loaded and stored, and it is entered and left.
 ///
 /// A `Hand` has the corners of a cell, a `Record` is a cell's own. The cell that is walked has both, and so has the cell
 /// above it, its parent.
@@ -52,8 +52,8 @@ pub trait Tour {
         ensures { Counts walk (λ plan. (walk.steps plan).count at.now.place) result
             (between_of self.old above.now parent.now) (amid_of self.new own.now above.now parent.now) };
 
-    /// Loads a corner. All behind it are loaded, and none before it is.
-    fn load(
+    /// Loads four corners, from `k + 3` down to `k`. All behind them are loaded, and none before them is.
+    fn load_four(
         &mut self,
         at: &CellAt,
         k: u8,
@@ -61,9 +61,9 @@ pub trait Tour {
         above: &mut Self::Hand,
         parent: &mut Self::Record,
     ) -> Result<(), Self::Stop>
-        requires may { MayTouch walk at.now (loading (suc k)) (λ plan. (walk.steps plan).load at.now.place k) (amid_of self.old own.old above.old parent.old) }
-        requires corner { k < 2 ^ (settings_of walk self.old).dim }
-        ensures { Touches walk (λ plan. (walk.steps plan).load at.now.place k) (loading (suc k)) (loading k) result
+        requires may { MayTouch walk at.now (loading (four_on k)) (loads_of walk at.now.place (four_on k)) (amid_of self.old own.old above.old parent.old) }
+        requires corners { four_on k ≤ 2 ^ (settings_of walk self.old).dim }
+        ensures { TouchesOn walk (loads_of walk at.now.place (four_on k)) (loads_of walk at.now.place k) (loading (four_on k)) (loading k) result
             (amid_of self.old own.old above.old parent.old) (amid_of self.new own.new above.new parent.new) };
 
     /// Makes the record of a cell that is born. All its corners are loaded.
@@ -134,8 +134,8 @@ pub trait Tour {
         requires may { MayMove walk at.now (λ plan. (walk.steps plan).goes at.now.place) (open_of self.old own.now its above.now parent.now) }
         ensures { GoesOff walk (λ plan. (walk.steps plan).goes at.now.place) result (open_of self.old own.now its above.now parent.now) self.new };
 
-    /// Stores a corner. All before it are stored, and none behind it is.
-    fn store(
+    /// Stores four corners, from `k` up to `k + 3`. All before them are stored, and none behind them is.
+    fn store_four(
         &mut self,
         at: &CellAt,
         k: u8,
@@ -143,9 +143,9 @@ pub trait Tour {
         above: &mut Self::Hand,
         parent: &mut Self::Record,
     ) -> Result<(), Self::Stop>
-        requires may { MayTouch walk at.now (storing k) (λ plan. (walk.steps plan).store at.now.place k) (amid_of self.old own.old above.old parent.old) }
-        requires corner { k < 2 ^ (settings_of walk self.old).dim }
-        ensures { Touches walk (λ plan. (walk.steps plan).store at.now.place k) (storing k) (storing (suc k)) result
+        requires may { MayTouch walk at.now (storing k) (stores_from walk at.now.place k self.old) (amid_of self.old own.old above.old parent.old) }
+        requires corners { four_on k ≤ 2 ^ (settings_of walk self.old).dim }
+        ensures { TouchesOn walk (stores_from walk at.now.place k self.old) (stores_from walk at.now.place (four_on k) self.new) (storing k) (storing (four_on k)) result
             (amid_of self.old own.old above.old parent.old) (amid_of self.new own.new above.new parent.new) };
 
     /// Gives up a record, where a call has failed.

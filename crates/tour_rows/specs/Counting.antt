@@ -3,7 +3,7 @@ use Rattle.std.specs.Prelude.{ℕ, ◌+◌, ◌-◌, ◌*◌, ◌%◌, ◌^◌, 
 use Rattle.pe_base.specs.declared.place.Place.{Place}
 use Rattle.pe_base.specs.Walk.Steps.{Steps}
 use Rattle.pe_tour.specs.declared.settings.TourSettings.{TourSettings}
-use Rattle.pe_tour.specs.Sights.{Between, Amid, Open, amid_of, open_of, around_amid, around_open, below_open, above_again}
+use Rattle.pe_tour.specs.Sights.{Between, Amid, Open, amid_of, open_of, around_amid, below_open, above_again}
 use Rattle.pe_tour.specs.Walker.{Walker, IsLawful}
 use Rattle.tour_rows.specs.declared.counting.Counting.{Counting}
 use Rattle.tour_rows.specs.declared.counting.Never.{Never}

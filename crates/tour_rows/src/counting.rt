@@ -1,5 +1,5 @@
 ghost use Rattle.std.specs.Prelude.{◌≡◌};
-ghost use Rattle.tour_rows.specs.Counting.{noted, passed};
+ghost use Rattle.tour_rows.specs.Counting.{noted, one_more, passed};
 
 use pe_base::Place;
 use pe_states::Ages;
@@ -22,6 +22,17 @@ pub struct Counting {
 
 /// Why the tour fails: it never does. No value is of this type.
 pub enum Never {}
+
+// Four more, one after another, up to the greatest number.
+fn four_more(number: u64) -> u64
+    ensures { result ≡ one_more (one_more (one_more (one_more number))) }
+{
+    number
+        .saturating_add(1)
+        .saturating_add(1)
+        .saturating_add(1)
+        .saturating_add(1)
+}
 
 // A trail that a number is added to.
 fn noted(trail: u64, number: u64) -> u64
@@ -63,7 +74,7 @@ impl Tour for Counting {
         Ok(())
     }
 
-    fn load(
+    fn load_four(
         &mut self,
         _at: &CellAt,
         _k: u8,
@@ -71,7 +82,7 @@ impl Tour for Counting {
         _above: &mut (),
         _parent: &mut u8,
     ) -> Result<(), Never> {
-        self.loads = self.loads.saturating_add(1);
+        self.loads = four_more(self.loads);
         Ok(())
     }
 
@@ -124,7 +135,7 @@ impl Tour for Counting {
         Ok(())
     }
 
-    fn store(
+    fn store_four(
         &mut self,
         _at: &CellAt,
         _k: u8,
@@ -132,7 +143,7 @@ impl Tour for Counting {
         _above: &mut (),
         _parent: &mut u8,
     ) -> Result<(), Never> {
-        self.stores = self.stores.saturating_add(1);
+        self.stores = four_more(self.stores);
         Ok(())
     }
 

@@ -1,19 +1,11 @@
 //! The rows: how many cells there are below the root, and in which order they come.
-ghost use Rattle.std.specs.Prelude.{◌≡◌, ◌+◌, ◌<◌, ◌≤◌};
+ghost use Rattle.std.specs.Prelude.{◌+◌, ◌<◌, ◌≤◌};
 ghost use Rattle.pe_base.specs.Tree.Places.{IsCellPlace};
-ghost use Rattle.pe_tour.specs.Cells.{IsOver};
 
 use crate::{Counting, Never, passed};
-use pe_access::{CellState, Row};
-use pe_base::{Dim, Kind, Place, Way};
-use pe_curve::{Step, child};
-use pe_states::Ages;
+use pe_base::{Dim, Place, Way};
+use pe_curve::child;
 use pe_tour::{CellAt, TourSettings, walk_children};
-
-const ROOT: Place = Place {
-    level: 0,
-    pos: [0; 4],
-};
 
 // The axes, the levels below the root, the cells there, and their corners. The cells of a level are 3 ^ axes times those of
 // the level above.
@@ -27,30 +19,14 @@ const ROWS: [(u8, u8, u64, u64); 7] = [
     (4, 2, 6642, 106_272),
 ];
 
-// What the tour knows of the root.
-fn root_of(settings: TourSettings) -> CellAt
-    ensures over { IsOver settings result }
-    ensures level { result.place.level ≡ 0 }
-{
-    CellAt {
-        place: ROOT,
-        step: Step::first(settings.dim, settings.way, 0),
-        state: CellState::root(settings.dim, settings.way),
-        row: Row::empty(),
-        ages: Ages::new(0, 0),
-        kind: Kind::Kept,
-    }
-}
-
 // Walks all cells below the root, of so many levels.
-fn walk_below<const AXES: u8>(tour: &mut Counting, levels: u8) -> Result<(), Never>
-    requires axes { tour.old.settings.dim ≡ AXES }
+fn walk_below(tour: &mut Counting, levels: u8) -> Result<(), Never>
     requires some { 0 < levels }
     requires levels { levels ≤ 20 }
 {
-    let over = root_of(tour.settings);
+    let root = CellAt::root(tour.settings.dim, tour.settings.way);
     let mut below = levels;
-    walk_children::<AXES, Counting>(tour, &over, over.ages, levels, &mut (), &mut below)
+    walk_children(tour, &root, root.ages, levels, &mut (), &mut below)
 }
 
 // What a tour of all cells below the root has counted.
@@ -69,12 +45,7 @@ fn toured(dim: Dim, way: Way, levels: u8) -> Counting
         stores: 0,
         trail: 0,
     };
-    let walked = match dim.axes() {
-        2 => walk_below::<2>(&mut tour, levels),
-        3 => walk_below::<3>(&mut tour, levels),
-        _ => walk_below::<4>(&mut tour, levels),
-    };
-    match walked {
+    match walk_below(&mut tour, levels) {
         Ok(()) => tour,
         Err(never) => match never {},
     }
@@ -102,7 +73,8 @@ fn a_tour_counts_all_cells_and_their_corners(rt: HostRuntime) {
         let dim = Dim::new(axes).expect(&rt, "a dimension");
         for way in [Way::Forward, Way::Inverted] {
             let tour = toured(dim, way, levels);
-            let trail = trail_below(dim, way, &ROOT, levels, 0);
+            let root = CellAt::root(dim, way);
+            let trail = trail_below(dim, way, &root.place, levels, 0);
             let told = (tour.cells, tour.loads, tour.stores, tour.trail);
             assert!(rt;
                 told == (cells, corners, corners, trail),

@@ -11,4 +11,4 @@ returns-in_err-load_last_eight g c =
 
 pub returns : goal.returns
 returns g c =
-    record { goes = touches-then c.in_ok-load_last_eight.ensures.goes c.load_first_eight.ensures.goes }
+    record { goes = touches-then c.in_ok-load_last_eight.ensures.goes c.load_eight.ensures.goes }

@@ -9,8 +9,8 @@ store_sixteen-requires-clause-may g c =
     let w = g.T.Tour.walk in
     stores-start w g.met.T.Tour.lawful c.args.at.now (amid_of c.args.tour.now c.args.own.now c.args.above.now c.args.parent.now) c.requires.may
 
-pub store_sixteen-requires-clause-corner : goal.store_sixteen-requires-clause-corner
-store_sixteen-requires-clause-corner g c =
+pub store_sixteen-requires-clause-corners : goal.store_sixteen-requires-clause-corners
+store_sixteen-requires-clause-corners g c =
     let w = g.T.Tour.walk in
     let four : (settings_of w c.args.tour.now).dim ≡ 4 = omega (arith, c.requires.may.at.state.grid, c.requires.axes) in
     let corners : 2 ^ (settings_of w c.args.tour.now).dim ≡ 16 = ap (λ n. 2 ^ n) four in

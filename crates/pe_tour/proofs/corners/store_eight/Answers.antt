@@ -9,4 +9,4 @@ returns-in_err-store_first_four-clause-goes g c =
 
 pub returns-clause-goes : goal.returns-clause-goes
 returns-clause-goes g c =
-    touches-then c.in_ok-store_first_four.ensures.goes c.store_second_four.ensures.goes
+    touches-then c.in_ok-store_first_four.ensures.goes c.store_first_four-2.ensures.goes

@@ -1,22 +1,13 @@
-use Rattle.pe_base.proofs.Calls.Errors.{err-is}
-use Rattle.pe_tour.proofs.Moving.{touches-then, touches-fail}
+use Rattle.pe_tour.specs.Sights.{storing, amid_of}
+use Rattle.pe_tour.specs.Moves.{four_on, stores_from}
+use Rattle.pe_tour.proofs.Moving.{touches-may}
 use Rattle.pe_tour.proofs.corners.store_first_four.Goals as goal
 
-pub returns-in_err-store_first-clause-goes : goal.returns-in_err-store_first-clause-goes
-returns-in_err-store_first-clause-goes g c =
-    rw (err-is c.from_residual.result _ c.from_residual.ensures.1)
-    (touches-fail c.in_err-store_first.ensures.goes)
-
-pub returns-in_err-store_first-2-clause-goes : goal.returns-in_err-store_first-2-clause-goes
-returns-in_err-store_first-2-clause-goes g c =
-    rw (err-is c.from_residual-in_err-store_first-2.result _ c.from_residual-in_err-store_first-2.ensures.1)
-    (touches-then c.in_ok-store_first.ensures.goes (touches-fail c.in_err-store_first-2.ensures.goes))
-
-pub returns-in_err-store_first-3-clause-goes : goal.returns-in_err-store_first-3-clause-goes
-returns-in_err-store_first-3-clause-goes g c =
-    rw (err-is c.from_residual-in_err-store_first-3.result _ c.from_residual-in_err-store_first-3.ensures.1)
-    (touches-then c.in_ok-store_first.ensures.goes (touches-then c.in_ok-store_first-2.ensures.goes (touches-fail c.in_err-store_first-3.ensures.goes)))
-
-pub returns-clause-goes : goal.returns-clause-goes
-returns-clause-goes g c =
-    touches-then c.in_ok-store_first.ensures.goes (touches-then c.in_ok-store_first-2.ensures.goes (touches-then c.in_ok-store_first-3.ensures.goes c.store_first-4.ensures.goes))
+pub returns-clause-may : goal.returns-clause-may
+returns-clause-may g c =
+    let w = g.T.Tour.walk in
+    let place = c.args.at.now.place in
+    let k = c.args.k in
+    touches-may w g.met.T.Tour.lawful c.args.at.now (stores_from w place k c.args.tour.now) (stores_from w place (four_on k) c.store_four.new.self) (storing k) (storing (four_on k)) c.store_four.result
+    (amid_of c.args.tour.now c.args.own.now c.args.above.now c.args.parent.now) (amid_of c.store_four.new.self c.store_four.new.own c.store_four.new.above c.store_four.new.parent)
+    c.requires.may c.store_four.ensures

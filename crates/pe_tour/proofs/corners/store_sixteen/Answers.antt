@@ -9,6 +9,13 @@ returns-in_err-store_eight g c =
           (touches-fail c.in_err-store_eight.ensures.goes);
     }
 
+pub returns-in_err-store_first_four : goal.returns-in_err-store_first_four
+returns-in_err-store_first_four g c =
+    record {
+      goes = rw (err-is c.from_residual-in_err-store_first_four.result _ c.from_residual-in_err-store_first_four.ensures.1)
+          (touches-then c.in_ok-store_eight.ensures.goes (touches-fail c.in_err-store_first_four.ensures.goes));
+    }
+
 pub returns : goal.returns
 returns g c =
-    record { goes = touches-then c.in_ok-store_eight.ensures.goes c.store_last_eight.ensures.goes }
+    record { goes = touches-then c.in_ok-store_eight.ensures.goes (touches-then c.in_ok-store_first_four.ensures.goes c.store_first_four-2.ensures.goes) }

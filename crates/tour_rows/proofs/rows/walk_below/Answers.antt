@@ -6,4 +6,4 @@ use Rattle.tour_rows.proofs.rows.walk_below.Goals as goal
 
 pub walk_children-requires-clause-fits : goal.walk_children-requires-clause-fits
 walk_children-requires-clause-fits g c =
-    children-fit c.args.tour.now.settings c.args.levels c.root_of-over.result.place (between_of c.args.tour.now tt c.args.levels) c.requires.some (omega arith)
+    children-fit c.args.tour.now.settings c.args.levels c.CellAt-root.result.place (between_of c.args.tour.now tt c.args.levels) c.requires.some (omega arith)
