@@ -16,3 +16,5 @@ pub mod Cells
 pub mod Rows
 -- each child from the one before it
 pub mod Children
+-- two walks whose steps match
+pub mod Beside

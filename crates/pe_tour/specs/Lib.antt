@@ -10,3 +10,5 @@ pub mod Sights
 pub mod Walker
 -- what calls ask, and what they do
 pub mod Moves
+-- two walks beside each other
+pub mod Beside
