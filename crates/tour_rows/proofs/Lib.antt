@@ -4,3 +4,5 @@
 mod Fitting
 -- levels of children
 mod ChildLevels
+-- two of them whose steps match
+mod CountAlike

@@ -2,6 +2,7 @@
 #![tactic(auto)]
 
 mod counting;
+pub mod laws;
 #[cfg(test)]
 mod rows;
 
