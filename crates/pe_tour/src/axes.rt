@@ -5,8 +5,7 @@ ghost use Rattle.pe_tour.specs.Cells.{IsOver};
 ghost use Rattle.pe_tour.specs.Sights.{between_of};
 ghost use Rattle.pe_tour.specs.Moves.{plan_of, settings_of, MayWalk, Walks};
 
-use crate::recursion;
-use crate::{CellAt, Tour};
+use crate::{CellAt, Tour, recursion};
 use pe_states::Ages;
 
 /// Walks a cell with all below it, of so many levels: it is counted, its corners are loaded, it is visited, and its corners
