@@ -18,3 +18,5 @@ pub mod CountedTouches
 pub mod WalkedCells
 -- what a call that touches a corner has in hand and does
 pub mod TouchCalls
+-- the courses of a walk that tells
+pub mod TellingCourses

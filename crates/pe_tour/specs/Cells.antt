@@ -1,7 +1,6 @@
 -- What a walk knows of a cell, and of its children.
 use Rattle.std.specs.Prelude.{◌≡◌, ℕ, ◌^◌, ◌<◌, ◌≤◌, Bool, ◌==◌, if◌then◌else◌, Some, slice_get, slice_index}
 use Rattle.std.specs.List.{list_any, range_with_len}
-use Rattle.pe_base.specs.declared.place.Place.{Place}
 use Rattle.pe_base.specs.declared.place.Digits.{Digits}
 use Rattle.pe_base.specs.declared.kind.Kind.{Kind}
 use Rattle.pe_base.specs.declared.kind.Kind.TheVariants.{Kept, Born}
@@ -10,7 +9,6 @@ use Rattle.pe_base.specs.Tree.Curve.{children, flips}
 use Rattle.pe_base.specs.Life.Kinds.{kind_from}
 use Rattle.pe_curve.specs.declared.step.Step.{Step}
 use Rattle.pe_curve.specs.Steps.{IsStep}
-use Rattle.pe_access.specs.declared.state.CellState.{CellState}
 use Rattle.pe_access.specs.States.{StandsFor}
 use Rattle.pe_access.specs.Rows.{IsRow}
 use Rattle.pe_states.specs.Ages.{is_old_at, is_new_at, is_first_old, is_first_new, some_carrier}
@@ -27,15 +25,6 @@ pub record IsAt (settings : TourSettings) (at : CellAt) : Type 0 where
   pub child : at.place ≡ child_at (parent_of at.place) at.step.digits
   pub state : StandsFor settings.dim settings.way at.place at.state
   pub row : IsRow at.state at.row
-
--- a cell that is put together of these
-pub record IsMadeOf (its_place : Place) (its_digits : Digits) (its_state : CellState) (its_ages : ℕ) (its_kind : Kind) (at : CellAt) : Type 0 where
-  pub place : at.place ≡ its_place
-  pub digits : at.step.digits ≡ its_digits
-  pub state : at.state ≡ its_state
-  pub row : IsRow at.state at.row
-  pub ages : at.ages ≡ its_ages
-  pub kind : at.kind ≡ its_kind
 
 -- whether some corner of a cell is old, and is new
 abbrev pub some_old : ℕ → Bool

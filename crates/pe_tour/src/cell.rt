@@ -1,11 +1,9 @@
 ghost use Rattle.std.specs.Prelude.{◌≡◌, ℕ};
-ghost use Rattle.pe_base.specs.Tree.Dim.{IsDim};
 ghost use Rattle.pe_base.specs.Tree.Places.{root};
-ghost use Rattle.pe_access.specs.States.{axes_of};
-ghost use Rattle.pe_tour.specs.Cells.{IsMadeOf, IsOver};
+ghost use Rattle.pe_tour.specs.Cells.{IsOver};
 
 use pe_access::{CellState, Row};
-use pe_base::{Digits, Dim, Kind, Place, Way};
+use pe_base::{Dim, Kind, Place, Way};
 use pe_curve::Step;
 use pe_states::Ages;
 
@@ -42,24 +40,6 @@ impl CellAt {
             row: Row::empty(),
             ages: Ages::new(0, 0),
             kind: Kind::Kept,
-        }
-    }
-
-    /// A cell by itself: of its step only the digits are asked for.
-    pub fn alone(place: Place, digits: Digits, state: CellState, ages: Ages, kind: Kind) -> CellAt
-        requires { IsDim (axes_of state) }
-        ensures { IsMadeOf place digits state ages kind result }
-    {
-        CellAt {
-            place,
-            step: Step {
-                digits,
-                ups: [false; 4],
-            },
-            state,
-            row: state.row(),
-            ages,
-            kind,
         }
     }
 }

@@ -21,6 +21,8 @@ pub mod Beginnings
 pub mod Children
 -- what the ages of corners tell
 pub mod AgeLaws
+-- the steps of the machine, walked, are its walk
+pub mod Bridge
 -- records that are given up, one after another
 pub mod GivingUp
 -- calls of a walk, one after another

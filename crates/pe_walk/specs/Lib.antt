@@ -2,6 +2,8 @@
 
 -- the walk on stacks as a machine of lists
 pub mod Machine
+-- its steps
+pub mod MachineSteps
 -- what the core keeps of the records in hand
 pub mod CoreKeeps
 -- what holds between the moves of a traversal

@@ -4,11 +4,14 @@
 //! the law of a face for its contract. `cells_in_turn` says that the children of the root may be walked by it, one after
 //! another, from the first event of a traversal on, and so those of each cell that is entered.
 //!
+//! The walk: `steps_are_the_machine` says that the walk over stacks has the order that all walks have.
+//!
 //! The values: `core_keeps` and `kinds_are_found` are what they need. `load_of_a_corner` and `store_of_a_corner` say that one
 //! touch on stacks is the one by address, and `stacks_are_addresses` says that a traversal on
 //! stacks is the walk by address; `traversals_are_exact` says what it counts and moves. So it is with the walk of one cell, by
 //! `law_of_a_face` and `cells_are_exact`, and `beneath_is_left` says that it leaves what lies beneath.
 ghost use Rattle.pe_walk.specs.CoreKeeps.{CoreKeeps};
+ghost use Rattle.pe_walk.specs.MachineSteps.{StepsAreTheMachine};
 ghost use Rattle.pe_walk.specs.Standing.{KindsAreFound};
 ghost use Rattle.pe_walk.specs.Gridded.{StacksAreAddresses};
 ghost use Rattle.pe_walk.specs.Beneath.{BeneathIsLeft, BeneathStays};
@@ -30,6 +33,12 @@ pub use pe_order::laws::{
 /// The core of a walk keeps kinds, and old and new, of all that its events see, by the law of effects.
 pub fn core_keeps<E: Effects>()
     ensures alike { CoreKeeps E.Plan }
+{}
+
+/// The machine of lists is a walk of steps, as every walk over the cells is: each cell is counted, its corners are loaded, it is
+/// entered, its children are walked, it is left, and its corners are stored.
+pub fn steps_are_the_machine<E: Effects>()
+    ensures same { StepsAreTheMachine E.Plan }
 {}
 
 /// At a load, the kind of a corner is found by the map as the parent's corners in hand have it: it is the one foreseen.
