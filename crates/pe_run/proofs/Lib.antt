@@ -14,12 +14,10 @@ pub mod Traversing
 pub mod Tallied
 -- traversals in turn
 pub mod InTurn
--- # The stages
--- what was asked for, by what the shelf answered
-pub mod Asking
--- how a stage ends at its last line
-pub mod Stopping
--- the last line behind traversals
-pub mod Ending
--- what the stages make up
+-- # The run
+-- what a job reads, stage after stage
+pub mod Reading
+-- the run of a scenario, by what was read and how its traversals ended
+pub mod Running
+-- the clauses of the top call, for every job
 pub mod RunLaws
