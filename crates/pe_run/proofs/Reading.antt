@@ -2,7 +2,7 @@
 use Rattle.std.proofs.Common.{◌≡◌, ◌≢◌, ◌⊎◌, inl, inr, ◌∙◌, ℕ, ◌+◌, ◌<◌, ◌≤◌, ◌==◌, nat_lt, Bool, true, false, List, [], length, replicate, Option, Some, None, Result, Ok, Err, refl, sym, ap, subst, rules, arith}
 use Rattle.std.specs.Prelude.{if◌then◌else◌}
 use Rattle.std.proofs.lemmas.List.{length-replicate}
-use Rattle.std.proofs.lemmas.Bool.{lt-ltb, ltb-false, eqb-true, eq-eqb}
+use Rattle.std.proofs.lemmas.Bool.{lt-ltb, le-ltb, eqb-true, eq-eqb}
 use Rattle.pe_io.specs.declared.shelf.Got.{Got}
 use Rattle.pe_io.specs.declared.shelf.Got.TheVariants.{Absent, Failed}
 use Rattle.pe_io.specs.declared.shelf.ShelfCall.TheVariants.{Get}
@@ -23,7 +23,7 @@ longer_than : (limit : ℕ) → (bytes : List ℕ) × (limit < length bytes)
 longer_than limit = (replicate (limit + 1) 0, omega (arith, length-replicate {A = ℕ} (limit + 1) 0))
 
 within-whole : (limit : ℕ) (bytes : List ℕ) → length bytes ≤ limit → within limit bytes ≡ Some bytes
-within-whole limit bytes fits = rw (ltb-false limit (length bytes) fits)
+within-whole limit bytes fits = rw (le-ltb limit (length bytes) fits)
 
 within-longer : (limit : ℕ) (bytes : List ℕ) → limit < length bytes → within limit bytes ≡ None
 within-longer limit bytes longer = rw (lt-ltb limit (length bytes) longer)
@@ -181,6 +181,6 @@ pub lacks : {X : Type 0} (told : Option Contents) (before after : ℕ) (last : O
     → ((name : List ℕ) → fails name → FailedAt Get name before after last) → given ≡ Err (refusal.NoShelf stage) → MayGive told fails reads given → MayLack told before after last reads
 lacks {X} told before after last fails (ready x) given stage so is may = absurd (let wrong : ◌≡◌ {A = Result X Refusal} (Ok x) (Err (refusal.NoShelf stage)) = sym may ∙ is in cc)
 lacks {X} told before after last fails (refused fault) given stage so is may = absurd (let wrong : ◌≡◌ {A = Result X Refusal} (Err (refusal.Fault fault)) (Err (refusal.NoShelf stage)) = sym may ∙ is in cc)
-lacks told before after last fails (asks asking name limit next) given stage so is (inl (inl failed, no)) = inl (so name failed)
-lacks told before after last fails (asks asking name limit next) given stage so is (inl (inr none, no)) = inr (inl none)
+lacks told before after last fails (asks asking name limit next) given stage so is (inl (inl failed, ends)) = inl (so name failed)
+lacks told before after last fails (asks asking name limit next) given stage so is (inl (inr none, ends)) = inr (inl none)
 lacks told before after last fails (asks asking name limit next) given stage so is (inr (bytes, holds, may)) = inr (inr (bytes, holds, lacks told before after last fails (next (within limit bytes)) given stage so is may))

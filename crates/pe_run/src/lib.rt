@@ -4,11 +4,11 @@
 mod finish;
 mod get;
 mod lines;
-mod peano;
+mod program;
 mod refusal;
 mod run;
 mod status;
 mod traversals;
 mod words;
 
-pub use peano::peano;
+pub use program::peano;
