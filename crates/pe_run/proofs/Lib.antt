@@ -17,7 +17,5 @@ pub mod InTurn
 -- # The run
 -- what a job reads, stage after stage
 pub mod Reading
--- the run of a scenario, by what was read and how its traversals ended
-pub mod Running
 -- the clauses of the top call, for every job
 pub mod RunLaws

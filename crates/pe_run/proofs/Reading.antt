@@ -2,19 +2,17 @@
 use Rattle.std.proofs.Common.{◌≡◌, ◌≢◌, ◌⊎◌, inl, inr, ◌∙◌, ℕ, ◌+◌, ◌<◌, ◌≤◌, ◌==◌, nat_lt, Bool, true, false, List, [], length, replicate, Option, Some, None, Result, Ok, Err, refl, sym, ap, subst, rules, arith}
 use Rattle.std.specs.Prelude.{if◌then◌else◌}
 use Rattle.std.proofs.lemmas.List.{length-replicate}
-use Rattle.std.proofs.lemmas.Bool.{lt-ltb, le-ltb, eqb-true, eq-eqb}
-use Rattle.pe_io.specs.declared.shelf.Got.{Got}
-use Rattle.pe_io.specs.declared.shelf.Got.TheVariants.{Absent, Failed}
+use Rattle.std.proofs.lemmas.Bool.{lt-ltb, eqb-true, eq-eqb}
 use Rattle.pe_io.specs.declared.shelf.ShelfCall.TheVariants.{Get}
-use Rattle.pe_io.specs.Shelf.{Contents, FailedCall, FailedAt, IsGot, IsLonger, WhereTold}
+use Rattle.pe_io.specs.Shelf.{Contents, FailedCall, FailedAt, IsLonger, WhereTold}
 use Rattle.pe_run.specs.declared.refusal.Stage.{Stage}
 use Rattle.pe_run.specs.declared.refusal.Stage.TheVariants.{Scenario}
 use Rattle.pe_run.specs.declared.refusal.Fault.{Fault}
 use Rattle.pe_run.specs.declared.refusal.Refusal.{Refusal}
 use Rattle.pe_run.specs.declared.refusal.Refusal.TheVariants as refusal
-use Rattle.pe_run.specs.Endings.{stage_number, is_memory}
-use Rattle.pe_run.specs.Reads.{Reads, ready, refused, asks, within, is_failed, read, LacksAt, HoldsAt, MayGive, MayLack, FailsAt}
-use Rattle.pe_run.specs.Stages.{IsGiven, GivesNone, Refuses}
+use Rattle.pe_run.specs.Endings.{stage_number}
+use Rattle.pe_run.specs.Reads.{Reads, ready, refused, asks, within, is_failed, read, MayGive, MayLack, FailsAt}
+use Rattle.pe_run.specs.Stages.{IsGiven}
 
 -- # One call
 
@@ -22,19 +20,10 @@ use Rattle.pe_run.specs.Stages.{IsGiven, GivesNone, Refuses}
 longer_than : (limit : ℕ) → (bytes : List ℕ) × (limit < length bytes)
 longer_than limit = (replicate (limit + 1) 0, omega (arith, length-replicate {A = ℕ} (limit + 1) 0))
 
-within-whole : (limit : ℕ) (bytes : List ℕ) → length bytes ≤ limit → within limit bytes ≡ Some bytes
-within-whole limit bytes fits = rw (le-ltb limit (length bytes) fits)
-
 within-longer : (limit : ℕ) (bytes : List ℕ) → limit < length bytes → within limit bytes ≡ None
 within-longer limit bytes longer = rw (lt-ltb limit (length bytes) longer)
 
--- the shelf gave whole bytes
-pub IsGiven-whole : (told : Option Contents) (name : List ℕ) (limit : ℕ) (bytes : List ℕ) → WhereTold told (λ held. (held name ≡ Some bytes) × (length bytes ≤ limit)) → length bytes ≤ limit
-    → IsGiven told name limit (Some bytes)
-IsGiven-whole None name limit bytes is fits = record { bytes = bytes; holds = tt; within = within-whole limit bytes fits }
-IsGiven-whole (Some held) name limit bytes is fits = record { bytes = bytes; holds = is.0; within = within-whole limit bytes fits }
-
--- or has more than the limit
+-- the shelf has more than the limit
 pub IsGiven-longer : (told : Option Contents) (name : List ℕ) (limit : ℕ) → WhereTold told (λ held. IsLonger (held name) limit) → IsGiven told name limit None
 IsGiven-longer None name limit longer = let bytes = longer_than limit in record { bytes = bytes.0; holds = tt; within = within-longer limit bytes.0 bytes.1 }
 IsGiven-longer (Some held) name limit longer =
@@ -43,30 +32,7 @@ IsGiven-longer (Some held) name limit longer =
       | Some bytes ↦ λ is more. record { bytes = bytes; holds = is; within = within-longer limit bytes more }
     ] refl longer
 
--- or gave none
-lacks_at : (told : Option Contents) (name : List ℕ) (limit : ℕ) (got : Got) → got ≡ Absent → WhereTold told (λ held. IsGot (held name) limit got) → (told ≡ None → got ≢ Absent) → LacksAt told name
-lacks_at None name limit got absent is untold = absurd (untold refl absent)
-lacks_at (Some held) name limit got absent is untold = subst (λ answer. IsGot (held name) limit answer) absent is
-
-pub GivesNone-none : (told : Option Contents) (stage : Stage) (name : List ℕ) (limit before after : ℕ) (last : Option FailedCall) (got : Got) → (got ≡ Absent) ⊎ (got ≡ Failed)
-    → WhereTold told (λ held. IsGot (held name) limit got) → (told ≡ None → got ≢ Absent) → (got ≡ Failed → FailedAt Get name before after last)
-    → GivesNone told stage name before after last (refusal.NoShelf stage)
-GivesNone-none told stage name limit before after last got (inl absent) is untold failed = (inr (lacks_at told name limit got absent is untold), refl)
-GivesNone-none told stage name limit before after last got (inr none) is untold failed = (inl (failed none), refl)
-
--- # A reading by its stages
-
--- the first stage has no answer
-pub refuses : {X : Type 0} (told : Option Contents) (stage : Stage) (name : List ℕ) (limit : ℕ) (next : Option (List ℕ) → Reads X) (before after : ℕ) (last : Option FailedCall) (it : Refusal)
-    → GivesNone told stage name before after last it → Refuses told before after last (asks stage name limit next) it
-refuses {X} told stage name limit next before after last (refusal.NoShelf at) none other = inl (none.0, ap (λ s. Err (refusal.NoShelf s)) none.1)
-refuses told stage name limit next before after last (refusal.Fault fault) none other = absurd none
-refuses told stage name limit next before after last refusal.Memory none other = absurd (let wrong : true ≡ false = other in cc)
-
--- it has one, and the rest comes to this
-pub goes_on : {X : Type 0} (told : Option Contents) (fails : List ℕ → Type 0) (stage : Stage) (name : List ℕ) (limit : ℕ) (next : Option (List ℕ) → Reads X) (given : Option (List ℕ)) (r : Result X Refusal)
-    → IsGiven told name limit given → MayGive told fails (next given) r → MayGive told fails (asks stage name limit next) r
-goes_on told fails stage name limit next given r it may = inr (it.bytes, it.holds, subst (λ g. MayGive told fails (next g) r) (sym it.within) may)
+-- # Any reading
 
 -- what may be given where these calls fail, may be where those do
 pub gives_when : {X : Type 0} (told : Option Contents) (old new : List ℕ → Type 0) (reads : Reads X) (given : Result X Refusal)
@@ -76,8 +42,6 @@ gives_when told old new (refused fault) given so may = may
 gives_when told old new (asks stage name limit next) given so (inl (inl failed, is)) = inl (inl (so name stage is failed), is)
 gives_when told old new (asks stage name limit next) given so (inl (inr lacks, is)) = inl (inr lacks, is)
 gives_when told old new (asks stage name limit next) given so (inr (bytes, holds, may)) = inr (bytes, holds, gives_when told old new (next (within limit bytes)) given so may)
-
--- # Any reading
 
 -- something may be given, though no call fails
 pub may_give : {X : Type 0} (told : Option Contents) (fails : List ℕ → Type 0) (reads : Reads X) → (given : Result X Refusal) × MayGive told fails reads given

@@ -1,5 +1,5 @@
 -- Laws of the run.
-use Rattle.std.proofs.Common.{◌≡◌, ◌≢◌, ◌⊎◌, ◌∙◌, ℕ, Bool, true, false, ◌==◌, List, [], ◌∷◌, ◌++◌, Option, Some, None, Result, Ok, Err, refl, sym, ap, subst, inl, inr, arith}
+use Rattle.std.proofs.Common.{◌≡◌, ◌≢◌, ◌⊎◌, ◌∙◌, ℕ, zero, suc, get_or, map, Bool, true, false, ◌==◌, List, [], ◌∷◌, ◌++◌, Option, Some, None, Result, Ok, Err, refl, sym, ap, subst, inl, inr, arith}
 use Rattle.std.specs.Result.{IsOk, IsErr, IfOk, IsOkAnd}
 use Rattle.std.specs.Prelude.{MatchBool}
 use Rattle.std.proofs.lemmas.Bool.{ne_eqb, eqb-true, eq-eqb}
@@ -8,7 +8,7 @@ use Rattle.pe_base.specs.Calls.Told.{Told, Adds, AddsPart, FailsToTell}
 use Rattle.pe_base.proofs.Calls.Texts.{adds-nothing, adds-then, part-nothing, part-first, part-then, fails-then}
 use Rattle.pe_io.specs.declared.shelf.ShelfCall.TheVariants.{Get}
 use Rattle.pe_io.specs.Shelf.{Contents, FailedCall, FailedAt}
-use Rattle.pe_stacks.specs.Holdings.{Holdings}
+use Rattle.pe_stacks.specs.Holdings.{Holdings, Stack, new_stack, emptied, cleared}
 use Rattle.pe_run.specs.declared.finish.Last.{Last}
 use Rattle.pe_run.specs.declared.refusal.Stage.{Stage}
 use Rattle.pe_run.specs.declared.refusal.Fault.TheVariants.{Words, Scenario}
@@ -27,11 +27,11 @@ use Rattle.pe_run.proofs.Reading.{gives_when, may_give, unfailing_read, lacks}
 
 -- # Up to the last line
 
-module _ {V C : Type 0} (task : Task) (told : Option Contents) (before after : ℕ) (last : Option FailedCall) (old new : Told) (vertices : Holdings V) (cells : Holdings C) where
+module _ {V C : Type 0} (task : Task) (told : Option Contents) (before after : ℕ) (last : Option FailedCall) (old : Told) (vertices : Holdings V) (cells : Holdings C) where
   -- all was read, and the job was done by it
-  pub IsMade-done : (end : Ended) (result : Result Last Interrupted) → Gives told before after last task.reads end → LeadsTo (ended (Ok end)) old new result
+  pub IsMade-done : (new : Told) (end : Ended) (result : Result Last Interrupted) → Gives told before after last task.reads end → LeadsTo (ended (Ok end)) old new result
       → IfOk result (λ it. it.status ≡ Done → CountsTraversals (Ok end) vertices cells) → IsMade task told before after last old new vertices cells result
-  IsMade-done end result gives leads counts = record {
+  IsMade-done new end result gives leads counts = record {
     given = Ok end;
     gave = gives_when told (λ name. FailedAt Get name before after last) (λ name. FailedAt Get name before after last × IsOk result) task.reads (Ok end)
         (λ name stage is failed. absurd (let wrong : ◌≡◌ {A = Result Ended Refusal} (Ok end) (Err (refusal.NoShelf stage)) = is in cc)) gives;
@@ -154,6 +154,34 @@ module _ {V C : Type 0} (task : Task) (told : Option Contents) (before after : �
         answer = answers_run (ended it.given) old new result runs;
         traffic = λ nought. done_last made mid new (CountsTraversals it.given vertices cells) (subst (Finishes made mid new) (done_is result nought) ends) it.traffic;
       }
+
+  -- when the depots are cleared, their counts stay
+  emptied_stack : {X : Type 0} (stacks : List (Stack X)) (s : ℕ) → get_or (map emptied stacks) s new_stack ≡ emptied (get_or stacks s new_stack)
+  emptied_stack [] s = refl
+  emptied_stack (stack ∷ stacks) zero = refl
+  emptied_stack (stack ∷ stacks) (suc s) = emptied_stack stacks s
+
+  cleared_counts : (given : Result Ended Refusal) → CountsTraversals given vertices cells → CountsTraversals given (cleared vertices) (cleared cells)
+  cleared_counts (Err refusal) counts = tt
+  cleared_counts (Ok end) counts = record {
+    vertex_pushes_are = λ s. ap (λ (stack : Stack V). stack.pushes) (emptied_stack vertices.stacks s) ∙ counts.vertex_pushes_are s;
+    vertex_pops_are = λ s. ap (λ (stack : Stack V). stack.pops) (emptied_stack vertices.stacks s) ∙ counts.vertex_pops_are s;
+    cell_pushes_are = λ s. ap (λ (stack : Stack C). stack.pushes) (emptied_stack cells.stacks s) ∙ counts.cell_pushes_are s;
+    cell_pops_are = λ s. ap (λ (stack : Stack C). stack.pops) (emptied_stack cells.stacks s) ∙ counts.cell_pops_are s;
+    vertices_lent = counts.vertices_lent;
+    cells_lent = counts.cells_lent;
+    vertices_out = counts.vertices_out;
+    cells_out = counts.cells_out;
+  }
+
+  pub IsRun-cleared : (old new : Told) (status : ℕ) → IsRun task told before after last old new vertices cells status → IsRun task told before after last old new (cleared vertices) (cleared cells) status
+  IsRun-cleared old new status run = record {
+    given = run.given;
+    gave = run.gave;
+    text = run.text;
+    answer = run.answer;
+    traffic = λ nought. cleared_counts run.given (run.traffic nought);
+  }
 
   -- 6 comes only of a stage for which the shelf gives nothing
   not_six : (finish : Finish) → finish_status finish ≡ 6 → ⊥
