@@ -1,5 +1,4 @@
--- Two toy jobs: one reads a file of at most four bytes, the other one more behind it. Both ask as for a scenario, since there is
--- no other stage yet.
+-- A toy job that reads two files, each of at most four bytes. It asks as for a scenario, since there is no other stage yet.
 use Rattle.std.specs.Prelude.{ℕ, List, Option, Some, None}
 use Rattle.pe_scene.specs.declared.fault.SceneFault.TheVariants.{TooLong}
 use Rattle.pe_run.specs.declared.refusal.Stage.TheVariants.{Scenario as ScenarioStage}
@@ -10,16 +9,16 @@ use Rattle.pe_run.specs.Reads.{Reads, ready, refused, asks}
 use Rattle.run_rows.specs.declared.files.Unread.{Unread}
 use Rattle.run_rows.specs.declared.files.Unread.TheVariants.{NotHeld, TooMany, Memory}
 
--- more bytes are refused
+-- more bytes than four are refused
 abbrev pub few : {X : Type 0} → (List ℕ → Reads X) → Option (List ℕ) → Reads X
 few next None = refused (Scenario TooLong)
 few next (Some bytes) = next bytes
 
-abbrev pub one_file : List ℕ → Reads (List ℕ)
-one_file name = asks ScenarioStage name 4 (few ready)
+abbrev pub second_file : List ℕ → List ℕ → Reads (List ℕ × List ℕ)
+second_file second head = asks ScenarioStage second 4 (few (λ tail. ready (head, tail)))
 
 abbrev pub two_files : List ℕ → List ℕ → Reads (List ℕ × List ℕ)
-two_files first second = asks ScenarioStage first 4 (few (λ head. asks ScenarioStage second 4 (few (λ tail. ready (head, tail)))))
+two_files first second = asks ScenarioStage first 4 (few (second_file second))
 
 -- why a file was not read, as the refusal of a job
 abbrev pub refusal_of : Unread → Refusal

@@ -1,4 +1,4 @@
 -- The definitions of the rows, in reading order.
 
--- two toy jobs that read files
+-- a toy job that reads two files
 pub mod Files
