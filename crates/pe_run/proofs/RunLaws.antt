@@ -216,9 +216,9 @@ module _ {V C : Type 0} (task : Task) (told : Option Contents) (before after : �
       elim (status == 9) as (λ b. (status == 9) ≡ b → (status ≡ 9) ⊎ ((status ≡ (run_job task held None).status) × Adds old (whole_text (run_job task held None)) new)) [
         | true ↦ λ nine. inl (eqb-true status 9 nine)
         | false ↦ λ other.
-          let given : run.given ≡ read task.reads held None = unfailing_read held (MayFail before after last status) task.reads run.given (λ name failed. calm failed.0.rises)
-              (subst (λ t. MayGive t (MayFail before after last status) task.reads run.given) told_is run.gave) in
-          let nine : status ≢ 9 = λ is. let wrong : false ≡ true = sym other ∙ eq-eqb status 9 is in cc in
-          inr (subst (λ g. (status ≡ (ended g).status) × Adds old (whole_text (ended g)) new) given
+            let given : run.given ≡ read task.reads held None = unfailing_read held (MayFail before after last status) task.reads run.given (λ name failed. calm failed.0.rises)
+            (subst (λ t. MayGive t (MayFail before after last status) task.reads run.given) told_is run.gave) in
+            let nine : status ≢ 9 = λ is. let wrong : false ≡ true = sym other ∙ eq-eqb status 9 is in cc in
+            inr (subst (λ g. (status ≡ (ended g).status) × Adds old (whole_text (ended g)) new) given
             (answered status (ended run.given).status run.answer seven nine, complete_text status old new (ended run.given) seven nine run.text))
       ] refl

@@ -74,11 +74,11 @@ pub record Ran : Type 0 where
 abbrev pub whole_text : Ran → List ℕ
 whole_text ran = ran.text ++ ran.last
 
--- The table of refusals: for each cause its line and its status. Want of memory has no line.
+-- The table of refusals: for each cause its last line and its status, in the order of the statuses. Want of memory has no line.
 abbrev pub refusal_ran : Refusal → Ran
-refusal_ran (refused.NoShelf stage) = record { text = []; last = fault_line (codes "shelf" ∷ stage_name stage ∷ []); status = 6 }
 refusal_ran (refused.Fault Words) = record { text = []; last = fault_words; status = 2 }
 refusal_ran (refused.Fault (Scenario fault)) = record { text = []; last = scene_line fault; status = 3 }
+refusal_ran (refused.NoShelf stage) = record { text = []; last = fault_line (codes "shelf" ∷ stage_name stage ∷ []); status = 6 }
 refusal_ran refused.Memory = record { text = []; last = []; status = 9 }
 
 -- whether a refusal is want of memory

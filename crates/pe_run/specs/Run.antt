@@ -37,7 +37,7 @@ Writes status old text new = MatchBool (is_interruption status) (AddsPart old te
 abbrev pub Answers : ℕ → ℕ → Type 0
 Answers status ran = (status ≡ ran) ⊎ (status ≡ 7) ⊎ (status ≡ 9)
 
--- the depots have counted the traversals of a job, if it made any
+-- the depots have counted the traversals of a job, and nothing where it made none
 abbrev pub CountsTraversals : {V C : Type 0} → Result Ended Refusal → Holdings V → Holdings C → Type 0
 CountsTraversals (Err refusal) vertices cells = Unit {0}
 CountsTraversals (Ok end) vertices cells = HasTraffic end.walked.axes end.walked.start_level end.walked.made vertices cells

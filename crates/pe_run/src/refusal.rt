@@ -44,24 +44,20 @@ pub enum Fault {
 /// Why a job is not done.
 #[derive(Debug, Drop)]
 pub enum Refusal {
-    /// The shelf gives nothing for this stage.
-    NoShelf(Stage),
     /// What was asked for is refused.
     Fault(Fault),
+    /// The shelf gives nothing for this stage.
+    NoShelf(Stage),
     /// Want of memory.
     Memory,
 }
 
 impl Refusal {
-    /// The table of refusals: the status and the last line of each. Want of memory has none.
+    /// The table of refusals: the status and the last line of each, in the order of the statuses. Want of memory has no line.
     pub fn last(&self) -> Result<Last, Interrupted>
         ensures last { MatchBool (is_memory self.now) (result ≡ Err Interrupted.Memory) (IsOkAnd result (IsLast (refusal_ran self.now))) }
     {
         match self {
-            Refusal::NoShelf(stage) => Ok(Last {
-                status: Status::NoShelf,
-                line: shelf_line(*stage),
-            }),
             Refusal::Fault(Fault::Words) => Ok(Last {
                 status: Status::NoJob,
                 line: Line::of("fault words"),
@@ -69,6 +65,10 @@ impl Refusal {
             Refusal::Fault(Fault::Scenario(fault)) => Ok(Last {
                 status: Status::Refused,
                 line: scene_line(fault)?,
+            }),
+            Refusal::NoShelf(stage) => Ok(Last {
+                status: Status::NoShelf,
+                line: shelf_line(*stage),
             }),
             Refusal::Memory => Err(Interrupted::Memory),
         }

@@ -16,9 +16,9 @@ returns-clause-run g c =
     let vertices = g.DV.Depot.holds c.make-last.new.vertices in
     let cells = g.DC.Depot.holds c.make-last.new.cells in
     let run = IsRun-finished task told before after last vertices cells (tells c.args.sink.now) (tells c.make-last.new.sink) (tells c.finish-ending.new.sink) c.make-last.result c.finish-ending.result
-        c.make-last.ensures.made c.finish-ending.ensures.finished in
+    c.make-last.ensures.made c.finish-ending.ensures.finished in
     rw c.settle.ensures.cleared (rw c.settle-2.ensures.cleared (rw c.exit_status.ensures
-      (IsRun-cleared task told before after last vertices cells (tells c.args.sink.now) (tells c.finish-ending.new.sink) (ending_of c.finish-ending.result) run)))
+    (IsRun-cleared task told before after last vertices cells (tells c.args.sink.now) (tells c.finish-ending.new.sink) (ending_of c.finish-ending.result) run)))
 
 pub returns-clause-shelf_cause : goal.returns-clause-shelf_cause
 returns-clause-shelf_cause g c =
