@@ -1,13 +1,11 @@
 -- Laws of what a job reads.
-use Rattle.std.proofs.Common.{◌≡◌, ◌≢◌, ◌⊎◌, inl, inr, ◌∙◌, ℕ, ◌+◌, ◌<◌, ◌≤◌, ◌==◌, nat_lt, Bool, true, false, List, [], length, replicate, Option, Some, None, Result, Ok, Err, refl, sym, ap, subst, rules, arith}
-use Rattle.std.specs.Prelude.{if◌then◌else◌}
+use Rattle.std.proofs.Common.{◌≡◌, inl, inr, ◌∙◌, ℕ, ◌+◌, ◌<◌, Bool, true, false, List, [], length, replicate, Option, Some, None, Result, Ok, Err, refl, sym, ap, arith}
 use Rattle.std.proofs.lemmas.List.{length-replicate}
 use Rattle.std.proofs.lemmas.Bool.{lt-ltb, eqb-true, eq-eqb}
 use Rattle.pe_io.specs.declared.shelf.ShelfCall.TheVariants.{Get}
 use Rattle.pe_io.specs.Shelf.{Contents, FailedCall, FailedAt, IsLonger, WhereTold}
 use Rattle.pe_run.specs.declared.refusal.Stage.{Stage}
 use Rattle.pe_run.specs.declared.refusal.Stage.TheVariants.{Scenario}
-use Rattle.pe_run.specs.declared.refusal.Fault.{Fault}
 use Rattle.pe_run.specs.declared.refusal.Refusal.{Refusal}
 use Rattle.pe_run.specs.declared.refusal.Refusal.TheVariants as refusal
 use Rattle.pe_run.specs.Endings.{stage_number}

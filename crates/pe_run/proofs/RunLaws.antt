@@ -1,6 +1,6 @@
 -- Laws of the run.
-use Rattle.std.proofs.Common.{◌≡◌, ◌≢◌, ◌⊎◌, ◌∙◌, ℕ, zero, suc, get_or, map, Bool, true, false, ◌==◌, List, [], ◌∷◌, ◌++◌, Option, Some, None, Result, Ok, Err, refl, sym, ap, subst, inl, inr, arith}
-use Rattle.std.specs.Result.{IsOk, IsErr, IfOk, IsOkAnd}
+use Rattle.std.proofs.Common.{◌≡◌, ◌≢◌, ◌⊎◌, ◌∙◌, ℕ, zero, suc, get_or, map, true, false, ◌==◌, List, [], ◌∷◌, Option, None, Result, Ok, Err, refl, sym, ap, subst, inl, inr, arith}
+use Rattle.std.specs.Result.{IsOk, IfOk, IsOkAnd}
 use Rattle.std.specs.Prelude.{MatchBool}
 use Rattle.std.proofs.lemmas.Bool.{ne_eqb, eqb-true, eq-eqb}
 use Rattle.pe_base.specs.Calls.Counters.{Rises}
@@ -19,7 +19,7 @@ use Rattle.pe_run.specs.declared.status.Status.TheVariants.{Done, NoJob, Refused
 use Rattle.pe_run.specs.declared.status.Interrupted.{Interrupted}
 use Rattle.pe_run.specs.declared.status.Interrupted.TheVariants.{Sink, Memory}
 use Rattle.pe_run.specs.Endings.{Ran, whole_text, ending_of, code_of, refusal_ran, is_memory}
-use Rattle.pe_run.specs.Reads.{read, MayGive, MayLack}
+use Rattle.pe_run.specs.Reads.{read, MayGive}
 use Rattle.pe_run.specs.Tasks.{Finish, in_full, at_a_halt, nowhere, finish_status, Ended, ended, Task}
 use Rattle.pe_run.specs.Run.{MayFail, Writes, Answers, CountsTraversals, run_job, IsRun, IsShelfCause, IsComplete}
 use Rattle.pe_run.specs.Stages.{Gives, Refuses, IsLast, LeadsTo, IsMade, Finishes, RunsTo}

@@ -10,7 +10,6 @@ use Rattle.pe_scene.specs.declared.fault.SceneFault.{SceneFault}
 use Rattle.pe_scene.specs.declared.fault.SceneFault.TheVariants as scene
 use Rattle.pe_run.specs.declared.refusal.Stage.{Stage}
 use Rattle.pe_run.specs.declared.refusal.Stage.TheVariants.{Scenario as ScenarioStage}
-use Rattle.pe_run.specs.declared.refusal.Fault.{Fault}
 use Rattle.pe_run.specs.declared.refusal.Fault.TheVariants.{Words, Scenario}
 use Rattle.pe_run.specs.declared.refusal.Refusal.{Refusal}
 use Rattle.pe_run.specs.declared.refusal.Refusal.TheVariants as refused

@@ -1,4 +1,4 @@
-use Rattle.std.proofs.Common.{◌≡◌, ◌∙◌, map, string_bytes, sym}
+use Rattle.std.proofs.Common.{◌∙◌, map, string_bytes, sym}
 use Rattle.pe_io.specs.Sink.{told_by}
 use Rattle.pe_run.specs.Endings.{ending_of}
 use Rattle.pe_run.specs.Tasks.{task_of, ended}
