@@ -1,2 +1,6 @@
--- which job the words name, by the meaning that `clap` gives to the words after the first one
+-- What words name, in reading order.
+
+-- the jobs' commands, and which job the words name
 pub mod Words
+-- words that are written out, and their jobs
+pub mod Examples

@@ -2,6 +2,7 @@
 #![tactic(auto)]
 
 mod job;
+mod laws;
 mod name;
 mod read;
 mod run;
@@ -9,4 +10,5 @@ mod run;
 mod tests;
 
 pub use job::{Job, WordsFault};
+pub use laws::named_jobs;
 pub use read::read_words;
