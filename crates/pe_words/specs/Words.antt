@@ -65,10 +65,10 @@ job_of (job ∷ words) = if bytes_eq job (codes "run") then run_of words else No
 -- # What is read
 
 -- what is read of the words is what they name, and NoJob where they name nothing; want of memory says nothing of them
-abbrev pub Reads : {D : Type 0} → Option D → Result D WordsFault → Type 0
-Reads named (Ok given) = named ≡ Some given
-Reads named (Err NoJob) = named ≡ None
-Reads named (Err Memory) = ⊤
+abbrev pub IsRead : {D : Type 0} → Option D → Result D WordsFault → Type 0
+IsRead named (Ok given) = named ≡ Some given
+IsRead named (Err NoJob) = named ≡ None
+IsRead named (Err Memory) = ⊤
 
 -- the fault for a command's error
 abbrev pub refusal : ErrorKind → WordsFault

@@ -1,7 +1,7 @@
 //! Names among what a command finds in the words.
 ghost use Rattle.std.specs.Prelude.{◌≡◌};
 ghost use Rattle.clap.specs.Words.{found_of, rows_of};
-ghost use Rattle.pe_words.specs.Words.{Reads, is_name, name_in, name_of};
+ghost use Rattle.pe_words.specs.Words.{IsRead, is_name, name_in, name_of};
 
 use crate::job::WordsFault;
 use clap::ArgMatches;
@@ -10,7 +10,7 @@ use std::alloc::Global;
 
 /// The name that was found for an argument which has to have one.
 pub(crate) fn name_in(alloc: Global, matches: &ArgMatches<'_>, id: &str) -> Result<Text, WordsFault>
-    ensures read { Reads (name_in id.now (rows_of (found_of matches.now))) result }
+    ensures read { IsRead (name_in id.now (rows_of (found_of matches.now))) result }
 {
     match matches.get_str(id) {
         Some(word) => name_of(alloc, word),
@@ -20,7 +20,7 @@ pub(crate) fn name_in(alloc: Global, matches: &ArgMatches<'_>, id: &str) -> Resu
 
 // A word as a name.
 fn name_of(alloc: Global, word: &str) -> Result<Text, WordsFault>
-    ensures read { Reads (name_of word.now) result }
+    ensures read { IsRead (name_of word.now) result }
 {
     if !is_name(word) {
         return Err(WordsFault::NoJob);

@@ -1,6 +1,6 @@
 //! Reading the words.
 ghost use Rattle.std.specs.Prelude.{map, string_bytes};
-ghost use Rattle.pe_words.specs.Words.{Reads, job_of};
+ghost use Rattle.pe_words.specs.Words.{IsRead, job_of};
 
 use crate::job::{Job, WordsFault};
 use crate::run::read_run;
@@ -10,7 +10,7 @@ use std::alloc::Global;
 ///
 /// The first word is the job's. The others are read by the job's own command, as `clap` reads them.
 pub fn read_words(alloc: Global, words: &[String]) -> Result<Job, WordsFault>
-    ensures read { Reads (job_of (map string_bytes words.now)) result }
+    ensures read { IsRead (job_of (map string_bytes words.now)) result }
 {
     match words {
         [] => Err(WordsFault::NoJob),

@@ -1,7 +1,7 @@
 //! The words of the job `run`.
 ghost use Rattle.std.specs.Prelude.{◌≡◌, IfOk, map, string_bytes};
 ghost use Rattle.clap.specs.Words.{app_of, found_of, rows_of};
-ghost use Rattle.pe_words.specs.Words.{Reads, run_app, run_in, run_of};
+ghost use Rattle.pe_words.specs.Words.{IsRead, run_app, run_in, run_of};
 
 use crate::job::{Job, WordsFault};
 use crate::name::name_in;
@@ -10,7 +10,7 @@ use std::alloc::{AllocError, Global};
 
 /// The job that the words after `run` name.
 pub(crate) fn read_run(alloc: Global, words: &[String]) -> Result<Job, WordsFault>
-    ensures read { Reads (run_of (map string_bytes words.now)) result }
+    ensures read { IsRead (run_of (map string_bytes words.now)) result }
 {
     let matches = command(alloc)?.try_get_matches_from(words)?;
     run_in(alloc, &matches)
@@ -30,7 +30,7 @@ fn command<'a>(alloc: Global) -> Result<Command<'a>, AllocError>
 
 // The job that the command's matches name.
 fn run_in(alloc: Global, matches: &ArgMatches<'_>) -> Result<Job, WordsFault>
-    ensures read { Reads (run_in (rows_of (found_of matches.now))) result }
+    ensures read { IsRead (run_in (rows_of (found_of matches.now))) result }
 {
     let scenario = name_in(alloc, matches, "scenario")?;
     Ok(Job::Run { scenario })
