@@ -80,30 +80,31 @@ impl From<SinkFailed> for Halt {
     }
 }
 
-// One traversal more of the grid, and its tally, as the walk by address makes it.
-fn walk_once<K: Sink, DV: Depot<Vertex<Fields>>, DC: Depot<CellRec<Fields>>>(
+/// Makes the traversals of a scenario in turn, from a grid of which nothing is known yet, and writes the tally line of each.
+/// After an error nothing is out, and what lies on the stacks is left to `clear`.
+pub fn traverse_all<K: Sink, DV: Depot<Vertex<Fields>>, DC: Depot<CellRec<Fields>>>(
     scenario: &Scenario,
-    between: Between,
     sink: &mut K,
     vertices: &mut DV,
     cells: &mut DC,
-) -> Result<(Between, Tally), WalkStop>
-    requires stands { (made : List Traversal) × (grid : AGrid) × (length made < scenario_traversals)
-        × Stands (said_of scenario.now) between (DV.holds vertices.old) (DC.holds cells.old) made grid }
-    ensures answer { (made : List Traversal) (grid : AGrid) → Stands (said_of scenario.now) between (DV.holds vertices.old) (DC.holds cells.old) made grid
-        → WalkAnswer (said_of scenario.now) grid made (told_by K.text K.writes K.faults sink.old) (told_by K.text K.writes K.faults sink.new)
-        (DV.holds vertices.new) (DC.holds cells.new) (read_by failure_of result) }
+) -> Result<(), Halt>
+    requires few { scenario.now.traversals ≤ scenario_traversals }
+    requires vertices { DV.holds vertices.old ≡ new_holdings 10 }
+    requires cells { DC.holds cells.old ≡ new_holdings 2 }
+    ensures answer { TraversalsAnswer (said_of scenario.now) (told_by K.text K.writes K.faults sink.old) (told_by K.text K.writes K.faults sink.new)
+        (DV.holds vertices.new) (DC.holds cells.new) result }
     ensures idle { (DV.holds vertices.new).out ≡ 0 }
     ensures idle_cells { (DC.holds cells.new).out ≡ 0 }
 {
-    let Between { grid, globals } = between;
-    let mut mapping = Interp::new(scenario, globals, sink);
-    let walked = traverse(grid, &scenario.setup, &mut mapping, vertices, cells);
-    let globals = mapping.globals();
-    match walked {
-        Ok((grid, tally)) => Ok((Between { grid, globals }, tally)),
-        Err(stop) => Err(stop),
+    let mut between = Between::fresh(scenario.setup.dim);
+    for _ in 0..scenario.traversals {
+        match traverse_more(scenario, between, sink, vertices, cells) {
+            Ok(next) => between = next,
+            Err(halt) => return Err(halt),
+        }
     }
+    between.close();
+    Ok(())
 }
 
 // One traversal more, with its tally line.
@@ -135,29 +136,28 @@ fn traverse_more<K: Sink, DV: Depot<Vertex<Fields>>, DC: Depot<CellRec<Fields>>>
     }
 }
 
-/// Makes the traversals of a scenario in turn, from a grid of which nothing is known yet, and writes the tally line of each.
-/// After an error nothing is out, and what lies on the stacks is left to `clear`.
-pub fn traverse_all<K: Sink, DV: Depot<Vertex<Fields>>, DC: Depot<CellRec<Fields>>>(
+// One traversal more of the grid, and its tally, as the walk by address makes it.
+fn walk_once<K: Sink, DV: Depot<Vertex<Fields>>, DC: Depot<CellRec<Fields>>>(
     scenario: &Scenario,
+    between: Between,
     sink: &mut K,
     vertices: &mut DV,
     cells: &mut DC,
-) -> Result<(), Halt>
-    requires few { scenario.now.traversals ≤ scenario_traversals }
-    requires vertices { DV.holds vertices.old ≡ new_holdings 10 }
-    requires cells { DC.holds cells.old ≡ new_holdings 2 }
-    ensures answer { TraversalsAnswer (said_of scenario.now) (told_by K.text K.writes K.faults sink.old) (told_by K.text K.writes K.faults sink.new)
-        (DV.holds vertices.new) (DC.holds cells.new) result }
+) -> Result<(Between, Tally), WalkStop>
+    requires stands { (made : List Traversal) × (grid : AGrid) × (length made < scenario_traversals)
+        × Stands (said_of scenario.now) between (DV.holds vertices.old) (DC.holds cells.old) made grid }
+    ensures answer { (made : List Traversal) (grid : AGrid) → Stands (said_of scenario.now) between (DV.holds vertices.old) (DC.holds cells.old) made grid
+        → WalkAnswer (said_of scenario.now) grid made (told_by K.text K.writes K.faults sink.old) (told_by K.text K.writes K.faults sink.new)
+        (DV.holds vertices.new) (DC.holds cells.new) (read_by failure_of result) }
     ensures idle { (DV.holds vertices.new).out ≡ 0 }
     ensures idle_cells { (DC.holds cells.new).out ≡ 0 }
 {
-    let mut between = Between::fresh(scenario.setup.dim);
-    for _ in 0..scenario.traversals {
-        match traverse_more(scenario, between, sink, vertices, cells) {
-            Ok(next) => between = next,
-            Err(halt) => return Err(halt),
-        }
+    let Between { grid, globals } = between;
+    let mut mapping = Interp::new(scenario, globals, sink);
+    let walked = traverse(grid, &scenario.setup, &mut mapping, vertices, cells);
+    let globals = mapping.globals();
+    match walked {
+        Ok((grid, tally)) => Ok((Between { grid, globals }, tally)),
+        Err(stop) => Err(stop),
     }
-    between.close();
-    Ok(())
 }
