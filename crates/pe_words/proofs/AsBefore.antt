@@ -78,6 +78,7 @@ run_of_name (c ∷ cs) is =
 
 -- the words that named a job before there were options
 pub as_before : (job name : Text) → (bytes_eq job (codes "run") && is_name name) ≡ true → job_of (job ∷ name ∷ []) ≡ Some (Run name)
+unfolding job_of
 as_before job name is =
     let parts = both (bytes_eq job (codes "run")) (is_name name) is in
     ap (λ b. if b then run_of (name ∷ []) else None) parts.0 ∙ run_of_name name parts.1

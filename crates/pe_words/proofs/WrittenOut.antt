@@ -1,10 +1,11 @@
 -- What words that are written out name, by computing.
 use Rattle.std.proofs.Common.{refl}
 use Rattle.clap.proofs.OnLiterals.{clap_on_literals}
+use Rattle.pe_words.specs.Words.{job_of}
 use Rattle.pe_words.specs.Examples.{Examples}
 
 pub examples : Examples
-unfolding clap_on_literals
+unfolding clap_on_literals job_of
 examples = record {
   scenario = refl;
   dashes_first = refl;

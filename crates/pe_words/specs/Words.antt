@@ -58,7 +58,7 @@ abbrev pub run_of : List (List ℕ) → Option Job
 run_of words = option_and_then run_in (found_by run_app words)
 
 -- the job that the words name
-abbrev pub job_of : List (List ℕ) → Option Job
+unfoldable pub job_of : List (List ℕ) → Option Job
 job_of [] = None
 job_of (job ∷ words) = if bytes_eq job (codes "run") then run_of words else None
 

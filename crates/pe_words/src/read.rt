@@ -9,6 +9,7 @@ use std::alloc::Global;
 /// The job that the words name, which are those after the program's name, or why there is none.
 ///
 /// The first word is the job's. The others are read by the job's own command, as `clap` reads them.
+#[tactic(auto, unfolding(crate::specs::Words::job_of))]
 pub fn read_words(alloc: Global, words: &[String]) -> Result<Job, WordsFault>
     ensures read { IsRead (job_of (map string_bytes words.now)) result }
 {
