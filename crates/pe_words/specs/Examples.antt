@@ -1,5 +1,5 @@
 -- Words that are written out, and the job that they name.
-use Rattle.std.specs.Prelude.{◌≡◌, List, [], ◌∷◌, Some, None, codes}
+use Rattle.std.specs.Prelude.{◌≡◌, [], ◌∷◌, Some, None, codes}
 use Rattle.pe_words.specs.declared.job.Job.TheVariants.{Run}
 use Rattle.pe_words.specs.Words.{job_of}
 
