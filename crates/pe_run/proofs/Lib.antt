@@ -1,8 +1,5 @@
 -- What the run of the program rests on.
 
--- # What is written
--- the words of a tally's line, one after another
-pub mod TallyLines
 -- # Traversals
 -- what one traversal more adds to what the depots have counted
 pub mod Counting

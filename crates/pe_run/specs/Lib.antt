@@ -1,7 +1,5 @@
 -- The run of the program, in reading order.
 
--- what the words ask for
-pub mod Words
 -- the lines and the numbers with which a run ends
 pub mod Endings
 -- what a run moves on stacks

@@ -14,7 +14,9 @@ use Rattle.pe_run.specs.declared.refusal.Fault.TheVariants.{Words, Scenario}
 use Rattle.pe_run.specs.declared.refusal.Refusal.{Refusal}
 use Rattle.pe_run.specs.Endings.{Ran, refusal_ran, last_line}
 use Rattle.pe_run.specs.Reads.{Reads, refused, ready, asks, on}
-use Rattle.pe_run.specs.Words.{job_of}
+use Rattle.pe_words.specs.declared.job.Job.{Job}
+use Rattle.pe_words.specs.declared.job.Job.TheVariants.{Run}
+use Rattle.pe_words.specs.Words.{job_of}
 
 -- how far a job came: to its end, or to a halt; no walk is ever stuck
 pub data Finish : Type 0 where
@@ -98,9 +100,9 @@ run_reads name = asks ScenarioStage name scenario_bytes run_scenario
 -- # All jobs
 
 -- words that name no job are refused
-abbrev pub task_for : Option (List ℕ) → Task
+abbrev pub task_for : Option Job → Task
 task_for None = record { reads = refused Words; names = [] }
-task_for (Some name) = record { reads = run_reads name; names = name ∷ [] }
+task_for (Some (Run name)) = record { reads = run_reads name; names = name ∷ [] }
 
 -- the job of the words
 abbrev pub task_of : List (List ℕ) → Task

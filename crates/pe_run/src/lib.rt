@@ -9,6 +9,5 @@ mod refusal;
 mod run;
 mod status;
 mod traversals;
-mod words;
 
 pub use program::peano;

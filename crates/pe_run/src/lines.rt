@@ -1,6 +1,6 @@
-//! The lines that a run writes of itself: tallies, refusals, and what halts a traversal.
+//! The last lines of a run: refusals, and what halts a traversal.
 ghost use Rattle.std.specs.Prelude.{◌≡◌, ◌+◌, ◌≤◌, [], ◌∷◌, ◌++◌, MatchBool, Err, IsOkAnd, length, decimal, codes};
-ghost use Rattle.pe_base.specs.Lines.{tally_line, way_name, fault_line, fault_at_key, fault_in_body, fault_at_event, fault_cells};
+ghost use Rattle.pe_base.specs.Lines.{fault_line, fault_at_key, fault_in_body, fault_at_event, fault_cells};
 ghost use Rattle.pe_base.specs.Calls.Told.{Tells};
 ghost use Rattle.pe_io.specs.Sink.{told_by};
 ghost use Rattle.pe_io.specs.Line.{HasRoom, HasNoFeed};
@@ -8,54 +8,9 @@ ghost use Rattle.pe_run.specs.Endings.{cause_name, stage_name, scene_line, is_sc
 
 use crate::refusal::Stage;
 use crate::status::Interrupted;
-use pe_base::{Dim, Event, Place, Sort, Tally, Way};
+use pe_base::{Dim, Event, Place, Sort};
 use pe_io::{Line, Sink, SinkFailed};
 use pe_scene::{BodyCause, SceneFault};
-
-/// Writes the line of a tally.
-pub fn write_tally<K: Sink>(tally: &Tally, sink: &mut K) -> Result<(), SinkFailed>
-    ensures told { Tells (tally_line tally.now) (told_by K.text K.writes K.faults sink.old) (told_by K.text K.writes K.faults sink.new) result }
-{
-    tally_words(tally).end(sink)
-}
-
-// The line of a tally, without its line feed.
-fn tally_words(tally: &Tally) -> Line
-    ensures { result ++ 10 ∷ [] ≡ tally_line tally.now }
-{
-    let mut line = Line::of("traversal");
-    line.number(tally.traversal);
-    line.part(way_name(tally.way));
-    add_count(&mut line, "cells", tally.cells);
-    add_count(&mut line, "in", tally.read);
-    add_count(&mut line, "out", tally.written);
-    add_count(&mut line, "created", tally.created);
-    add_count(&mut line, "destroyed", tally.destroyed);
-    add_count(&mut line, "hanging", tally.hanging);
-    line
-}
-
-// A word and a number.
-fn add_count(line: &mut Line, word: &str, n: u64)
-    requires room { HasRoom line.old (22 + length word.now) }
-    requires plain { HasNoFeed word.now }
-    ensures text { line.new ≡ line.old ++ 32 ∷ word.now ++ 32 ∷ decimal n }
-    ensures length { length line.new ≤ length line.old + 22 + length word.now }
-{
-    line.part(word);
-    line.number(n);
-}
-
-fn way_name(way: Way) -> &'static str
-    ensures name { result.now ≡ way_name way }
-    ensures short { length result.now ≤ 8 }
-    ensures plain { HasNoFeed result.now }
-{
-    match way {
-        Way::Forward => "forward",
-        Way::Inverted => "inverted",
-    }
-}
 
 /// The line of a stage for which the shelf gives nothing.
 pub fn shelf_line(stage: Stage) -> Line

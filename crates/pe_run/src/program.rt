@@ -12,10 +12,10 @@ use crate::finish::{Last, finish};
 use crate::refusal::{Fault, Refusal};
 use crate::run::run;
 use crate::status::{Interrupted, exit_status};
-use crate::words::scenario_name;
 use pe_base::Fields;
 use pe_io::{Shelf, Sink};
 use pe_stacks::{CellRec, Depot, Shown, Vertex};
+use pe_words::{Job, WordsFault, read_words};
 use std::alloc::Global;
 
 /// Runs the words of a command line, as those of `peano run <scenario>`, over a shelf and a sink, and answers
@@ -88,9 +88,10 @@ fn make<H: Shelf, K: Sink, DV: Depot<Vertex<Fields>>, DC: Depot<CellRec<Fields>>
     ensures idle { (DV.holds vertices.new).out ≡ 0 }
     ensures idle_cells { (DC.holds cells.new).out ≡ 0 }
 {
-    match scenario_name(words) {
-        Some(name) => run(alloc, name, shelf, sink, vertices, cells),
-        None => Refusal::Fault(Fault::Words).last(),
+    match read_words(alloc, words) {
+        Ok(Job::Run { scenario }) => run(alloc, scenario.as_str(), shelf, sink, vertices, cells),
+        Err(WordsFault::NoJob) => Refusal::Fault(Fault::Words).last(),
+        Err(WordsFault::Memory) => Refusal::Memory.last(),
     }
 }
 

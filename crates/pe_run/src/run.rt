@@ -4,6 +4,7 @@ ghost use Rattle.pe_base.specs.Limits.{scenario_traversals};
 ghost use Rattle.pe_io.specs.Sink.{told_by};
 ghost use Rattle.pe_stacks.specs.Holdings.{new_holdings};
 ghost use Rattle.pe_scene.specs.SaidView.{said_of};
+ghost use Rattle.pe_words.specs.declared.job.Job.TheVariants.{Run};
 ghost use Rattle.pe_run.specs.Tasks.{ended, ran, run_reads, task_for};
 ghost use Rattle.pe_run.specs.Run.{CountsTraversals};
 ghost use Rattle.pe_run.specs.Stages.{Gives, Refuses, LeadsTo, HaltsFor, IsMade};
@@ -33,7 +34,7 @@ pub fn run<H: Shelf, K: Sink, DV: Depot<Vertex<Fields>>, DC: Depot<CellRec<Field
 ) -> Result<Last, Interrupted>
     requires vertices { DV.holds vertices.old ≡ new_holdings 10 }
     requires cells { DC.holds cells.old ≡ new_holdings 2 }
-    ensures made { IsMade (task_for (Some name.now)) (H.contents shelf.old) (H.faults shelf.old) (H.faults shelf.new) (H.last_failed shelf.new)
+    ensures made { IsMade (task_for (Some (Run name.now))) (H.contents shelf.old) (H.faults shelf.old) (H.faults shelf.new) (H.last_failed shelf.new)
         (told_by K.text K.writes K.faults sink.old) (told_by K.text K.writes K.faults sink.new) (DV.holds vertices.new) (DC.holds cells.new) result }
     ensures contents { H.contents shelf.new ≡ H.contents shelf.old }
     ensures calls { H.calls shelf.new ≤ H.calls shelf.old + 1 }

@@ -14,11 +14,11 @@ ghost use Rattle.pe_run.specs.declared.traversals.Halt.TheVariants.{Line as Halt
 ghost use Rattle.pe_run.specs.Between.{Stands, WalkAnswer, TraversalAnswer};
 ghost use Rattle.pe_run.specs.Stages.{TraversalsAnswer};
 
-use crate::lines::write_tally;
 use pe_adapt::WalkStop;
 use pe_base::{Dim, Fields, Tally};
 use pe_interp::Interp;
 use pe_io::{Sink, SinkFailed};
+use pe_report::tally_line;
 use pe_scene::Scenario;
 use pe_stacks::{CellRec, Depot, Grid, Vertex};
 use pe_walk::traverse;
@@ -125,7 +125,7 @@ fn traverse_more<K: Sink, DV: Depot<Vertex<Fields>>, DC: Depot<CellRec<Fields>>>
 {
     let traversal = between.grid.finished() + 1;
     match walk_once(scenario, between, sink, vertices, cells) {
-        Ok((next, tally)) => match write_tally(&tally, sink) {
+        Ok((next, tally)) => match tally_line(sink, &tally) {
             Ok(()) => Ok(next),
             Err(_) => {
                 next.close();

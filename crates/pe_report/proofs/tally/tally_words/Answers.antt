@@ -1,7 +1,7 @@
 use Rattle.std.proofs.Common.{◌∷◌, ◌++◌, codes, decimal, ap, ◌∙◌}
 use Rattle.pe_base.specs.Lines.{way_name}
-use Rattle.pe_run.proofs.TallyLines.{line_of_steps}
-use Rattle.pe_run.proofs.lines.tally_words.Goals as goal
+use Rattle.pe_report.proofs.TallyWords.{line_of_steps}
+use Rattle.pe_report.proofs.tally.tally_words.Goals as goal
 
 pub returns : goal.returns
 returns c =
