@@ -1,5 +1,5 @@
 #!/usr/bin/env python3
-"""by_address.py SCENARIO prints what `peano run SCENARIO` prints, and ends with the same status.
+"""by_address.py WORDS .. prints what `peano run WORDS ..` prints, and ends with the same status.
 
 It follows the definitions by the plainest means: vertices and cells are found in dictionaries by level and position, first
 and last touches by counting loads. It has no stack, no stream and no face, shares nothing with the program, and is slow.
@@ -580,11 +580,19 @@ def told(at):
     return " ".join(map(str, (at[0], *at[1])))
 
 
-def run(words):
-    if len(words) != 1 or words[0] == "" or words[0].startswith("-"):
+def scenario_named(words):
+    """The one word besides the first `--`, which ends the options. There are no options, and no name begins as one does."""
+    names = list(words)
+    if "--" in names:
+        names.remove("--")
+    if len(names) != 1 or names[0] == "" or names[0].startswith("-"):
         raise Ends(2, "fault words")
+    return names[0]
+
+
+def run(words):
     try:
-        with open(words[0], "rb") as file:
+        with open(scenario_named(words), "rb") as file:
             data = file.read()
     except OSError:
         raise Ends(6, "fault shelf scenario")

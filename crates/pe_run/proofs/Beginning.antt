@@ -17,7 +17,7 @@ use Rattle.pe_stacks.specs.Sights.{fields_numbers}
 use Rattle.pe_walk.specs.Traversing.{most_rise, MayTraverse, HoldsNothing}
 use Rattle.pe_walk.proofs.Beginnings.{may_begin}
 use Rattle.pe_run.specs.declared.traversals.Between.{Between}
-use Rattle.pe_run.specs.Run.{first_grid}
+use Rattle.pe_run.specs.Tasks.{first_grid}
 use Rattle.pe_run.specs.Traffic.{HasTraffic}
 use Rattle.pe_run.specs.Between.{Stands}
 

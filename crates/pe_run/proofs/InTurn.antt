@@ -20,7 +20,7 @@ use Rattle.pe_scene.specs.Said.{Said}
 use Rattle.pe_run.specs.declared.traversals.Between.{Between}
 use Rattle.pe_run.specs.declared.traversals.Halt.{Halt}
 use Rattle.pe_run.specs.declared.traversals.Halt.TheVariants.{Walk, Line}
-use Rattle.pe_run.specs.Run.{said_setting, first_grid, said_traversals}
+use Rattle.pe_run.specs.Tasks.{said_setting, first_grid, said_traversals}
 use Rattle.pe_run.specs.Traffic.{HasTraffic}
 use Rattle.pe_run.specs.Between.{Stands, IsTraversed, Halts, FailsAtLine, StopsFor, TraversalAnswer}
 use Rattle.pe_run.specs.Stages.{behind_traversals, Reaches, AllDone, OneHalts, OneStops, TraversalsAnswer}

@@ -1,8 +1,5 @@
 -- What the run of the program rests on.
 
--- # What is written
--- the words of a tally's line, one after another
-pub mod TallyLines
 -- # Traversals
 -- what one traversal more adds to what the depots have counted
 pub mod Counting
@@ -14,12 +11,8 @@ pub mod Traversing
 pub mod Tallied
 -- traversals in turn
 pub mod InTurn
--- # The stages
--- what was asked for, by what the shelf answered
-pub mod Asking
--- how a stage ends at its last line
-pub mod Stopping
--- the last line behind traversals
-pub mod Ending
--- what the stages make up
+-- # The run
+-- what a job reads, stage after stage
+pub mod Reading
+-- the clauses of the top call, for every job
 pub mod RunLaws

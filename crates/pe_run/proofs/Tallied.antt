@@ -14,7 +14,7 @@ use Rattle.pe_base.specs.Calls.Told.{Told, Adds, FailsToTell}
 use Rattle.pe_base.proofs.Calls.Texts.{adds-then, part-then, fails-then}
 use Rattle.pe_scene.specs.Said.{Said}
 use Rattle.pe_run.specs.declared.traversals.Between.{Between}
-use Rattle.pe_run.specs.Run.{said_setting}
+use Rattle.pe_run.specs.Tasks.{said_setting}
 use Rattle.pe_run.specs.Between.{IsTraversed, FailsAtLine}
 
 module _ (said : Said) (grid : Grid) (made : List Traversal) (old mid new : Told) (vertices : Holdings (Vertex Fields)) (cells : Holdings (CellRec Fields)) (between : Between) (tally : Tally)

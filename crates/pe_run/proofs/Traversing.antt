@@ -33,7 +33,7 @@ use Rattle.pe_order.specs.Outlooks.{IsNew, outlook}
 use Rattle.pe_order.specs.Tallies.{ExactTraffic}
 use Rattle.pe_walk.specs.Traversing.{most_rise, IsAdvanced, MayTraverse, Traverses, Answers}
 use Rattle.pe_run.specs.declared.traversals.Between.{Between}
-use Rattle.pe_run.specs.Run.{said_setting}
+use Rattle.pe_run.specs.Tasks.{said_setting}
 use Rattle.pe_run.specs.Traffic.{is_swapped, HasTraffic}
 use Rattle.pe_run.specs.Between.{Stands, IsTraversed, StopsFor, WalkAnswer}
 use Rattle.pe_run.proofs.Counting.{swapped_more, counts_more}

@@ -23,7 +23,7 @@ use Rattle.pe_adapt.specs.Stops.{failure_of}
 use Rattle.pe_run.specs.declared.traversals.Between.{Between}
 use Rattle.pe_run.specs.declared.traversals.Halt.{Halt}
 use Rattle.pe_run.specs.declared.traversals.Halt.TheVariants.{Walk, Line}
-use Rattle.pe_run.specs.Run.{said_setting}
+use Rattle.pe_run.specs.Tasks.{said_setting}
 use Rattle.pe_run.specs.Traffic.{is_swapped, HasTraffic}
 
 -- After some traversals of a scenario the depots, the handle and the numbers of the whole grid hold this grid, and the depots

@@ -1,29 +1,33 @@
 -- What the stages of the run carry.
-use Rattle.std.specs.Prelude.{◌≡◌, ℕ, ◌+◌, ◌++◌, List, length, Option, Some, Result, Ok, Err}
+use Rattle.std.specs.Prelude.{◌≡◌, ℕ, ◌⊎◌, ◌+◌, ◌++◌, false, List, [], ◌∷◌, length, Option, Result, Ok, Err, IsOk, IfOk, IsOkAnd}
 use Rattle.pe_base.specs.declared.fields.Fields.{Fields}
 use Rattle.pe_base.specs.Walk.Course.{Cause, done, halts}
 use Rattle.pe_base.specs.Walk.Grids.{Grid}
 use Rattle.pe_base.specs.Walk.Traversals.{Traversal, Traversals}
-use Rattle.pe_io.specs.Shelf.{Contents, FailedCall}
-use Rattle.pe_base.specs.Calls.Counters.{Rises}
+use Rattle.pe_io.specs.declared.shelf.ShelfCall.TheVariants.{Get}
+use Rattle.pe_io.specs.Shelf.{Contents, FailedCall, FailedAt}
 use Rattle.pe_stacks.specs.declared.record.Vertex.{Vertex}
 use Rattle.pe_stacks.specs.declared.record.CellRec.{CellRec}
 use Rattle.pe_stacks.specs.Holdings.{Holdings}
 use Rattle.pe_base.specs.Calls.Told.{Told, Adds, AddsPart, FailsToTell}
 use Rattle.pe_base.specs.Calls.Follows.{Failure, halted, unwritten, wanting, unheard_of}
 use Rattle.pe_adapt.specs.Stops.{failure_of}
-use Rattle.pe_scene.specs.declared.fault.SceneFault.TheVariants.{Memory as NoMemory}
 use Rattle.pe_scene.specs.Said.{Said}
+use Rattle.pe_run.specs.declared.refusal.Stage.{Stage}
 use Rattle.pe_run.specs.declared.refusal.Refusal.{Refusal}
-use Rattle.pe_run.specs.declared.refusal.Refusal.TheVariants.{NoJob, NoShelf, Unreadable}
+use Rattle.pe_run.specs.declared.refusal.Refusal.TheVariants as refused
+use Rattle.pe_run.specs.declared.finish.Last.{Last}
 use Rattle.pe_run.specs.declared.status.Status.{Status}
+use Rattle.pe_run.specs.declared.status.Status.TheVariants.{Done}
 use Rattle.pe_run.specs.declared.status.Interrupted.{Interrupted}
 use Rattle.pe_run.specs.declared.status.Interrupted.TheVariants.{Sink, Memory}
 use Rattle.pe_run.specs.declared.traversals.Halt.{Halt}
 use Rattle.pe_run.specs.declared.traversals.Halt.TheVariants.{Walk, Line}
-use Rattle.pe_run.specs.Endings.{code_of, halt_line}
+use Rattle.pe_run.specs.Endings.{Ran, whole_text, code_of, halt_line, is_memory}
 use Rattle.pe_run.specs.Traffic.{HasTraffic}
-use Rattle.pe_run.specs.Run.{Ran, Stage, Holds, call_of, asked, said_traversals}
+use Rattle.pe_run.specs.Reads.{Reads, within, LacksAt, HoldsAt, MayGive}
+use Rattle.pe_run.specs.Tasks.{Ended, ended, Task, said_traversals}
+use Rattle.pe_run.specs.Run.{CountsTraversals}
 
 -- The traversals of a scenario: all are done, and the depots have counted them; or one halts, or was interrupted.
 pub record AllDone (said : Said) (old new : Told) (vertices : Holdings (Vertex Fields)) (cells : Holdings (CellRec Fields)) : Type 0 where
@@ -58,40 +62,72 @@ pub record Reaches (whole : Traversals) (made : List Traversal) (rest : Traversa
   pub splits : whole ≡ behind_traversals text made rest
   pub told : Adds old text now
 
--- A stage has written and answered all of this, or was interrupted when it had written a part.
+-- # What is read
+
+-- a call of the shelf gave these bytes, or none where they were longer than the limit
+pub record IsGiven (told : Option Contents) (name : List ℕ) (limit : ℕ) (given : Option (List ℕ)) : Type 0 where
+  pub bytes : List ℕ
+  pub holds : HoldsAt told name bytes
+  pub within : within limit bytes ≡ given
+
+-- or it gave nothing, and this is the refusal
+abbrev pub GivesNone : Option Contents → Stage → List ℕ → ℕ → ℕ → Option FailedCall → Refusal → Type 0
+GivesNone told stage name before after last (refused.NoShelf at) = (FailedAt Get name before after last ⊎ LacksAt told name) × (at ≡ stage)
+GivesNone told stage name before after last (refused.Fault fault) = ⊥
+GivesNone told stage name before after last refused.Memory = Unit {0}
+
+-- what a job's reading came to: this, or a refusal, unless memory ran out
+abbrev pub Gives : {X : Type 0} → Option Contents → ℕ → ℕ → Option FailedCall → Reads X → X → Type 0
+Gives told before after last reads x = MayGive told (λ name. FailedAt Get name before after last) reads (Ok x)
+
+abbrev pub Refuses : {X : Type 0} → Option Contents → ℕ → ℕ → Option FailedCall → Reads X → Refusal → Type 0
+Refuses told before after last reads refusal = is_memory refusal ≡ false → MayGive told (λ name. FailedAt Get name before after last) reads (Err refusal)
+
+-- # What is written
+
+-- the last line of a run, and its status
+pub record IsLast (ran : Ran) (last : Last) : Type 0 where
+  pub line : last.line ++ 10 ∷ [] ≡ ran.last
+  pub status : code_of last.status ≡ ran.status
+
+-- A job has written its text up to its last line, which it hands on with its status; or it was interrupted.
+abbrev pub LeadsTo : Ran → Told → Told → Result Last Interrupted → Type 0
+LeadsTo ran old new (Ok last) = Adds old ran.text new × IsLast ran last
+LeadsTo ran old new (Err Sink) = FailsToTell ran.text old new
+LeadsTo ran old new (Err Memory) = AddsPart old ran.text new
+
+-- what halts a traversal, as a last line
+abbrev pub HaltsWith : ℕ → ℕ → Failure → Result Last Interrupted → Type 0
+HaltsWith dim traversal (halted cause) result = IsOkAnd result (IsLast (record { text = []; last = halt_line dim traversal cause; status = 4 }))
+HaltsWith dim traversal unwritten result = result ≡ Err Sink
+HaltsWith dim traversal wanting result = result ≡ Err Memory
+HaltsWith dim traversal unheard_of result = Unit {0}
+
+abbrev pub HaltsFor : ℕ → Halt → Result Last Interrupted → Type 0
+HaltsFor dim (Walk traversal stop) result = HaltsWith dim traversal (failure_of stop) result
+HaltsFor dim Line result = result ≡ Err Sink
+
+-- A job was made up to its last line: this is what its reading may have given, and where a stage's call failed there is a last
+-- line.
+pub record IsMade {V C : Type 0} (task : Task) (told : Option Contents) (before after : ℕ) (last : Option FailedCall) (old new : Told) (vertices : Holdings V) (cells : Holdings C) (result : Result Last Interrupted) : Type 0 where
+  pub given : Result Ended Refusal
+  pub gave : MayGive told (λ name. FailedAt Get name before after last × IsOk result) task.reads given
+  pub leads : LeadsTo (ended given) old new result
+  pub traffic : IfOk result (λ end. end.status ≡ Done → CountsTraversals given vertices cells)
+
+-- The last line was written, and the status is answered; or what interrupted the run stays.
+abbrev pub Finishes : Result Last Interrupted → Told → Told → Result Status Interrupted → Type 0
+Finishes (Ok last) old new (Ok status) = Adds old (last.line ++ 10 ∷ []) new × (status ≡ last.status)
+Finishes (Ok last) old new (Err Sink) = FailsToTell (last.line ++ 10 ∷ []) old new
+Finishes (Ok last) old new (Err Memory) = ⊥
+Finishes (Err stop) old new result = (result ≡ Err stop) × (new ≡ old)
+
+-- A run has written and answered all of this, or was interrupted when it had written a part.
 pub record Ends (ran : Ran) (status : Status) (old new : Told) : Type 0 where
   pub status_is : code_of status ≡ ran.status
-  pub told : Adds old ran.text new
+  pub told : Adds old (whole_text ran) new
 
 abbrev pub RunsTo : Ran → Told → Told → Result Status Interrupted → Type 0
 RunsTo ran old new (Ok status) = Ends ran status old new
-RunsTo ran old new (Err Sink) = FailsToTell ran.text old new
-RunsTo ran old new (Err Memory) = AddsPart old ran.text new
-
--- The last line behind a halt: that of the cause, or none where the run was interrupted.
-abbrev pub EndsWith : ℕ → ℕ → Failure → Told → Told → Result Status Interrupted → Type 0
-EndsWith dim traversal (halted cause) old new result = RunsTo (record { text = halt_line dim traversal cause; status = 4 }) old new result
-EndsWith dim traversal unwritten old new result = (result ≡ Err Sink) × (new ≡ old)
-EndsWith dim traversal wanting old new result = (result ≡ Err Memory) × (new ≡ old)
-EndsWith dim traversal unheard_of old new result = Unit {0}
-
-abbrev pub EndsFor : ℕ → Halt → Told → Told → Result Status Interrupted → Type 0
-EndsFor dim (Walk traversal stop) old new result = EndsWith dim traversal (failure_of stop) old new result
-EndsFor dim Line old new result = (result ≡ Err Sink) × (new ≡ old)
-
--- What was asked for, as it is held: a scenario that says it, or its refusal, unless memory ran out.
-abbrev pub IsAsked : {S : Type 0} → (S → Said) → Result S Refusal → Result Said Refusal → Type 0
-IsAsked view (Ok scenario) said = said ≡ Ok (view scenario)
-IsAsked view (Err NoJob) said = said ≡ Err NoJob
-IsAsked view (Err NoShelf) said = said ≡ Err NoShelf
-IsAsked view (Err (Unreadable NoMemory)) said = Unit {0}
-IsAsked view (Err (Unreadable fault)) said = said ≡ Err (Unreadable fault)
-
--- The shelf was asked for what the job asks for: it holds this, and so does it say; a call that failed was that of this
--- stage, and nothing was given.
-pub record Asks {S : Type 0} (view : S → Said) (job : Option (List ℕ)) (told : Option Contents) (before after : ℕ) (last : Option FailedCall) (result : Result S Refusal) : Type 0 where
-  pub held : Contents
-  pub failed : Option Stage
-  pub contents : Holds told held
-  pub cause : (stage : Stage) → failed ≡ Some stage → Rises before after × (last ≡ call_of job stage) × (result ≡ Err NoShelf)
-  pub is : IsAsked view result (asked job held failed)
+RunsTo ran old new (Err Sink) = FailsToTell (whole_text ran) old new
+RunsTo ran old new (Err Memory) = AddsPart old (whole_text ran) new

@@ -1,12 +1,13 @@
 //! The top call of `peano run`: from the words of the command line to the text and the exit status.
 #![tactic(auto)]
 
-mod ask;
+mod finish;
+mod get;
 mod lines;
+mod program;
 mod refusal;
 mod run;
 mod status;
 mod traversals;
-mod words;
 
-pub use run::peano;
+pub use program::peano;

@@ -1,98 +1,64 @@
-//! The lines that a run writes of itself: tallies, refusals, and what halts a traversal.
-ghost use Rattle.std.specs.Prelude.{◌≡◌, ◌+◌, ◌≤◌, [], ◌∷◌, ◌++◌, length, decimal, codes};
-ghost use Rattle.pe_base.specs.Lines.{tally_line, way_name, fault_at_key, fault_in_body, fault_at_event, fault_cells};
+//! The last lines of a run: refusals, and what halts a traversal.
+ghost use Rattle.std.specs.Prelude.{◌≡◌, ◌+◌, ◌≤◌, [], ◌∷◌, ◌++◌, MatchBool, Err, IsOkAnd, length, decimal, codes};
+ghost use Rattle.pe_base.specs.Lines.{fault_line, fault_at_key, fault_in_body, fault_at_event, fault_cells};
 ghost use Rattle.pe_base.specs.Calls.Told.{Tells};
 ghost use Rattle.pe_io.specs.Sink.{told_by};
 ghost use Rattle.pe_io.specs.Line.{HasRoom, HasNoFeed};
-ghost use Rattle.pe_run.specs.Endings.{cause_name};
+ghost use Rattle.pe_run.specs.Endings.{cause_name, stage_name, scene_line, is_scene_memory};
 
-use pe_base::{Dim, Event, Place, Sort, Tally, Way};
+use crate::refusal::Stage;
+use crate::status::Interrupted;
+use pe_base::{Dim, Event, Place, Sort};
 use pe_io::{Line, Sink, SinkFailed};
-use pe_scene::BodyCause;
+use pe_scene::{BodyCause, SceneFault};
 
-/// Writes a line that is always the same.
-pub fn write_line<K: Sink>(line: &str, sink: &mut K) -> Result<(), SinkFailed>
-    requires short { length line.now ≤ 32 }
-    requires plain { HasNoFeed line.now }
-    ensures told { Tells (line.now ++ 10 ∷ []) (told_by K.text K.writes K.faults sink.old) (told_by K.text K.writes K.faults sink.new) result }
+/// The line of a stage for which the shelf gives nothing.
+pub fn shelf_line(stage: Stage) -> Line
+    ensures { result ++ 10 ∷ [] ≡ fault_line (codes "shelf" ∷ stage_name stage ∷ []) }
 {
-    Line::of(line).end(sink)
-}
-
-/// Writes the line of a tally.
-pub fn write_tally<K: Sink>(tally: &Tally, sink: &mut K) -> Result<(), SinkFailed>
-    ensures told { Tells (tally_line tally.now) (told_by K.text K.writes K.faults sink.old) (told_by K.text K.writes K.faults sink.new) result }
-{
-    tally_words(tally).end(sink)
-}
-
-// The line of a tally, without its line feed.
-fn tally_words(tally: &Tally) -> Line
-    ensures { result ++ 10 ∷ [] ≡ tally_line tally.now }
-{
-    let mut line = Line::of("traversal");
-    line.number(tally.traversal);
-    line.part(way_name(tally.way));
-    add_count(&mut line, "cells", tally.cells);
-    add_count(&mut line, "in", tally.read);
-    add_count(&mut line, "out", tally.written);
-    add_count(&mut line, "created", tally.created);
-    add_count(&mut line, "destroyed", tally.destroyed);
-    add_count(&mut line, "hanging", tally.hanging);
+    let mut line = Line::of("fault shelf");
+    line.part(stage.name());
     line
 }
 
-// A word and a number.
-fn add_count(line: &mut Line, word: &str, n: u64)
-    requires room { HasRoom line.old (22 + length word.now) }
-    requires plain { HasNoFeed word.now }
-    ensures text { line.new ≡ line.old ++ 32 ∷ word.now ++ 32 ∷ decimal n }
-    ensures length { length line.new ≤ length line.old + 22 + length word.now }
+/// The line of a refused scenario. Want of memory has none.
+pub fn scene_line(fault: &SceneFault) -> Result<Line, Interrupted>
+    ensures line { MatchBool (is_scene_memory fault.now) (result ≡ Err Interrupted.Memory) (IsOkAnd result (λ line. line ++ 10 ∷ [] ≡ scene_line fault.now)) }
 {
-    line.part(word);
-    line.number(n);
-}
-
-fn way_name(way: Way) -> &'static str
-    ensures name { result.now ≡ way_name way }
-    ensures short { length result.now ≤ 8 }
-    ensures plain { HasNoFeed result.now }
-{
-    match way {
-        Way::Forward => "forward",
-        Way::Inverted => "inverted",
+    match fault {
+        SceneFault::TooLong => Ok(Line::of("fault scenario too-long")),
+        SceneFault::NotToml => Ok(Line::of("fault scenario not-toml")),
+        SceneFault::UnknownKey { key } => Ok(key_fault("unknown-key", key.as_str())),
+        SceneFault::Missing { key } => Ok(key_fault("missing", key.as_str())),
+        SceneFault::Shape { key } => Ok(key_fault("shape", key.as_str())),
+        SceneFault::Range { key } => Ok(key_fault("range", key.as_str())),
+        SceneFault::Name { key } => Ok(key_fault("name", key.as_str())),
+        SceneFault::Body { event, at, cause } => Ok(body_fault(*event, *at, *cause)),
+        SceneFault::Memory => Err(Interrupted::Memory),
     }
 }
 
-/// Writes the line of a scenario that is refused for what stands at a key.
-pub fn write_key_fault<K: Sink>(cause: &str, key: &str, sink: &mut K) -> Result<(), SinkFailed>
+// The line of a scenario that is refused for what stands at a key.
+fn key_fault(cause: &str, key: &str) -> Line
     requires short { length cause.now ≤ 16 }
     requires plain { HasNoFeed cause.now }
-    ensures told { Tells (fault_at_key cause.now key.now) (told_by K.text K.writes K.faults sink.old) (told_by K.text K.writes K.faults sink.new) result }
+    ensures { result ++ 10 ∷ [] ≡ fault_at_key cause.now key.now }
 {
-    let mut line = Line::of("fault");
-    line.part("scenario");
+    let mut line = Line::of("fault scenario");
     line.part(cause);
     line.key(key);
-    line.end(sink)
+    line
 }
 
-/// Writes the line of a scenario that is refused for the body of an event.
-pub fn write_body_fault<K: Sink>(
-    event: Event,
-    offset: u64,
-    cause: BodyCause,
-    sink: &mut K,
-) -> Result<(), SinkFailed>
-    ensures told { Tells (fault_in_body event offset (cause_name cause)) (told_by K.text K.writes K.faults sink.old) (told_by K.text K.writes K.faults sink.new) result }
+// The line of a scenario that is refused for the body of an event.
+fn body_fault(event: Event, offset: u64, cause: BodyCause) -> Line
+    ensures { result ++ 10 ∷ [] ≡ fault_in_body event offset (cause_name cause) }
 {
-    let mut line = Line::of("fault");
-    line.part("scenario");
-    line.part("body");
+    let mut line = Line::of("fault scenario body");
     line.part(event.name());
     line.number(offset);
     line.part(cause_name(cause));
-    line.end(sink)
+    line
 }
 
 // Why a body is refused, in a word.
@@ -114,18 +80,11 @@ fn cause_name(cause: BodyCause) -> &'static str
     }
 }
 
-/// Writes the line of a traversal that is halted at an event, with the event's place unless it is plain.
-pub fn write_event_fault<K: Sink>(
-    cause: &str,
-    dim: Dim,
-    traversal: u64,
-    event: Event,
-    at: &Place,
-    sink: &mut K,
-) -> Result<(), SinkFailed>
+/// The line of a traversal that is halted at an event, with the event's place unless it is plain.
+pub fn event_fault(cause: &str, dim: Dim, traversal: u64, event: Event, at: &Place) -> Line
     requires short { length cause.now ≤ 16 }
     requires plain { HasNoFeed cause.now }
-    ensures told { Tells (fault_at_event cause.now dim traversal event at.now) (told_by K.text K.writes K.faults sink.old) (told_by K.text K.writes K.faults sink.new) result }
+    ensures { result ++ 10 ∷ [] ≡ fault_at_event cause.now dim traversal event at.now }
 {
     let mut line = halted(cause, traversal);
     line.part(event.name());
@@ -133,21 +92,16 @@ pub fn write_event_fault<K: Sink>(
         Sort::Plain => {}
         Sort::Vertex | Sort::Cell => line.place(dim, at),
     }
-    line.end(sink)
+    line
 }
 
-/// Writes the line of a traversal that is halted at one cell too many.
-pub fn write_cell_fault<K: Sink>(
-    dim: Dim,
-    traversal: u64,
-    at: &Place,
-    sink: &mut K,
-) -> Result<(), SinkFailed>
-    ensures told { Tells (fault_cells dim traversal at.now) (told_by K.text K.writes K.faults sink.old) (told_by K.text K.writes K.faults sink.new) result }
+/// The line of a traversal that is halted at one cell too many.
+pub fn cell_fault(dim: Dim, traversal: u64, at: &Place) -> Line
+    ensures { result ++ 10 ∷ [] ≡ fault_cells dim traversal at.now }
 {
     let mut line = halted("cells", traversal);
     line.place(dim, at);
-    line.end(sink)
+    line
 }
 
 // The first parts of the line of a traversal that is halted.

@@ -14,11 +14,11 @@ ghost use Rattle.pe_run.specs.declared.traversals.Halt.TheVariants.{Line as Halt
 ghost use Rattle.pe_run.specs.Between.{Stands, WalkAnswer, TraversalAnswer};
 ghost use Rattle.pe_run.specs.Stages.{TraversalsAnswer};
 
-use crate::lines::write_tally;
 use pe_adapt::WalkStop;
 use pe_base::{Dim, Fields, Tally};
 use pe_interp::Interp;
 use pe_io::{Sink, SinkFailed};
+use pe_report::tally_line;
 use pe_scene::Scenario;
 use pe_stacks::{CellRec, Depot, Grid, Vertex};
 use pe_walk::traverse;
@@ -80,61 +80,6 @@ impl From<SinkFailed> for Halt {
     }
 }
 
-// One traversal more of the grid, and its tally, as the walk by address makes it.
-fn walk_once<K: Sink, DV: Depot<Vertex<Fields>>, DC: Depot<CellRec<Fields>>>(
-    scenario: &Scenario,
-    between: Between,
-    sink: &mut K,
-    vertices: &mut DV,
-    cells: &mut DC,
-) -> Result<(Between, Tally), WalkStop>
-    requires stands { (made : List Traversal) × (grid : AGrid) × (length made < scenario_traversals)
-        × Stands (said_of scenario.now) between (DV.holds vertices.old) (DC.holds cells.old) made grid }
-    ensures answer { (made : List Traversal) (grid : AGrid) → Stands (said_of scenario.now) between (DV.holds vertices.old) (DC.holds cells.old) made grid
-        → WalkAnswer (said_of scenario.now) grid made (told_by K.text K.writes K.faults sink.old) (told_by K.text K.writes K.faults sink.new)
-        (DV.holds vertices.new) (DC.holds cells.new) (read_by failure_of result) }
-    ensures idle { (DV.holds vertices.new).out ≡ 0 }
-    ensures idle_cells { (DC.holds cells.new).out ≡ 0 }
-{
-    let Between { grid, globals } = between;
-    let mut mapping = Interp::new(scenario, globals, sink);
-    let walked = traverse(grid, &scenario.setup, &mut mapping, vertices, cells);
-    let globals = mapping.globals();
-    match walked {
-        Ok((grid, tally)) => Ok((Between { grid, globals }, tally)),
-        Err(stop) => Err(stop),
-    }
-}
-
-// One traversal more, with its tally line.
-fn traverse_more<K: Sink, DV: Depot<Vertex<Fields>>, DC: Depot<CellRec<Fields>>>(
-    scenario: &Scenario,
-    between: Between,
-    sink: &mut K,
-    vertices: &mut DV,
-    cells: &mut DC,
-) -> Result<Between, Halt>
-    requires stands { (made : List Traversal) × (grid : AGrid) × (length made < scenario_traversals)
-        × Stands (said_of scenario.now) between (DV.holds vertices.old) (DC.holds cells.old) made grid }
-    ensures answer { (made : List Traversal) (grid : AGrid) → Stands (said_of scenario.now) between (DV.holds vertices.old) (DC.holds cells.old) made grid
-        → TraversalAnswer (said_of scenario.now) grid made (told_by K.text K.writes K.faults sink.old) (told_by K.text K.writes K.faults sink.new)
-        (DV.holds vertices.new) (DC.holds cells.new) result }
-    ensures idle { (DV.holds vertices.new).out ≡ 0 }
-    ensures idle_cells { (DC.holds cells.new).out ≡ 0 }
-{
-    let traversal = between.grid.finished() + 1;
-    match walk_once(scenario, between, sink, vertices, cells) {
-        Ok((next, tally)) => match write_tally(&tally, sink) {
-            Ok(()) => Ok(next),
-            Err(_) => {
-                next.close();
-                Err(Halt::Line)
-            }
-        },
-        Err(stop) => Err(Halt::Walk { traversal, stop }),
-    }
-}
-
 /// Makes the traversals of a scenario in turn, from a grid of which nothing is known yet, and writes the tally line of each.
 /// After an error nothing is out, and what lies on the stacks is left to `clear`.
 pub fn traverse_all<K: Sink, DV: Depot<Vertex<Fields>>, DC: Depot<CellRec<Fields>>>(
@@ -160,4 +105,59 @@ pub fn traverse_all<K: Sink, DV: Depot<Vertex<Fields>>, DC: Depot<CellRec<Fields
     }
     between.close();
     Ok(())
+}
+
+// One traversal more, with its tally line.
+fn traverse_more<K: Sink, DV: Depot<Vertex<Fields>>, DC: Depot<CellRec<Fields>>>(
+    scenario: &Scenario,
+    between: Between,
+    sink: &mut K,
+    vertices: &mut DV,
+    cells: &mut DC,
+) -> Result<Between, Halt>
+    requires stands { (made : List Traversal) × (grid : AGrid) × (length made < scenario_traversals)
+        × Stands (said_of scenario.now) between (DV.holds vertices.old) (DC.holds cells.old) made grid }
+    ensures answer { (made : List Traversal) (grid : AGrid) → Stands (said_of scenario.now) between (DV.holds vertices.old) (DC.holds cells.old) made grid
+        → TraversalAnswer (said_of scenario.now) grid made (told_by K.text K.writes K.faults sink.old) (told_by K.text K.writes K.faults sink.new)
+        (DV.holds vertices.new) (DC.holds cells.new) result }
+    ensures idle { (DV.holds vertices.new).out ≡ 0 }
+    ensures idle_cells { (DC.holds cells.new).out ≡ 0 }
+{
+    let traversal = between.grid.finished() + 1;
+    match walk_once(scenario, between, sink, vertices, cells) {
+        Ok((next, tally)) => match tally_line(sink, &tally) {
+            Ok(()) => Ok(next),
+            Err(_) => {
+                next.close();
+                Err(Halt::Line)
+            }
+        },
+        Err(stop) => Err(Halt::Walk { traversal, stop }),
+    }
+}
+
+// One traversal more of the grid, and its tally, as the walk by address makes it.
+fn walk_once<K: Sink, DV: Depot<Vertex<Fields>>, DC: Depot<CellRec<Fields>>>(
+    scenario: &Scenario,
+    between: Between,
+    sink: &mut K,
+    vertices: &mut DV,
+    cells: &mut DC,
+) -> Result<(Between, Tally), WalkStop>
+    requires stands { (made : List Traversal) × (grid : AGrid) × (length made < scenario_traversals)
+        × Stands (said_of scenario.now) between (DV.holds vertices.old) (DC.holds cells.old) made grid }
+    ensures answer { (made : List Traversal) (grid : AGrid) → Stands (said_of scenario.now) between (DV.holds vertices.old) (DC.holds cells.old) made grid
+        → WalkAnswer (said_of scenario.now) grid made (told_by K.text K.writes K.faults sink.old) (told_by K.text K.writes K.faults sink.new)
+        (DV.holds vertices.new) (DC.holds cells.new) (read_by failure_of result) }
+    ensures idle { (DV.holds vertices.new).out ≡ 0 }
+    ensures idle_cells { (DC.holds cells.new).out ≡ 0 }
+{
+    let Between { grid, globals } = between;
+    let mut mapping = Interp::new(scenario, globals, sink);
+    let walked = traverse(grid, &scenario.setup, &mut mapping, vertices, cells);
+    let globals = mapping.globals();
+    match walked {
+        Ok((grid, tally)) => Ok((Between { grid, globals }, tally)),
+        Err(stop) => Err(stop),
+    }
 }

@@ -2,8 +2,7 @@
 ghost use Rattle.std.specs.Prelude.{◌≡◌, ◌≤◌, ◌+◌, map, drop, length, string_bytes, IfOk, IfErr, OnErr};
 ghost use Rattle.std.specs.Vec.Iter.{into_iter_items};
 ghost use Rattle.pe_io.specs.Sink.{told_by};
-ghost use Rattle.pe_run.specs.Words.{job_of};
-ghost use Rattle.pe_run.specs.Run.{names_of};
+ghost use Rattle.pe_run.specs.Tasks.{task_of};
 ghost use Rattle.peano.specs.Job.{IsJob, Refuses};
 
 use pe_base::Fields;
@@ -41,9 +40,9 @@ fn refusal_of(fault: &io::Error) -> u8
 
 /// Runs the words over two new depots.
 fn run<H: Shelf, K: Sink>(alloc: Global, words: &[String], shelf: &mut H, sink: &mut K) -> u8
-    ensures job { IsJob (job_of (map string_bytes words.now)) (H.contents shelf.old) (H.faults shelf.old) (H.faults shelf.new) (H.last_failed shelf.new)
+    ensures job { IsJob (task_of (map string_bytes words.now)) (H.contents shelf.old) (H.faults shelf.old) (H.faults shelf.new) (H.last_failed shelf.new)
         (told_by K.text K.writes K.faults sink.old) (told_by K.text K.writes K.faults sink.new) result }
-    ensures shelf_calls { H.calls shelf.new ≤ H.calls shelf.old + length (names_of (job_of (map string_bytes words.now))) }
+    ensures shelf_calls { H.calls shelf.new ≤ H.calls shelf.old + length (task_of (map string_bytes words.now)).names }
 {
     let Ok(mut vertices) = VecDepot::<Vertex<Fields>>::new(alloc, 10) else {
         return NO_MEMORY;
@@ -62,9 +61,9 @@ pub fn status_of<H: Shelf, K: Sink>(
     shelf: &mut H,
     sink: &mut K,
 ) -> u8
-    ensures job { IfOk args (λ given. IsJob (job_of (map string_bytes (drop 1 (into_iter_items given)))) (H.contents shelf.old) (H.faults shelf.old)
+    ensures job { IfOk args (λ given. IsJob (task_of (map string_bytes (drop 1 (into_iter_items given)))) (H.contents shelf.old) (H.faults shelf.old)
         (H.faults shelf.new) (H.last_failed shelf.new) (told_by K.text K.writes K.faults sink.old) (told_by K.text K.writes K.faults sink.new) result) }
-    ensures shelf_calls { IfOk args (λ given. H.calls shelf.new ≤ H.calls shelf.old + length (names_of (job_of (map string_bytes (drop 1 (into_iter_items given)))))) }
+    ensures shelf_calls { IfOk args (λ given. H.calls shelf.new ≤ H.calls shelf.old + length (task_of (map string_bytes (drop 1 (into_iter_items given)))).names) }
     ensures refused { IfErr args (λ fault. Refuses fault result) }
     ensures silent { OnErr args ((K.text sink.new ≡ K.text sink.old) × (H.calls shelf.new ≡ H.calls shelf.old)) }
 {

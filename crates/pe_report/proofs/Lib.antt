@@ -1,0 +1,4 @@
+-- What lines rest on.
+
+-- the words of a tally's line, one after another
+pub mod TallyWords
