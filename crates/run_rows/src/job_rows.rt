@@ -3,11 +3,12 @@
 ghost use Rattle.std.specs.Prelude.{◌≡◌, [], ◌∷◌, codes, Some, None, Ok, Err, ℕ, List};
 ghost use Rattle.pe_io.specs.Shelf.{Contents};
 ghost use Rattle.pe_scene.specs.declared.fault.SceneFault.TheVariants.{TooLong};
+ghost use Rattle.pe_words.specs.declared.job.Job.TheVariants.{Run};
 ghost use Rattle.pe_run.specs.declared.refusal.Stage.TheVariants.{Scenario as ScenarioStage};
 ghost use Rattle.pe_run.specs.declared.refusal.Fault.TheVariants.{Scenario};
 ghost use Rattle.pe_run.specs.declared.refusal.Refusal.TheVariants.{NoShelf, Fault};
 ghost use Rattle.pe_run.specs.Reads.{read, MayGive};
-ghost use Rattle.pe_run.specs.Tasks.{task_of};
+ghost use Rattle.pe_run.specs.Tasks.{task_for};
 ghost use Rattle.pe_run.specs.Run.{run_job};
 ghost use Rattle.run_rows.specs.Files.{two_files};
 
@@ -16,11 +17,11 @@ use pe_io::MemShelf;
 
 // What a job writes last, its status, and its names.
 fn how_jobs_end()
-    ensures no_job { run_job (task_of (codes "walk" ∷ codes "S" ∷ [])) (λ name. None) None ≡ record { text = []; last = codes "fault words\n"; status = 2 } }
-    ensures no_name { (task_of (codes "walk" ∷ codes "S" ∷ [])).names ≡ [] }
-    ensures not_held { run_job (task_of (codes "run" ∷ codes "S" ∷ [])) (λ name. None) None ≡ record { text = []; last = codes "fault shelf scenario\n"; status = 6 } }
-    ensures failed { run_job (task_of (codes "run" ∷ codes "S" ∷ [])) (λ name. Some []) (Some ScenarioStage) ≡ record { text = []; last = codes "fault shelf scenario\n"; status = 6 } }
-    ensures one_name { (task_of (codes "run" ∷ codes "S" ∷ [])).names ≡ codes "S" ∷ [] }
+    ensures no_job { run_job (task_for None) (λ name. None) None ≡ record { text = []; last = codes "fault words\n"; status = 2 } }
+    ensures no_name { (task_for None).names ≡ [] }
+    ensures not_held { run_job (task_for (Some (Run (codes "S")))) (λ name. None) None ≡ record { text = []; last = codes "fault shelf scenario\n"; status = 6 } }
+    ensures failed { run_job (task_for (Some (Run (codes "S")))) (λ name. Some []) (Some ScenarioStage) ≡ record { text = []; last = codes "fault shelf scenario\n"; status = 6 } }
+    ensures one_name { (task_for (Some (Run (codes "S")))).names ≡ codes "S" ∷ [] }
 {}
 
 // The second file is asked for only where the first one is not refused.
