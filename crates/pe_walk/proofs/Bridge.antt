@@ -69,7 +69,7 @@ module _ {Plan : Type 0} (set : Setting Plan) (streams : StreamStacks) where
       let store = store_corner set streams cell k it m in
       turned-then store (λ m. (its, m)) (stores (machine_steps set streams) cell (k + 1) (length its))
       ∙ then-alike store (λ m. stores (machine_steps set streams) cell (k + 1) (length its) (its, m)) (λ m. course_map (λ m. ([], m)) (store_all set streams cell (k + 1) its m))
-        (stores-end cell (k + 1) its)
+      (stores-end cell (k + 1) its)
       ∙ sym (then-grouped store (store_all set streams cell (k + 1) its) (λ m. at_once ([], m)))
 
   pub stores-are : (cell : Place) (k : ℕ) (its : List VertexRecord) (m : Machine)
@@ -82,9 +82,9 @@ module _ {Plan : Type 0} (set : Setting Plan) (streams : StreamStacks) where
   -- a cell's record comes, and it is entered
   enters-found : (cell : Place) (its : List VertexRecord) (m : Machine) (kind : Kind) → kind_of_cell set streams cell m ≡ kind
       → and_then {X = Own × Machine} (course_map (λ it. (record { cell = it.0; corners = its }, record m { cells = it.1 })) (pop streams.cell_input m.cells))
-        ((machine_steps set streams).enter cell)
+      ((machine_steps set streams).enter cell)
       ≡ and_then {X = List ℤ × Machine} (course_map (λ it. (it.0, record m { cells = it.1 })) (pop streams.cell_input m.cells))
-        (λ come. with_events set streams (entered set streams kind cell) (record { cell = come.0; corners = its }, come.1))
+      (λ come. with_events set streams (entered set streams kind cell) (record { cell = come.0; corners = its }, come.1))
   enters-found cell its m kind is =
       let popped = pop streams.cell_input m.cells in
       let entering : List ℤ × Machine → Course (Own × Machine) = λ come. with_events set streams (entered set streams kind cell) (record { cell = come.0; corners = its }, come.1) in
@@ -101,7 +101,7 @@ module _ {Plan : Type 0} (set : Setting Plan) (streams : StreamStacks) where
       turned-then (lend m.cells) made ((machine_steps set streams).enter cell)
       ∙ then-alike (lend m.cells) _ _ (λ cells. ap (λ kind. with_events set streams (entered set streams kind cell) (made cells)) is)
       ∙ sym (turned-then (lend m.cells) (λ cells. ([], record m { cells = cells }))
-        (λ come. course_map (λ it. (it.0, record come.1 { family = it.1 })) (enter_touch set Born come.0 cell its come.1.family)))
+      (λ come. course_map (λ it. (it.0, record come.1 { family = it.1 })) (enter_touch set Born come.0 cell its come.1.family)))
 
   enters-as : (cell : Place) (its : List VertexRecord) (m : Machine) (kind : Kind) → kind_of_cell set streams cell m ≡ kind
       → and_then (record_comes set streams kind its m) ((machine_steps set streams).enter cell)
@@ -119,9 +119,9 @@ module _ {Plan : Type 0} (set : Setting Plan) (streams : StreamStacks) where
       let leave = leave_touch set kind cell it.0 it.1.family in
       turned-then leave (λ after. (after.0, record it.1 { family = after.1 })) ((machine_steps set streams).goes cell)
       ∙ then-alike-done leave _ _ (λ after is.
-        let kept = (core_keeps set lawful).leaves kind cell it.0 it.1.family after is in
-        ap (λ kind. course_map (λ m. (after.0.corners, m)) (cell_goes set streams kind after.0.cell (record it.1 { family = after.1 })))
-        (kind_among-kept it.1.family.parents after.1.parents (ages-alike (set.rules.greatest set.plan) (cell.level - 1) it.1.family.parents after.1.parents kept.1) set.traversal cell))
+      let kept = (core_keeps set lawful).leaves kind cell it.0 it.1.family after is in
+      ap (λ kind. course_map (λ m. (after.0.corners, m)) (cell_goes set streams kind after.0.cell (record it.1 { family = after.1 })))
+      (kind_among-kept it.1.family.parents after.1.parents (ages-alike (set.rules.greatest set.plan) (cell.level - 1) it.1.family.parents after.1.parents kept.1) set.traversal cell))
 
   -- the children of a cell are walked, where each is walked so
   in_turn-are : (walks walks' : Place → Machine → Course Machine) → ((cell : Place) (m : Machine) → walks cell m ≡ walks' cell m) → (cells : List Place) (m : Machine)
@@ -174,9 +174,9 @@ module _ {Plan : Type 0} (set : Setting Plan) (streams : StreamStacks) where
         let steps = machine_steps set streams in
         then-grouped (steps.enter cell it) (λ it. and_then (walks_below steps walks cell it) (steps.leave cell)) ends_as
         ∙ then-alike (steps.enter cell it) (λ it. and_then (and_then (walks_below steps walks cell it) (steps.leave cell)) ends_as) after (λ it.
-          then-grouped (walks_below steps walks cell it) (steps.leave cell) ends_as
-          ∙ ap (λ below. and_then below (λ it. and_then (steps.leave cell it) ends_as)) (if_on-is same it (kind_below it.0.corners))
-          ∙ then-alike (below (kind_below it.0.corners) it) (λ it. and_then (steps.leave cell it) ends_as) (λ it. and_then (leave_cell set streams cell it) storing) leaving-is)
+        then-grouped (walks_below steps walks cell it) (steps.leave cell) ends_as
+        ∙ ap (λ below. and_then below (λ it. and_then (steps.leave cell it) ends_as)) (if_on-is same it (kind_below it.0.corners))
+        ∙ then-alike (below (kind_below it.0.corners) it) (λ it. and_then (steps.leave cell it) ends_as) (λ it. and_then (leave_cell set streams cell it) storing) leaving-is)
 
     -- from the moment on in which its corners are loaded
     abbrev visits_loaded : Loaded → Course Loaded
@@ -194,8 +194,8 @@ module _ {Plan : Type 0} (set : Setting Plan) (streams : StreamStacks) where
         let close = λ (it : Loaded). at_once it.1 in
         then-grouped (steps.comes cell it) rest close
         ∙ then-alike (steps.comes cell it) (λ it. and_then (rest it) close) (λ it. and_then (steps.enter cell it) after) (λ it.
-          then-grouped (visits_open steps walks cell it) (λ it. and_then (steps.goes cell it) (λ it. stores steps cell 0 (length it.0) it)) close
-          ∙ visiting-is same it)
+        then-grouped (visits_open steps walks cell it) (λ it. and_then (steps.goes cell it) (λ it. stores steps cell 0 (length it.0) it)) close
+        ∙ visiting-is same it)
         ∙ sym (then-grouped (steps.comes cell it) (steps.enter cell) after)
         ∙ ap (λ first. and_then first after) (enters-as cell it.0 it.1 (kind_of_cell set streams cell it.1) refl)
 
